@@ -169,7 +169,7 @@ def words_of(top, path, line):
 
 def highlighting(top):
     """Each keyword, sign, instruction and operation of the tables is coloured by both files."""
-    tables, assembly = "crates/nv_text/specs/Tables.antt", "crates/asm_parts/specs/Words.antt"
+    tables, assembly = "crates/nv_text/specs/Tables.antt", "crates/uc_asm/specs/Words.antt"
     words = words_of(top, tables, "keywords =")
     words += words_of(top, assembly, "kind_name|binary_name|unary_words|condition_name|memory_name")
     signs = [it for it in words_of(top, tables, "signs =") if not re.fullmatch(r"[][(){},;.:]", it)]
@@ -203,7 +203,7 @@ def as_made(top):
 def pages_as_made(top):
     """The pages of nova_explain are those of docs/FAULTS.md."""
     made = pages.files(top).items()
-    return [f"{name} is to be written again by tests/pages.py" for name, text in made if read(top, f"crates/fault_pages/src/{name}") != text]
+    return [f"{name} is to be written again by tests/pages.py" for name, text in made if read(top, f"crates/explain_pages/src/{name}") != text]
 
 
 def believed_as_made(top):

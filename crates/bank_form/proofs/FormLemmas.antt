@@ -3,8 +3,8 @@ use Rattle.std.proofs.Common.{◌≡◌, ℕ, suc, Bool, true, false, not, cond,
 use Rattle.std.specs.List.{filter}
 use Rattle.std.proofs.lemmas.Bool.{false≢true}
 use Rattle.nv_base.specs.Sets.{is_in}
-use Rattle.slot_placement.specs.Uses.{Use}
-use Rattle.place_checks.proofs.Seen.{same-order}
+use Rattle.placement.specs.Uses.{Use}
+use Rattle.placement_checks.proofs.Seen.{same-order}
 use Rattle.zo_model.specs.Contents.{Contents, RowContents}
 use Rattle.bank_form.specs.declared.column.Column.{Column}
 use Rattle.bank_form.specs.Rows.{Line}

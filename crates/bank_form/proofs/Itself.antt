@@ -1,7 +1,7 @@
 -- A column is the same as itself.
 use Rattle.std.proofs.Common.{◌≡◌, true, ◌&&◌, nat_eq, refl}
 use Rattle.std.proofs.lemmas.Bool.{and_from}
-use Rattle.held_values.proofs.Scoped.{in-itself}
+use Rattle.ssu_liveness.proofs.Scoped.{in-itself}
 use Rattle.bank_form.specs.declared.column.Bank.{Bank}
 use Rattle.bank_form.specs.declared.column.Bank.TheVariants.{A, B, M, T, L, A15, W}
 use Rattle.bank_form.specs.declared.column.Column.{Column}

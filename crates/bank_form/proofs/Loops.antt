@@ -55,7 +55,7 @@ map-itself (x ∷ xs) = ap (λ ys. x ∷ ys) (map-itself xs)
 pub beginnings-filter : (m : Mem) (n : ℕ) (xs : List ℕ) → flat_map (beginning m n) xs ≡ filter (may_begin m n) xs
 beginnings-filter m n xs = flat-filter (may_begin m n) (λ x. x) xs ∙ map-itself (filter (may_begin m n) xs)
 
--- one list behind another
+-- one list after another
 pub spend : {X : Type 0} (out out' x' x rest goal : List X) → out' ≡ out ++ x' → x' ≡ x → out ++ (x ++ rest) ≡ goal → out' ++ rest ≡ goal
 spend out out' x' x rest goal e h g = ap (λ o. o ++ rest) (e ∙ ap (λ y. out ++ y) h) ∙ append_assoc out x rest ∙ g
 
@@ -92,7 +92,7 @@ map-all f xs i out goal l h = sym (append-nil out) ∙ sym (at_drop_all (λ ys. 
 same-contents : (a b : RowContents) → a.terms ≡ b.terms → a.least ≡ b.least → a ≡ b
 same-contents a b t l = ap (λ ts. record { terms = ts; least = a.least }) t ∙ ap (λ z. record { terms = b.terms; least = z }) l
 
--- one row was put behind the others
+-- one row was put after the others
 pub pushed : (number : Numbers) (rows rows' : List Row) (r : Row) (l : Line) → rows' ≡ rows ++ r ∷ [] → r.terms.items ≡ terms_of number l.terms → r.least ≡ l.least → Adds number rows rows' (l ∷ [])
 pushed number rows rows' r l p t e =
     ap (map row_contents) p ∙ map-append row_contents rows (r ∷ []) ∙ ap (λ z. map row_contents rows ++ z ∷ []) (same-contents (row_contents r) (row_of number l) t e)

@@ -1,4 +1,4 @@
--- Rows over the values that are held at a point don't depend on their order.
+-- Rows over the live values at a point don't depend on their order.
 use Rattle.std.proofs.Common.{◌≡◌, ℕ, suc, true, false, not, ◌||◌, nat_eq, ◌⊎◌, inl, inr, ⊎_elim, List, [], ◌∷◌, ◌++◌, map, length, length-append, refl, sym, ap, ◌∙◌, arith, ℤ, pos, neg_ℤ}
 use Rattle.std.specs.List.{flat_map, AllZip}
 use Rattle.std.proofs.lemmas.Grind.{flat_map-append}
@@ -7,14 +7,14 @@ use Rattle.std.proofs.lemmas.List.{map-append}
 use Rattle.nv_base.specs.Sets.{is_in, all_different, Within}
 use Rattle.nv_base.proofs.Sets.{same-number}
 use Rattle.ssu_ir.specs.Points.{Point}
-use Rattle.ssu_ir.proofs.Held.{in-left, in-right}
-use Rattle.held_values.specs.Held.{IsRow}
-use Rattle.held_values.proofs.Scoped.{in-itself, in-either}
+use Rattle.ssu_ir.proofs.Liveness.{in-left, in-right}
+use Rattle.ssu_liveness.specs.LiveRows.{IsRow}
+use Rattle.ssu_liveness.proofs.Scoped.{in-itself, in-either}
 use Rattle.bank_form.specs.declared.column.Column.{Column}
 use Rattle.bank_form.specs.declared.column.Bank.{Bank}
 use Rattle.bank_form.specs.declared.column.Bank.TheVariants.{A, B, M}
 use Rattle.bank_form.specs.Columns.{each_point}
-use Rattle.bank_form.specs.Rows.{at_most, home, held_in, room_lines}
+use Rattle.bank_form.specs.Rows.{at_most, home, live_in, room_lines}
 use Rattle.bank_form.specs.Program.{Numbers, Terms, add_named, row_of}
 use Rattle.bank_form.specs.inner.Adds.{add_each}
 use Rattle.bank_form.proofs.RowTerms.{named-swap, terms-alone}
@@ -77,7 +77,7 @@ ordered number a g (x ∷ xs) ys ts d w n =
     ∙ sym (each-append number a (flat_map g f.front) (g x ++ flat_map g f.back) ts)
     ∙ ap (λ cs. add_each number a cs ts) (sym (flat_map-append g f.front (x ∷ f.back)) ∙ ap (flat_map g) (sym f.whole))
 
--- ---- rows of values that are held
+-- ---- rows of live values
 
 -- at most n of some columns of these values, and some more
 pub row-ordered : (number : Numbers) (n : ℕ) (g : ℕ → List Column) (more : List Column) (row : List ℕ) (q : Point) → IsRow row q
@@ -95,17 +95,17 @@ alone-ordered number n g row q r =
     let same = terms-alone number a (flat_map g row) ∙ ordered number a g row q.before [] r.once (λ x e. sym (r.members x) ∙ e) (sym r.count) ∙ sym (terms-alone number a (flat_map g q.before)) in
     ap (λ ts. record { terms = ts; least = neg_ℤ (pos n) }) same
 
-home-row : (number : Numbers) (n : ℕ) (h : Bank) (row : List ℕ) (q : Point) → IsRow row q → row_of number (at_most n (held_in row h)) ≡ row_of number (at_most n (held_in q.before h))
+home-row : (number : Numbers) (n : ℕ) (h : Bank) (row : List ℕ) (q : Point) → IsRow row q → row_of number (at_most n (live_in row h)) ≡ row_of number (at_most n (live_in q.before h))
 home-row number n h row q r =
     let a = neg_ℤ (pos 1) in
-    let same = terms-alone number a (held_in row h) ∙ ordered number a (λ x. home x h) row q.before [] r.once (λ x e. sym (r.members x) ∙ e) (sym r.count) ∙ sym (terms-alone number a (held_in q.before h)) in
+    let same = terms-alone number a (live_in row h) ∙ ordered number a (λ x. home x h) row q.before [] r.once (λ x e. sym (r.members x) ∙ e) (sym r.count) ∙ sym (terms-alone number a (live_in q.before h)) in
     ap (λ ts. record { terms = ts; least = neg_ℤ (pos n) }) same
 
 rooms : (number : Numbers) (slots : ℕ) (row : List ℕ) (q : Point) → IsRow row q → map (row_of number) (room_lines slots row) ≡ map (row_of number) (room_lines slots q.before)
 rooms number slots row q h =
-    ap (λ z. z ∷ row_of number (at_most 15 (held_in row B)) ∷ row_of number (at_most slots (held_in row M)) ∷ []) (home-row number 15 A row q h)
-    ∙ ap (λ z. row_of number (at_most 15 (held_in q.before A)) ∷ z ∷ row_of number (at_most slots (held_in row M)) ∷ []) (home-row number 15 B row q h)
-    ∙ ap (λ z. row_of number (at_most 15 (held_in q.before A)) ∷ row_of number (at_most 15 (held_in q.before B)) ∷ z ∷ []) (home-row number slots M row q h)
+    ap (λ z. z ∷ row_of number (at_most 15 (live_in row B)) ∷ row_of number (at_most slots (live_in row M)) ∷ []) (home-row number 15 A row q h)
+    ∙ ap (λ z. row_of number (at_most 15 (live_in q.before A)) ∷ z ∷ row_of number (at_most slots (live_in row M)) ∷ []) (home-row number 15 B row q h)
+    ∙ ap (λ z. row_of number (at_most 15 (live_in q.before A)) ∷ row_of number (at_most 15 (live_in q.before B)) ∷ z ∷ []) (home-row number slots M row q h)
 
 pub all-rooms : (number : Numbers) (slots k : ℕ) (rows : List (List ℕ)) (ps : List Point) → AllZip IsRow rows ps
     → map (row_of number) (flat_map (room_lines slots) rows) ≡ map (row_of number) (each_point (λ k q. room_lines slots q.before) k ps)

@@ -6,7 +6,7 @@ use Rattle.std.specs.List.{insert}
 use Rattle.bank_form.specs.declared.column.Column.{Column}
 use Rattle.bank_form.specs.Program.{Numbers, Terms, add_term, add_named, terms_of}
 use Rattle.bank_form.specs.inner.Adds.{Rising, add_each}
-use Rattle.held_values.proofs.Scoped.{in-itself}
+use Rattle.ssu_liveness.proofs.Scoped.{in-itself}
 
 -- ---- choices that are known
 

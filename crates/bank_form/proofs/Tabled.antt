@@ -3,31 +3,31 @@ use Rattle.std.proofs.Common.{◌≡◌, ℕ, suc, ◌+◌, ◌<◌, ◌≤◌, 
 use Rattle.std.specs.List.{flat_map}
 use Rattle.std.proofs.lemmas.List.{at_drop_more, at_drop_all, append-nil, length-map}
 use Rattle.ssu_ir.specs.Tree.{Label}
-use Rattle.ssu_ir.specs.Points.{Names, Place, Point, points}
-use Rattle.slot_placement.specs.Uses as pure
-use Rattle.slot_placement.specs.Uses.{Role, Argument, Ending, roles, numbered, values_from, uses_from, accesses_from, values, uses, accesses, uses_of, uses_at, place_values, place_roles, place_accesses, reads_at, writes_at}
-use Rattle.slot_placement.specs.inner.Parts.{gather, place_names}
-use Rattle.slot_placement.proofs.Named.{IsNamed}
-use Rattle.slot_placement.proofs.Sound.{Each}
-use Rattle.bank_form.specs.Columns.{each_point, sort_in, place_words}
+use Rattle.ssu_ir.specs.Points.{Names, PointKind, Point, points}
+use Rattle.placement.specs.Uses as pure
+use Rattle.placement.specs.Uses.{Role, Argument, Ending, roles, numbered, values_from, uses_from, accesses_from, values, uses, accesses, uses_of, uses_at, place_values, place_roles, place_accesses, reads_at, writes_at}
+use Rattle.placement.specs.inner.Parts.{gather, place_names}
+use Rattle.placement.proofs.Named.{IsNamed}
+use Rattle.placement.proofs.Sound.{Each}
+use Rattle.bank_form.specs.Columns.{each_point, origin_in, place_words}
 use Rattle.bank_form.specs.Rows.{two_operands}
-use Rattle.bank_form.specs.declared.form.Sort.{Sort}
+use Rattle.bank_form.specs.declared.form.Origin.{Origin}
 use Rattle.bank_form.specs.inner.Form as form
-use Rattle.bank_form.specs.inner.Form.{Part, part_of, part_at, parts_at, part_values, part_uses, part_accesses, sort_view, sort_found, sort_noted, known_sort, used_by, use_of}
+use Rattle.bank_form.specs.inner.Form.{Part, part_of, part_at, parts_at, part_values, part_uses, part_accesses, origin_view, origin_found, origin_noted, known_sort, used_by, use_of}
 use Rattle.bank_form.proofs.Loops.{each-parts, flat-filter, map-itself}
 
 -- ---- numbered pieces
 
-pub numbered-more : (k : ℕ) (sort : ℕ → pure.Sort) (i : ℕ) (xs : List ℕ) (d : ℕ) (out out' goal : List pure.Value) → i < length xs → out' ≡ out ++ record { point = k; var = get_or xs i d; sort = sort i } ∷ []
-    → out ++ numbered k sort i (drop i xs) ≡ goal → out' ++ numbered k sort (i + 1) (drop (i + 1) xs) ≡ goal
-numbered-more k sort i xs d out out' goal l e h =
+pub numbered-more : (k : ℕ) (origin : ℕ → pure.ValueOrigin) (i : ℕ) (xs : List ℕ) (d : ℕ) (out out' goal : List pure.Value) → i < length xs → out' ≡ out ++ record { point = k; var = get_or xs i d; origin = origin i } ∷ []
+    → out ++ numbered k origin i (drop i xs) ≡ goal → out' ++ numbered k origin (i + 1) (drop (i + 1) xs) ≡ goal
+numbered-more k origin i xs d out out' goal l e h =
     let n : i + 1 ≡ suc i = omega arith in
-    ap (λ m. out' ++ numbered k sort m (drop (i + 1) xs)) n ∙ ap (λ o. o ++ numbered k sort (suc i) (drop (i + 1) xs)) e
-    ∙ append_assoc out (record { point = k; var = get_or xs i d; sort = sort i } ∷ []) (numbered k sort (suc i) (drop (i + 1) xs))
-    ∙ sym (at_drop_more (λ ys. out ++ numbered k sort i ys) xs i d l) ∙ h
+    ap (λ m. out' ++ numbered k origin m (drop (i + 1) xs)) n ∙ ap (λ o. o ++ numbered k origin (suc i) (drop (i + 1) xs)) e
+    ∙ append_assoc out (record { point = k; var = get_or xs i d; origin = origin i } ∷ []) (numbered k origin (suc i) (drop (i + 1) xs))
+    ∙ sym (at_drop_more (λ ys. out ++ numbered k origin i ys) xs i d l) ∙ h
 
-pub numbered-all : (k : ℕ) (sort : ℕ → pure.Sort) (i : ℕ) (xs : List ℕ) (out goal : List pure.Value) → length xs ≤ i → out ++ numbered k sort i (drop i xs) ≡ goal → out ≡ goal
-numbered-all k sort i xs out goal l h = sym (append-nil out) ∙ sym (at_drop_all (λ ys. out ++ numbered k sort i ys) xs i l) ∙ h
+pub numbered-all : (k : ℕ) (origin : ℕ → pure.ValueOrigin) (i : ℕ) (xs : List ℕ) (out goal : List pure.Value) → length xs ≤ i → out ++ numbered k origin i (drop i xs) ≡ goal → out ≡ goal
+numbered-all k origin i xs out goal l h = sym (append-nil out) ∙ sym (at_drop_all (λ ys. out ++ numbered k origin i ys) xs i l) ∙ h
 
 pub uses-more : (of : Names) (k o : ℕ) (role : ℕ → Role) (i : ℕ) (xs : List ℕ) (d : ℕ) (out out' goal : List pure.Use) → i < length xs → out' ≡ out ++ use_of of k o (get_or xs i d) (role i)
     → out ++ form.uses_from of k o role i (drop i xs) ≡ goal → out' ++ form.uses_from of k (o + 1) role (i + 1) (drop (i + 1) xs) ≡ goal
@@ -46,7 +46,7 @@ pub uses-run : (of : Names) (k o : ℕ) (role : ℕ → Role) (i : ℕ) (xs : Li
 uses-run of k o role i [] = refl
 uses-run of k o role i (x ∷ xs) = ap (λ us. record { point = k; operand = o; value = of x; role = role i } ∷ us) (uses-run of k (suc o) role (suc i) xs)
 
-pub gather-more : {X V : Type 0} (f : ℕ → Place → List X) (view : V → Place) (xs : List V) (i : ℕ) (d : V) (out out' goal : List X) → i < length xs → out' ≡ out ++ f i (view (get_or xs i d))
+pub gather-more : {X V : Type 0} (f : ℕ → PointKind → List X) (view : V → PointKind) (xs : List V) (i : ℕ) (d : V) (out out' goal : List X) → i < length xs → out' ≡ out ++ f i (view (get_or xs i d))
     → out ++ gather f i (map view (drop i xs)) ≡ goal → out' ++ gather f (i + 1) (map view (drop (i + 1) xs)) ≡ goal
 gather-more f view xs i d out out' goal l e h =
     let n : i + 1 ≡ suc i = omega arith in
@@ -54,7 +54,7 @@ gather-more f view xs i d out out' goal l e h =
     ∙ append_assoc out (f i (view (get_or xs i d))) (gather f (suc i) (map view (drop (i + 1) xs)))
     ∙ sym (at_drop_more (λ ys. out ++ gather f i (map view ys)) xs i d l) ∙ h
 
-pub gather-all : {X V : Type 0} (f : ℕ → Place → List X) (view : V → Place) (xs : List V) (i : ℕ) (out goal : List X) → length xs ≤ i → out ++ gather f i (map view (drop i xs)) ≡ goal → out ≡ goal
+pub gather-all : {X V : Type 0} (f : ℕ → PointKind → List X) (view : V → PointKind) (xs : List V) (i : ℕ) (out goal : List X) → length xs ≤ i → out ++ gather f i (map view (drop i xs)) ≡ goal → out ≡ goal
 gather-all f view xs i out goal l h = sym (append-nil out) ∙ sym (at_drop_all (λ ys. out ++ gather f i (map view ys)) xs i l) ∙ h
 
 -- ---- no two operands
@@ -119,30 +119,30 @@ accesses-parts labels = each-parts part_accesses (λ k q. place_accesses k q.pla
 
 -- ---- by variable
 
-abbrev pub sort_then : Option pure.Sort → pure.Sort → pure.Sort
+abbrev pub sort_then : Option pure.ValueOrigin → pure.ValueOrigin → pure.ValueOrigin
 sort_then (Some s) r = s
 sort_then None r = r
 
-sort-step : (o : Option pure.Sort) (v : pure.Value) (x : ℕ) (r : pure.Sort) → sort_then (sort_noted o v x) r ≡ sort_then o (if nat_eq v.var x then v.sort else r)
-sort-step (Some s) v x r = refl
-sort-step None v x r = pick (nat_eq v.var x)
+origin-step : (o : Option pure.ValueOrigin) (v : pure.Value) (x : ℕ) (r : pure.ValueOrigin) → sort_then (origin_noted o v x) r ≡ sort_then o (if nat_eq v.var x then v.origin else r)
+origin-step (Some s) v x r = refl
+origin-step None v x r = pick (nat_eq v.var x)
   where
-    pick : (b : Bool) → sort_then (if b then Some v.sort else None) r ≡ (if b then v.sort else r)
+    pick : (b : Bool) → sort_then (if b then Some v.origin else None) r ≡ (if b then v.origin else r)
     pick true = refl
     pick false = refl
 
-pub sorts-more : {V : Type 0} (view : V → pure.Value) (xs : List V) (i : ℕ) (d : V) (x : ℕ) (o o' : Option pure.Sort) (goal : pure.Sort) → i < length xs → o' ≡ sort_noted o (view (get_or xs i d)) x
-    → sort_then o (sort_in (map view (drop i xs)) x) ≡ goal → sort_then o' (sort_in (map view (drop (i + 1) xs)) x) ≡ goal
-sorts-more view xs i d x o o' goal l e h =
-    ap (λ p. sort_then p (sort_in (map view (drop (i + 1) xs)) x)) e ∙ sort-step o (view (get_or xs i d)) x (sort_in (map view (drop (i + 1) xs)) x)
-    ∙ sym (at_drop_more (λ ys. sort_then o (sort_in (map view ys) x)) xs i d l) ∙ h
+pub origins-more : {V : Type 0} (view : V → pure.Value) (xs : List V) (i : ℕ) (d : V) (x : ℕ) (o o' : Option pure.ValueOrigin) (goal : pure.ValueOrigin) → i < length xs → o' ≡ origin_noted o (view (get_or xs i d)) x
+    → sort_then o (origin_in (map view (drop i xs)) x) ≡ goal → sort_then o' (origin_in (map view (drop (i + 1) xs)) x) ≡ goal
+origins-more view xs i d x o o' goal l e h =
+    ap (λ p. sort_then p (origin_in (map view (drop (i + 1) xs)) x)) e ∙ origin-step o (view (get_or xs i d)) x (origin_in (map view (drop (i + 1) xs)) x)
+    ∙ sym (at_drop_more (λ ys. sort_then o (origin_in (map view ys) x)) xs i d l) ∙ h
 
-known-then : (o : Option Sort) → known_sort o ≡ sort_then (sort_found o) pure.Result
+known-then : (o : Option Origin) → known_sort o ≡ sort_then (origin_found o) pure.Result
 known-then (Some s) = refl
 known-then None = refl
 
-pub sorts-all : {V : Type 0} (view : V → pure.Value) (xs : List V) (i : ℕ) (x : ℕ) (o : Option Sort) (goal : pure.Sort) → length xs ≤ i → sort_then (sort_found o) (sort_in (map view (drop i xs)) x) ≡ goal → known_sort o ≡ goal
-sorts-all view xs i x o goal l h = known-then o ∙ sym (at_drop_all (λ ys. sort_then (sort_found o) (sort_in (map view ys) x)) xs i l) ∙ h
+pub origins-all : {V : Type 0} (view : V → pure.Value) (xs : List V) (i : ℕ) (x : ℕ) (o : Option Origin) (goal : pure.ValueOrigin) → length xs ≤ i → sort_then (origin_found o) (origin_in (map view (drop i xs)) x) ≡ goal → known_sort o ≡ goal
+origins-all view xs i x o goal l h = known-then o ∙ sym (at_drop_all (λ ys. sort_then (origin_found o) (origin_in (map view ys) x)) xs i l) ∙ h
 
 pub users-found : (labels : List Label) (x : ℕ) → flat_map (used_by x) (uses labels) ≡ uses_of labels x
 users-found labels x = flat-filter (λ (u : pure.Use). nat_eq u.value x) (λ u. u) (uses labels) ∙ map-itself (uses_of labels x)

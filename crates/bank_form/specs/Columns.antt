@@ -5,9 +5,9 @@ use Rattle.std.specs.List.{flat_map, list_any}
 use Rattle.nv_base.specs.declared.term.Mem.{Mem}
 use Rattle.nv_base.specs.declared.term.Mem.TheVariants.{Sram, Sdram, Scratch}
 use Rattle.ssu_ir.specs.Tree.{Step, Lit, Una, Bin, Clone, Read, Write, Label, Does, Forks, Ends}
-use Rattle.ssu_ir.specs.Points.{Place, Entry, At, Point, points}
-use Rattle.slot_placement.specs.Uses.{Access, accesses, Sort, Parameter, Result, Fetched, Value, values, place_values, Role, Operand, Address, Written, Argument, Ending, Use, uses, uses_at, place_roles, is_used}
-use Rattle.slot_placement.specs.Fits.{is_result}
+use Rattle.ssu_ir.specs.Points.{PointKind, Entry, At, Point, points}
+use Rattle.placement.specs.Uses.{Access, accesses, ValueOrigin, Parameter, Result, Fetched, Value, values, place_values, Role, Operand, Address, Written, Argument, Ending, Use, uses, uses_at, place_roles, is_used}
+use Rattle.placement.specs.Fits.{is_result}
 use Rattle.bank_form.specs.declared.column.Bank.{Bank}
 use Rattle.bank_form.specs.declared.column.Bank.TheVariants.{A, B, M, T, L, A15, W}
 use Rattle.bank_form.specs.declared.column.Column.{Column}
@@ -22,14 +22,14 @@ each_point f k (q ∷ qs) = f k q ++ each_point f (suc k) qs
 -- ---- what columns there are depends on how a value comes, and on where the run of an access may begin
 
 -- how the value of a variable comes; no other variable is ever asked for
-abbrev pub sort_in : List Value → ℕ → Sort
-sort_in [] x = Result
-sort_in (v ∷ vs) x = if nat_eq v.var x then v.sort else sort_in vs x
+abbrev pub origin_in : List Value → ℕ → ValueOrigin
+origin_in [] x = Result
+origin_in (v ∷ vs) x = if nat_eq v.var x then v.origin else origin_in vs x
 
-abbrev pub sort_of : List Label → ℕ → Sort
-sort_of labels x = sort_in (values labels) x
+abbrev pub origin_of : List Label → ℕ → ValueOrigin
+origin_of labels x = origin_in (values labels) x
 
-abbrev pub is_fetched : Sort → Bool
+abbrev pub is_fetched : ValueOrigin → Bool
 is_fetched (Parameter l i) = false
 is_fetched Result = false
 is_fetched (Fetched m i) = true
@@ -47,7 +47,7 @@ step_words (Clone xs y) = 0
 step_words (Read m xs y) = length xs
 step_words (Write m y xs) = length xs
 
-abbrev pub place_words : Place → ℕ
+abbrev pub place_words : PointKind → ℕ
 place_words (Entry l params) = 0
 place_words (At (Does s)) = step_words s
 place_words (At (Forks c x y)) = 0
@@ -71,9 +71,9 @@ abbrev pub role_beginnings : ℕ → Role → List ℕ
 role_beginnings n (Written m i) = beginnings m n
 role_beginnings n _ = []
 
-abbrev pub sort_beginnings : ℕ → Sort → List ℕ
-sort_beginnings n (Fetched m i) = beginnings m n
-sort_beginnings n _ = []
+abbrev pub origin_beginnings : ℕ → ValueOrigin → List ℕ
+origin_beginnings n (Fetched m i) = beginnings m n
+origin_beginnings n _ = []
 
 -- ---- the families
 
@@ -81,18 +81,18 @@ abbrev pub Priced : Type 0
 Priced = Column × ℕ
 
 -- the parameters of label 0 come in bank A, those of other labels where the jump puts them
-abbrev pub sort_defs : ℕ → Sort → List Priced
-sort_defs x (Parameter zero i) = (Def x A, 0) ∷ (Def x B, 1) ∷ (Def x M, 17) ∷ []
-sort_defs x (Parameter (suc l) i) = (Def x A, 0) ∷ (Def x B, 0) ∷ (Def x M, 0) ∷ []
-sort_defs x Result = (Def x A, 0) ∷ (Def x B, 0) ∷ (Def x M, 16) ∷ []
-sort_defs x (Fetched m i) = []
+abbrev pub origin_defs : ℕ → ValueOrigin → List Priced
+origin_defs x (Parameter zero i) = (Def x A, 0) ∷ (Def x B, 1) ∷ (Def x M, 17) ∷ []
+origin_defs x (Parameter (suc l) i) = (Def x A, 0) ∷ (Def x B, 0) ∷ (Def x M, 0) ∷ []
+origin_defs x Result = (Def x A, 0) ∷ (Def x B, 0) ∷ (Def x M, 16) ∷ []
+origin_defs x (Fetched m i) = []
 
 abbrev pub def_columns : Value → List Priced
-def_columns v = sort_defs v.var v.sort
+def_columns v = origin_defs v.var v.origin
 
 -- a written word whose value is a result
 abbrev pub dir_columns : List Label → ℕ → Use → List Priced
-dir_columns labels n u = if is_result (sort_of labels u.value) then map (λ f. (Dir u.point u.operand f, 0)) (role_beginnings n u.role) else []
+dir_columns labels n u = if is_result (origin_of labels u.value) then map (λ f. (Dir u.point u.operand f, 0)) (role_beginnings n u.role) else []
 
 abbrev pub point_dirs : List Label → ℕ → Point → List Priced
 point_dirs labels k q = flat_map (dir_columns labels (place_words q.place)) (point_uses k q)
@@ -103,7 +103,7 @@ fill_columns labels v = if is_used labels v.var then (Fill v.var A, 1) ∷ (Fill
 
 -- a used read value
 abbrev pub stay_columns : List Label → ℕ → Value → List Priced
-stay_columns labels n v = if is_used labels v.var then map (λ f. (Stay v.var f, 0)) (sort_beginnings n v.sort) else []
+stay_columns labels n v = if is_used labels v.var then map (λ f. (Stay v.var f, 0)) (origin_beginnings n v.origin) else []
 
 abbrev pub point_stays : List Label → ℕ → Point → List Priced
 point_stays labels k q = flat_map (stay_columns labels (place_words q.place)) (place_values k q.place)
@@ -173,7 +173,7 @@ abbrev pub use_services : Bool → Use → List Priced
 use_services fetched u = map (λ s. (Srv u.point u.operand s.from s.at, s.cost)) (filter (λ s. has_bank fetched s.from) (services u.role))
 
 abbrev pub srv_columns : List Label → Use → List Priced
-srv_columns labels u = use_services (is_fetched (sort_of labels u.value)) u
+srv_columns labels u = use_services (is_fetched (origin_of labels u.value)) u
 
 -- a column for each register, where there is one
 abbrev pub for_eight : Bool → (ℕ → Column) → List Priced

@@ -75,7 +75,7 @@ bank_program labels slots = record { costs = costs labels; rows = rows labels sl
 
 -- ---- its size
 
--- there are so many columns, and more than fit; or the columns fit, and there are so many rows, and more than fit
+-- there are N columns, and more than fit; or the columns fit, and there are N rows, and more than fit
 abbrev pub IsTooLarge : List Label → ℕ → ℕ → Type 0
 IsTooLarge labels slots n =
     ((n ≡ length (columns labels)) × (2 ^ 26 < n))

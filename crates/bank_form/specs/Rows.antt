@@ -6,13 +6,13 @@ use Rattle.nv_base.specs.declared.term.Mem.TheVariants.{Sram, Sdram, Scratch}
 use Rattle.nv_base.specs.Sets.{is_in, without}
 use Rattle.ssu_ir.specs.Tree.{Label}
 use Rattle.ssu_ir.specs.Points.{Point, points}
-use Rattle.slot_placement.specs.Uses.{Access, accesses, reads_at, writes_at, Sort, Parameter, Result, Fetched, Value, values, place_values, Role, Operand, Written, Argument, Use, uses, place_roles, uses_of, is_used}
-use Rattle.slot_placement.specs.Fits.{is_result, parameter, point_values}
+use Rattle.placement.specs.Uses.{Access, accesses, reads_at, writes_at, ValueOrigin, Parameter, Result, Fetched, Value, values, place_values, Role, Operand, Written, Argument, Use, uses, place_roles, uses_of, is_used}
+use Rattle.placement.specs.Fits.{is_result, parameter, point_values}
 use Rattle.bank_form.specs.declared.column.Bank.{Bank}
 use Rattle.bank_form.specs.declared.column.Bank.TheVariants.{A, B, M, T, L, A15, W}
 use Rattle.bank_form.specs.declared.column.Column.{Column}
 use Rattle.bank_form.specs.declared.column.Column.TheVariants.{Def, Dir, Fill, Stay, Ear, First, Srv, PasL, PasS}
-use Rattle.bank_form.specs.Columns.{each_point, sort_of, is_fetched, eight, point_uses, place_words, role_beginnings, sort_beginnings, services}
+use Rattle.bank_form.specs.Columns.{each_point, origin_of, is_fetched, eight, point_uses, place_words, role_beginnings, origin_beginnings, services}
 
 -- ---- rows by names
 
@@ -76,7 +76,7 @@ ear u = map (Ear u.point u.operand) eight
 
 -- ---- 1. one choice
 
-abbrev pub is_parameter : Sort → Bool
+abbrev pub is_parameter : ValueOrigin → Bool
 is_parameter (Parameter l i) = true
 is_parameter Result = false
 is_parameter (Fetched m i) = false
@@ -87,11 +87,11 @@ is_written _ = false
 
 -- each parameter is first put somewhere
 abbrev pub parameter_choice : Value → List Line
-parameter_choice v = if is_parameter v.sort then exactly_one (def v.var) else []
+parameter_choice v = if is_parameter v.origin then exactly_one (def v.var) else []
 
 -- each result, where it can also be put into the write register of a use
 abbrev pub result_choice : List Label → Value → List Line
-result_choice labels v = if is_result v.sort then exactly_one (def v.var ++ flat_map dir (uses_of labels v.var)) else []
+result_choice labels v = if is_result v.origin then exactly_one (def v.var ++ flat_map dir (uses_of labels v.var)) else []
 
 -- each access begins somewhere
 abbrev pub access_choice : Access → List Line
@@ -121,7 +121,7 @@ abbrev pub served_stay : Use → Line
 served_stay u = covers (stay u.value) (srv_from u.point u.operand T)
 
 abbrev pub use_stay : List Label → Use → List Line
-use_stay labels u = if is_fetched (sort_of labels u.value) then served_stay u ∷ [] else []
+use_stay labels u = if is_fetched (origin_of labels u.value) then served_stay u ∷ [] else []
 
 abbrev pub use_cover : List Label → Use → List Line
 use_cover labels u = map (served_home u) homes ++ use_stay labels u
@@ -143,7 +143,7 @@ copy_lines labels x =
     ++ flat_map (word_from_register x) (uses_of labels x))
 
 abbrev pub copy_cover : List Label → Value → List Line
-copy_cover labels v = if is_used labels v.var && not (is_fetched v.sort) then copy_lines labels v.var else []
+copy_cover labels v = if is_used labels v.var && not (is_fetched v.origin) then copy_lines labels v.var else []
 
 -- an argument is brought to where its parameter is first put
 abbrev pub at_home : ℕ → Bank → List Column
@@ -182,11 +182,11 @@ operand_banks labels = each_point operand_lines 0 (points labels)
 
 -- ---- 4. capacity
 
-abbrev pub held_in : List ℕ → Bank → List Column
-held_in xs h = flat_map (λ x. home x h) xs
+abbrev pub live_in : List ℕ → Bank → List Column
+live_in xs h = flat_map (λ x. home x h) xs
 
 abbrev pub room_lines : ℕ → List ℕ → List Line
-room_lines slots xs = at_most 15 (held_in xs A) ∷ at_most 15 (held_in xs B) ∷ at_most slots (held_in xs M) ∷ []
+room_lines slots xs = at_most 15 (live_in xs A) ∷ at_most 15 (live_in xs B) ∷ at_most slots (live_in xs M) ∷ []
 
 abbrev pub capacity : List Label → ℕ → List Line
 capacity labels slots = each_point (λ k q. room_lines slots q.before) 0 (points labels)
@@ -208,12 +208,12 @@ abbrev pub run_at : ℕ → ℕ → List ℕ
 run_at r i = if nat_le i r then (r - i) ∷ [] else []
 
 -- values that stay in read register r
-abbrev pub sort_stays : Bool → ℕ → ℕ → Sort → List Column
-sort_stays sdram r x (Fetched m i) = if same_side sdram (is_sdram m) then map (Stay x) (run_at r i) else []
-sort_stays sdram r x _ = []
+abbrev pub origin_stays : Bool → ℕ → ℕ → ValueOrigin → List Column
+origin_stays sdram r x (Fetched m i) = if same_side sdram (is_sdram m) then map (Stay x) (run_at r i) else []
+origin_stays sdram r x _ = []
 
 abbrev pub stays_at : List Label → Bool → ℕ → List ℕ → List Column
-stays_at labels sdram r xs = flat_map (λ x. sort_stays sdram r x (sort_of labels x)) xs
+stays_at labels sdram r xs = flat_map (λ x. origin_stays sdram r x (origin_of labels x)) xs
 
 -- words that are put early into write register r
 abbrev pub role_early : Bool → ℕ → ℕ → ℕ → Role → List Column
@@ -263,7 +263,7 @@ owners labels =
 -- ---- 6. adjacency: a run begins where its words ask for it
 
 abbrev pub stay_begins : List Label → ℕ → Value → List Line
-stay_begins labels n v = if is_used labels v.var then map (λ f. covers (First v.point f ∷ []) (Stay v.var f ∷ [])) (sort_beginnings n v.sort) else []
+stay_begins labels n v = if is_used labels v.var then map (λ f. covers (First v.point f ∷ []) (Stay v.var f ∷ [])) (origin_beginnings n v.origin) else []
 
 abbrev pub word_begins : ℕ → Use → List Line
 word_begins n u = map (λ f. covers (First u.point f ∷ []) (Dir u.point u.operand f ∷ Ear u.point u.operand f ∷ [])) (role_beginnings n u.role)
@@ -287,7 +287,7 @@ abbrev pub slot_written : ℕ → Column → Line
 slot_written k c = covers (map (PasS k) eight) (c ∷ [])
 
 abbrev pub result_written : Value → List Line
-result_written v = if is_result v.sort then slot_written v.point (Def v.var M) ∷ [] else []
+result_written v = if is_result v.origin then slot_written v.point (Def v.var M) ∷ [] else []
 
 abbrev pub value_written : List Label → Value → List Line
 value_written labels v = if is_used labels v.var then slot_written v.point (Fill v.var M) ∷ result_written v else []

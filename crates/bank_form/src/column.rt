@@ -22,11 +22,11 @@ pub enum Column {
     Def(u32, Bank),
     /// The value is first put into the write register of this use, whose write begins at this register.
     Dir(u32, u32, u8),
-    /// Directly behind its definition the value is copied into this bank.
+    /// Directly after its definition the value is copied into this bank.
     Fill(u32, Bank),
     /// The value stays in its read register, where its read begins at this register.
     Stay(u32, u8),
-    /// Directly behind its definition the value is copied into the write register of this use, whose
+    /// Directly after its definition the value is copied into the write register of this use, whose
     /// write begins at this register.
     Ear(u32, u32, u8),
     /// The access begins at this register.

@@ -3,10 +3,10 @@
 ghost use Rattle.std.specs.Prelude.{◌≡◌, true, map, IfOk};
 ghost use Rattle.ssu_ir.specs.Single.{single};
 ghost use Rattle.ssu_ir.specs.View.{labels_view};
-ghost use Rattle.slot_placement.specs.Uses.{uses_of, is_used};
-ghost use Rattle.slot_placement.specs.Fits.{parameter};
-ghost use Rattle.bank_form.specs.Columns.{sort_of, is_fetched};
-ghost use Rattle.bank_form.specs.inner.Form.{AreTables, sort_view, use_view};
+ghost use Rattle.placement.specs.Uses.{uses_of, is_used};
+ghost use Rattle.placement.specs.Fits.{parameter};
+ghost use Rattle.bank_form.specs.Columns.{origin_of, is_fetched};
+ghost use Rattle.bank_form.specs.inner.Form.{AreTables, origin_view, use_view};
 
 use crate::tables::tables_of;
 use nv_base::{Mem, NoMemory};
@@ -16,21 +16,21 @@ use std::collections::HashMap;
 
 /// How a value comes: parameter i of label l, a result, or word i of a read.
 #[derive(Clone, Copy)]
-pub enum Sort {
+pub enum Origin {
     Parameter(u32, u32),
     Result,
     Fetched(Mem, u32),
 }
 
-impl Sort {
+impl Origin {
     /// Whether the value is read.
     pub fn is_fetched(self) -> bool
-        ensures { result ≡ is_fetched (sort_view self) }
+        ensures { result ≡ is_fetched (origin_view self) }
     {
         match self {
-            Sort::Parameter(_, _) => false,
-            Sort::Result => false,
-            Sort::Fetched(_, _) => true,
+            Origin::Parameter(_, _) => false,
+            Origin::Result => false,
+            Origin::Fetched(_, _) => true,
         }
     }
 }
@@ -51,7 +51,7 @@ pub enum Role {
 pub struct Value {
     pub point: u32,
     pub var: u32,
-    pub sort: Sort,
+    pub origin: Origin,
 }
 
 /// A use of a value.
@@ -63,7 +63,7 @@ pub struct Use {
     pub role: Role,
 }
 
-/// So many words of a memory are read or written at a point.
+/// N words of a memory are read or written at a point.
 #[derive(Clone, Copy)]
 pub struct Access {
     pub point: u32,
@@ -73,7 +73,7 @@ pub struct Access {
 
 /// A point: what it defines, uses, reads and writes.
 #[derive(Drop)]
-pub struct Stop {
+pub struct PointSummary {
     pub point: u32,
     /// How many words its access has.
     pub words: u32,
@@ -91,11 +91,11 @@ pub struct Stop {
 /// value that is used its uses.
 #[derive(Drop)]
 pub struct Tables {
-    pub stops: Vec<Stop>,
+    pub summaries: Vec<PointSummary>,
     pub values: Vec<Value>,
     pub uses: Vec<Use>,
     pub accesses: Vec<Access>,
-    pub sorts: HashMap<u32, Sort>,
+    pub origins: HashMap<u32, Origin>,
     pub users: HashMap<u32, Vec<Use>>,
 }
 
@@ -118,12 +118,12 @@ pub fn form_of(alloc: Global, s: &Ssu) -> Result<Form<'_>, NoMemory>
 
 impl Form<'_> {
     /// How the value of a variable comes.
-    pub fn sort_of(&self, x: u32) -> Sort
-        ensures { sort_view result ≡ sort_of (labels_view self.now.ssu.now) x }
+    pub fn origin_of(&self, x: u32) -> Origin
+        ensures { origin_view result ≡ origin_of (labels_view self.now.ssu.now) x }
     {
-        match self.tables.sorts.get(&x) {
+        match self.tables.origins.get(&x) {
             Some(s) => *s,
-            None => Sort::Result,
+            None => Origin::Result,
         }
     }
 

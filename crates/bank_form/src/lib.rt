@@ -12,5 +12,5 @@ pub mod tables;
 mod terms;
 
 pub use column::{Bank, Column, Service};
-pub use form::{Access, Form, Role, Sort, Stop, Tables, Use, Value, form_of};
+pub use form::{Access, Form, Origin, PointSummary, Role, Tables, Use, Value, form_of};
 pub use numbers::{Numbers, number};

@@ -11,7 +11,7 @@ use nv_base::NoMemory;
 use std::alloc::Global;
 use std::collections::HashMap;
 
-/// At most so many columns, and so many rows.
+/// At most N columns, and N rows.
 pub const COUNT_LIMIT: usize = 1 << 26;
 
 /// Of each column that is there its number.

@@ -4,9 +4,9 @@ ghost use Rattle.std.specs.Prelude.{◌≡◌, ◌++◌, IfOk, OnOk};
 ghost use Rattle.std.specs.List.{flat_map};
 ghost use Rattle.bank_form.specs.Columns as columns;
 ghost use Rattle.bank_form.specs.inner.Form as form;
-ghost use Rattle.bank_form.specs.inner.Form.{role_view, sort_view};
+ghost use Rattle.bank_form.specs.inner.Form.{role_view, origin_view};
 
-use crate::form::{Role, Sort};
+use crate::form::{Origin, Role};
 use nv_base::{Mem, NoMemory};
 use std::alloc::Global;
 
@@ -63,12 +63,12 @@ pub fn role_beginnings(alloc: Global, n: u32, role: Role) -> Result<Vec<u8>, NoM
 }
 
 /// Where the read of a value may begin.
-pub fn sort_beginnings(alloc: Global, n: u32, sort: Sort) -> Result<Vec<u8>, NoMemory>
-    ensures { IfOk result (λ fs. fs.items ≡ columns.sort_beginnings n (sort_view sort)) }
+pub fn origin_beginnings(alloc: Global, n: u32, origin: Origin) -> Result<Vec<u8>, NoMemory>
+    ensures { IfOk result (λ fs. fs.items ≡ columns.origin_beginnings n (origin_view origin)) }
 {
-    match sort {
-        Sort::Parameter(_, _) => Ok(Vec::new(alloc)),
-        Sort::Result => Ok(Vec::new(alloc)),
-        Sort::Fetched(m, _) => beginnings(alloc, m, n),
+    match origin {
+        Origin::Parameter(_, _) => Ok(Vec::new(alloc)),
+        Origin::Result => Ok(Vec::new(alloc)),
+        Origin::Fetched(m, _) => beginnings(alloc, m, n),
     }
 }

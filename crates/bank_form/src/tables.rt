@@ -7,19 +7,19 @@ ghost use Rattle.ssu_ir.specs.Single.{single};
 ghost use Rattle.ssu_ir.specs.Slots.{node_of};
 ghost use Rattle.ssu_ir.specs.Tree.{node_uses};
 ghost use Rattle.ssu_ir.specs.View.{labels_view};
-ghost use Rattle.slot_placement.specs.Uses as pure;
-ghost use Rattle.held_values.specs.inner.Live.{value_by};
-ghost use Rattle.slot_placement.specs.inner.Parts.{gather};
-ghost use Rattle.held_values.specs.inner.Spots.{spot_place};
-ghost use Rattle.bank_form.specs.Columns.{sort_in};
+ghost use Rattle.placement.specs.Uses as pure;
+ghost use Rattle.ssu_liveness.specs.inner.Live.{value_by};
+ghost use Rattle.placement.specs.inner.Parts.{gather};
+ghost use Rattle.ssu_liveness.specs.inner.PointIds.{kind_of_point};
+ghost use Rattle.bank_form.specs.Columns.{origin_in};
 ghost use Rattle.bank_form.specs.Rows.{two_operands};
 ghost use Rattle.bank_form.specs.inner.Form as form;
-ghost use Rattle.bank_form.specs.inner.Form.{AreTables, value_view, use_view, access_view, stop_view};
+ghost use Rattle.bank_form.specs.inner.Form.{AreTables, value_view, use_view, access_view, summary_view};
 
-use crate::form::{Access, Role, Sort, Stop, Tables, Use, Value};
-use held_values::{Copies, Spot, copies_of, spots_of, value_of};
+use crate::form::{Access, Origin, PointSummary, Role, Tables, Use, Value};
 use nv_base::{Mem, NoMemory};
 use ssu_ir::{Ssu, SsuNode};
+use ssu_liveness::{Copies, PointId, copies_of, point_ids_of, value_of};
 use std::alloc::Global;
 use std::collections::HashMap;
 
@@ -43,7 +43,7 @@ fn params(alloc: Global, k: u32, l: u32, xs: &[u32]) -> Result<Vec<Value>, NoMem
         values.push(Value {
             point: k,
             var: xs[i],
-            sort: Sort::Parameter(l, short(i)?),
+            origin: Origin::Parameter(l, short(i)?),
         })?;
     }
     Ok(values)
@@ -57,7 +57,7 @@ fn words_read(alloc: Global, k: u32, m: Mem, xs: &[u32]) -> Result<Vec<Value>, N
         values.push(Value {
             point: k,
             var: xs[i],
-            sort: Sort::Fetched(m, short(i)?),
+            origin: Origin::Fetched(m, short(i)?),
         })?;
     }
     Ok(values)
@@ -70,7 +70,7 @@ fn result(alloc: Global, k: u32, x: u32) -> Result<Vec<Value>, NoMemory>
     values.push(Value {
         point: k,
         var: x,
-        sort: Sort::Result,
+        origin: Origin::Result,
     })?;
     Ok(values)
 }
@@ -283,12 +283,17 @@ fn is_busy(n: &SsuNode) -> bool
 
 // ---- points
 
-fn node_stop(alloc: Global, copies: &Copies, k: u32, n: &SsuNode) -> Result<Stop, NoMemory>
-    ensures { IfOk result (λ t. stop_view t ≡ form.part_at (value_by (get nat_eq copies.now)) k (form.at_node (node_of n.now))) }
+fn node_summary(
+    alloc: Global,
+    copies: &Copies,
+    k: u32,
+    n: &SsuNode,
+) -> Result<PointSummary, NoMemory>
+    ensures { IfOk result (λ t. summary_view t ≡ form.part_at (value_by (get nat_eq copies.now)) k (form.at_node (node_of n.now))) }
 {
     let mut uses = Vec::new(alloc);
     add_node_uses(&mut uses, copies, k, n)?;
-    Ok(Stop {
+    Ok(PointSummary {
         point: k,
         words: node_words(n)?,
         two: has_two_operands(n),
@@ -300,10 +305,10 @@ fn node_stop(alloc: Global, copies: &Copies, k: u32, n: &SsuNode) -> Result<Stop
     })
 }
 
-fn entry_stop(alloc: Global, k: u32, l: u32, xs: &[u32]) -> Result<Stop, NoMemory>
-    ensures { IfOk result (λ t. (of : ℕ → ℕ) → stop_view t ≡ form.part_at of k (form.at_entry l xs.now)) }
+fn entry_summary(alloc: Global, k: u32, l: u32, xs: &[u32]) -> Result<PointSummary, NoMemory>
+    ensures { IfOk result (λ t. (of : ℕ → ℕ) → summary_view t ≡ form.part_at of k (form.at_entry l xs.now)) }
 {
-    Ok(Stop {
+    Ok(PointSummary {
         point: k,
         words: 0,
         two: false,
@@ -315,81 +320,92 @@ fn entry_stop(alloc: Global, k: u32, l: u32, xs: &[u32]) -> Result<Stop, NoMemor
     })
 }
 
-fn spot_stop(alloc: Global, s: &Ssu, copies: &Copies, k: u32, spot: Spot) -> Result<Stop, NoMemory>
-    ensures { IfOk result (λ t. stop_view t ≡ form.part_at (value_by (get nat_eq copies.now)) k (spot_place s.now spot)) }
+fn point_summary(
+    alloc: Global,
+    s: &Ssu,
+    copies: &Copies,
+    k: u32,
+    point_id: PointId,
+) -> Result<PointSummary, NoMemory>
+    ensures { IfOk result (λ t. summary_view t ≡ form.part_at (value_by (get nat_eq copies.now)) k (kind_of_point s.now point_id)) }
 {
-    match spot {
-        Spot::Entry(l) => match s.labels.get(l) {
-            Some(label) => entry_stop(alloc, k, short(l)?, &label.params),
+    match point_id {
+        PointId::Entry(l) => match s.labels.get(l) {
+            Some(label) => entry_summary(alloc, k, short(l)?, &label.params),
             None => Err(NoMemory),
         },
-        Spot::Node(id) => match s.nodes.get(id.0) {
-            Some(n) => node_stop(alloc, copies, k, n),
+        PointId::Node(id) => match s.nodes.get(id.0) {
+            Some(n) => node_summary(alloc, copies, k, n),
             None => Err(NoMemory),
         },
     }
 }
 
-fn stops_of(alloc: Global, s: &Ssu, copies: &Copies, spots: &[Spot]) -> Result<Vec<Stop>, NoMemory>
-    ensures { IfOk result (λ v. map stop_view v.items ≡ gather (form.parts_at (value_by (get nat_eq copies.now))) 0 (map (spot_place s.now) spots.now)) }
+fn summaries_of(
+    alloc: Global,
+    s: &Ssu,
+    copies: &Copies,
+    point_ids: &[PointId],
+) -> Result<Vec<PointSummary>, NoMemory>
+    ensures { IfOk result (λ v. map summary_view v.items ≡ gather (form.parts_at (value_by (get nat_eq copies.now))) 0 (map (kind_of_point s.now) point_ids.now)) }
 {
-    let mut stops = Vec::new(alloc);
-    for k in 0..spots.len() {
-        stops.push(spot_stop(alloc, s, copies, short(k)?, spots[k])?)?;
+    let mut summaries = Vec::new(alloc);
+    for k in 0..point_ids.len() {
+        summaries.push(point_summary(alloc, s, copies, short(k)?, point_ids[k])?)?;
     }
-    Ok(stops)
+    Ok(summaries)
 }
 
 // ---- all together
 
-fn add_values(all: &mut Vec<Value>, stop: &Stop) -> Result<(), NoMemory>
-    ensures { OnOk result (map value_view all.new.items ≡ map value_view all.old.items ++ form.part_values (stop_view stop.now)) }
+fn add_values(all: &mut Vec<Value>, summary: &PointSummary) -> Result<(), NoMemory>
+    ensures { OnOk result (map value_view all.new.items ≡ map value_view all.old.items ++ form.part_values (summary_view summary.now)) }
 {
-    all.extend_from_slice(&stop.values)?;
+    all.extend_from_slice(&summary.values)?;
     Ok(())
 }
 
-fn all_values(alloc: Global, stops: &[Stop]) -> Result<Vec<Value>, NoMemory>
-    ensures { IfOk result (λ v. map value_view v.items ≡ flat_map form.part_values (map stop_view stops.now)) }
+fn all_values(alloc: Global, summaries: &[PointSummary]) -> Result<Vec<Value>, NoMemory>
+    ensures { IfOk result (λ v. map value_view v.items ≡ flat_map form.part_values (map summary_view summaries.now)) }
 {
     let mut all = Vec::new(alloc);
-    for stop in stops {
-        add_values(&mut all, stop)?;
+    for summary in summaries {
+        add_values(&mut all, summary)?;
     }
     Ok(all)
 }
 
-fn add_uses(all: &mut Vec<Use>, stop: &Stop) -> Result<(), NoMemory>
-    ensures { OnOk result (map use_view all.new.items ≡ map use_view all.old.items ++ form.part_uses (stop_view stop.now)) }
+fn add_uses(all: &mut Vec<Use>, summary: &PointSummary) -> Result<(), NoMemory>
+    ensures { OnOk result (map use_view all.new.items ≡ map use_view all.old.items ++ form.part_uses (summary_view summary.now)) }
 {
-    all.extend_from_slice(&stop.uses)?;
+    all.extend_from_slice(&summary.uses)?;
     Ok(())
 }
 
-fn all_uses(alloc: Global, stops: &[Stop]) -> Result<Vec<Use>, NoMemory>
-    ensures { IfOk result (λ v. map use_view v.items ≡ flat_map form.part_uses (map stop_view stops.now)) }
+fn all_uses(alloc: Global, summaries: &[PointSummary]) -> Result<Vec<Use>, NoMemory>
+    ensures { IfOk result (λ v. map use_view v.items ≡ flat_map form.part_uses (map summary_view summaries.now)) }
 {
     let mut all = Vec::new(alloc);
-    for stop in stops {
-        add_uses(&mut all, stop)?;
+    for summary in summaries {
+        add_uses(&mut all, summary)?;
     }
     Ok(all)
 }
 
-fn add_accesses(all: &mut Vec<Access>, stop: &Stop) -> Result<(), NoMemory>
-    ensures { OnOk result (map access_view all.new.items ≡ map access_view all.old.items ++ form.part_accesses (stop_view stop.now)) }
+fn add_accesses(all: &mut Vec<Access>, summary: &PointSummary) -> Result<(), NoMemory>
+    ensures { OnOk result (map access_view all.new.items ≡ map access_view all.old.items ++ form.part_accesses (summary_view summary.now)) }
 {
-    all.extend_from_slice(&stop.reads)?;
-    all.extend_from_slice(&stop.writes)?;
+    all.extend_from_slice(&summary.reads)?;
+    all.extend_from_slice(&summary.writes)?;
     Ok(())
 }
 
-fn all_accesses(alloc: Global, stops: &[Stop]) -> Result<Vec<Access>, NoMemory>
-    ensures { IfOk result (λ v. map access_view v.items ≡ flat_map form.part_accesses (map stop_view stops.now)) }
+fn all_accesses(alloc: Global, summaries: &[PointSummary]) -> Result<Vec<Access>, NoMemory>
+    ensures { IfOk result (λ v. map access_view v.items ≡ flat_map form.part_accesses (map summary_view summaries.now)) }
 {
     let mut all = Vec::new(alloc);
-    for stop in stops {
-        add_accesses(&mut all, stop)?;
+    for summary in summaries {
+        add_accesses(&mut all, summary)?;
     }
     Ok(all)
 }
@@ -397,23 +413,23 @@ fn all_accesses(alloc: Global, stops: &[Stop]) -> Result<Vec<Access>, NoMemory>
 // ---- by variable
 
 /// How a value comes, where that isn't known.
-fn note_sort(sorts: &mut HashMap<u32, Sort>, v: Value) -> Result<(), NoMemory>
-    ensures { OnOk result ((x : ℕ) → form.sort_found (get nat_eq sorts.new x) ≡ form.sort_noted (form.sort_found (get nat_eq sorts.old x)) (value_view v) x) }
+fn note_origin(origins: &mut HashMap<u32, Origin>, v: Value) -> Result<(), NoMemory>
+    ensures { OnOk result ((x : ℕ) → form.origin_found (get nat_eq origins.new x) ≡ form.origin_noted (form.origin_found (get nat_eq origins.old x)) (value_view v) x) }
 {
-    if sorts.get(&v.var).is_none() {
-        sorts.insert(v.var, v.sort)?;
+    if origins.get(&v.var).is_none() {
+        origins.insert(v.var, v.origin)?;
     }
     Ok(())
 }
 
-fn all_sorts(alloc: Global, values: &[Value]) -> Result<HashMap<u32, Sort>, NoMemory>
-    ensures { IfOk result (λ m. (x : ℕ) → form.known_sort (get nat_eq m x) ≡ sort_in (map value_view values.now) x) }
+fn all_origins(alloc: Global, values: &[Value]) -> Result<HashMap<u32, Origin>, NoMemory>
+    ensures { IfOk result (λ m. (x : ℕ) → form.known_sort (get nat_eq m x) ≡ origin_in (map value_view values.now) x) }
 {
-    let mut sorts = HashMap::new(alloc);
+    let mut origins = HashMap::new(alloc);
     for v in values {
-        note_sort(&mut sorts, *v)?;
+        note_origin(&mut origins, *v)?;
     }
-    Ok(sorts)
+    Ok(origins)
 }
 
 /// One use more of a value.
@@ -444,20 +460,20 @@ pub fn tables_of(alloc: Global, s: &Ssu) -> Result<Tables, NoMemory>
     requires { single (labels_view s.now) ≡ true }
     ensures { IfOk result (AreTables (labels_view s.now)) }
 {
-    let spots = spots_of(alloc, s)?;
+    let point_ids = point_ids_of(alloc, s)?;
     let copies = copies_of(alloc, s)?;
-    let stops = stops_of(alloc, s, &copies, &spots)?;
-    let values = all_values(alloc, &stops)?;
-    let uses = all_uses(alloc, &stops)?;
-    let accesses = all_accesses(alloc, &stops)?;
-    let sorts = all_sorts(alloc, &values)?;
+    let summaries = summaries_of(alloc, s, &copies, &point_ids)?;
+    let values = all_values(alloc, &summaries)?;
+    let uses = all_uses(alloc, &summaries)?;
+    let accesses = all_accesses(alloc, &summaries)?;
+    let origins = all_origins(alloc, &values)?;
     let users = all_users(alloc, &uses)?;
     Ok(Tables {
-        stops,
+        summaries,
         values,
         uses,
         accesses,
-        sorts,
+        origins,
         users,
     })
 }

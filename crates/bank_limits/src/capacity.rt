@@ -5,7 +5,7 @@ ghost use Rattle.std.specs.HashMap.{get};
 ghost use Rattle.std.specs.List.{AllZip, flat_map};
 ghost use Rattle.ssu_ir.specs.Points.{points};
 ghost use Rattle.ssu_ir.specs.View.{labels_view};
-ghost use Rattle.held_values.specs.Held.{IsRow, items_of};
+ghost use Rattle.ssu_liveness.specs.LiveRows.{IsRow, items_of};
 ghost use Rattle.bank_form.specs.Program.{same_column};
 ghost use Rattle.bank_form.specs.Rows as lines;
 ghost use Rattle.bank_form.specs.inner.Adds.{Adds};
@@ -27,7 +27,7 @@ fn add_home(cs: &mut Vec<Column>, x: u32, h: Bank) -> Result<(), NoMemory>
 }
 
 fn add_homes(cs: &mut Vec<Column>, xs: &[u32], h: Bank) -> Result<(), NoMemory>
-    ensures { OnOk result (cs.new.items ≡ cs.old.items ++ lines.held_in xs.now h) }
+    ensures { OnOk result (cs.new.items ≡ cs.old.items ++ lines.live_in xs.now h) }
 {
     for x in xs {
         add_home(cs, *x, h)?;
@@ -36,7 +36,7 @@ fn add_homes(cs: &mut Vec<Column>, xs: &[u32], h: Bank) -> Result<(), NoMemory>
 }
 
 /// At most n of these values have a home in the bank.
-fn push_held_in(
+fn push_live_in(
     alloc: Global,
     numbers: &Numbers,
     n: u32,
@@ -45,7 +45,7 @@ fn push_held_in(
     rows: &mut Vec<Row>,
 ) -> Result<(), NoMemory>
     requires { n ≤ 128 }
-    ensures { OnOk result (Adds (get same_column numbers.now) rows.old.items rows.new.items (lines.at_most n (lines.held_in xs.now h) ∷ [])) }
+    ensures { OnOk result (Adds (get same_column numbers.now) rows.old.items rows.new.items (lines.at_most n (lines.live_in xs.now h) ∷ [])) }
 {
     let mut cs = Vec::new(alloc);
     add_homes(&mut cs, xs, h)?;
@@ -62,9 +62,9 @@ fn push_room(
     requires { slots ≤ 128 }
     ensures { OnOk result (Adds (get same_column numbers.now) rows.old.items rows.new.items (lines.room_lines slots xs.now)) }
 {
-    push_held_in(alloc, numbers, 15, xs, Bank::A, rows)?;
-    push_held_in(alloc, numbers, 15, xs, Bank::B, rows)?;
-    push_held_in(alloc, numbers, slots, xs, Bank::M, rows)
+    push_live_in(alloc, numbers, 15, xs, Bank::A, rows)?;
+    push_live_in(alloc, numbers, 15, xs, Bank::B, rows)?;
+    push_live_in(alloc, numbers, slots, xs, Bank::M, rows)
 }
 
 fn push_rooms(
@@ -83,7 +83,7 @@ fn push_rooms(
     Ok(())
 }
 
-/// The rows of the fourth family, where these values are held at the points.
+/// The rows of the fourth family, where these values are live at the points.
 pub fn push_capacity(
     alloc: Global,
     numbers: &Numbers,

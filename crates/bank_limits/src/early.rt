@@ -5,10 +5,10 @@ ghost use Rattle.std.specs.List.{flat_map};
 ghost use Rattle.bank_form.specs.Columns as columns;
 ghost use Rattle.bank_form.specs.declared.column.Column.TheVariants as column;
 ghost use Rattle.bank_form.specs.inner.Form as form;
-ghost use Rattle.bank_form.specs.inner.Form.{stop_view, use_view};
+ghost use Rattle.bank_form.specs.inner.Form.{summary_view, use_view};
 
 use bank_form::column::{Column, Priced};
-use bank_form::form::{Stop, Use};
+use bank_form::form::{PointSummary, Use};
 use bank_form::runs::role_beginnings;
 use nv_base::NoMemory;
 use std::alloc::Global;
@@ -28,7 +28,7 @@ fn push_ear(alloc: Global, out: &mut Priced, n: u32, u: Use) -> Result<(), NoMem
     push_ears_at(out, u, &role_beginnings(alloc, n, u.role)?)
 }
 
-fn push_stop_ears(alloc: Global, out: &mut Priced, n: u32, uses: &[Use]) -> Result<(), NoMemory>
+fn push_point_ears(alloc: Global, out: &mut Priced, n: u32, uses: &[Use]) -> Result<(), NoMemory>
     ensures { OnOk result (out.new.items ≡ out.old.items ++ flat_map (columns.ear_columns n) (map use_view uses.now)) }
 {
     for u in uses {
@@ -38,11 +38,15 @@ fn push_stop_ears(alloc: Global, out: &mut Priced, n: u32, uses: &[Use]) -> Resu
 }
 
 /// A column for each register where a word may be copied early, with its cost.
-pub fn push_ears(alloc: Global, out: &mut Priced, stops: &[Stop]) -> Result<(), NoMemory>
-    ensures { OnOk result (out.new.items ≡ out.old.items ++ flat_map form.part_ears (map stop_view stops.now)) }
+pub fn push_ears(
+    alloc: Global,
+    out: &mut Priced,
+    summaries: &[PointSummary],
+) -> Result<(), NoMemory>
+    ensures { OnOk result (out.new.items ≡ out.old.items ++ flat_map form.part_ears (map summary_view summaries.now)) }
 {
-    for stop in stops {
-        push_stop_ears(alloc, out, stop.words, &stop.uses)?;
+    for summary in summaries {
+        push_point_ears(alloc, out, summary.words, &summary.uses)?;
     }
     Ok(())
 }

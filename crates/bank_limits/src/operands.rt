@@ -8,10 +8,10 @@ ghost use Rattle.bank_form.specs.Program.{same_column};
 ghost use Rattle.bank_form.specs.Rows as lines;
 ghost use Rattle.bank_form.specs.declared.column.Bank.TheVariants as bank;
 ghost use Rattle.bank_form.specs.inner.Adds.{Adds};
-ghost use Rattle.bank_form.specs.inner.Form.{part_operands, stop_view};
+ghost use Rattle.bank_form.specs.inner.Form.{part_operands, summary_view};
 
 use bank_form::column::{Bank, Column};
-use bank_form::form::{Form, Stop};
+use bank_form::form::{Form, PointSummary};
 use bank_form::lines::push_at_most;
 use bank_form::names;
 use bank_form::numbers::Numbers;
@@ -72,16 +72,16 @@ fn push_pair(alloc: Global, numbers: &Numbers, k: u32, rows: &mut Vec<Row>) -> R
     push_in_read(alloc, numbers, k, rows)
 }
 
-fn push_stop_operands(
+fn push_point_operands(
     alloc: Global,
     numbers: &Numbers,
-    stop: &Stop,
+    summary: &PointSummary,
     rows: &mut Vec<Row>,
 ) -> Result<(), NoMemory>
-    ensures { OnOk result (Adds (get same_column numbers.now) rows.old.items rows.new.items (part_operands (stop_view stop.now))) }
+    ensures { OnOk result (Adds (get same_column numbers.now) rows.old.items rows.new.items (part_operands (summary_view summary.now))) }
 {
-    if stop.two {
-        push_pair(alloc, numbers, stop.point, rows)?;
+    if summary.two {
+        push_pair(alloc, numbers, summary.point, rows)?;
     }
     Ok(())
 }
@@ -89,13 +89,13 @@ fn push_stop_operands(
 fn push_operands(
     alloc: Global,
     numbers: &Numbers,
-    stops: &[Stop],
+    summaries: &[PointSummary],
     rows: &mut Vec<Row>,
 ) -> Result<(), NoMemory>
-    ensures { OnOk result (Adds (get same_column numbers.now) rows.old.items rows.new.items (flat_map part_operands (map stop_view stops.now))) }
+    ensures { OnOk result (Adds (get same_column numbers.now) rows.old.items rows.new.items (flat_map part_operands (map summary_view summaries.now))) }
 {
-    for stop in stops {
-        push_stop_operands(alloc, numbers, stop, rows)?;
+    for summary in summaries {
+        push_point_operands(alloc, numbers, summary, rows)?;
     }
     Ok(())
 }
@@ -109,5 +109,5 @@ pub fn push_operand_banks(
 ) -> Result<(), NoMemory>
     ensures { OnOk result (Adds (get same_column numbers.now) rows.old.items rows.new.items (lines.operand_banks (labels_view f.now.ssu.now))) }
 {
-    push_operands(alloc, numbers, &f.tables.stops, rows)
+    push_operands(alloc, numbers, &f.tables.summaries, rows)
 }

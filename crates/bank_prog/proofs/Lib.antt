@@ -1,3 +1,7 @@
+pub mod Lengths
+pub mod UseSums
+pub mod FewColumns
+pub mod FewRows
 pub mod LawsRows
 pub mod LawsColumns
 pub mod LawsCost

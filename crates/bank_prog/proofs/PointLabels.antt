@@ -4,16 +4,16 @@ use Rattle.std.proofs.lemmas.Bool.{cases_lt, lt-ltb, le-ltb}
 use Rattle.std.proofs.lemmas.List.{append-nil, map-append, length-map, get_or_append_left, get_or-append_right, at_drop_more, at_drop_all}
 use Rattle.std.proofs.Math.ListN.{get_or-map}
 use Rattle.ssu_ir.specs.Tree.{Tree, Do, If, End, Label, step_values}
-use Rattle.ssu_ir.specs.Points.{Names, own, names_after, Place, Point, tree_points, label_points, points_from, points}
+use Rattle.ssu_ir.specs.Points.{Names, own, names_after, PointKind, Point, tree_points, label_points, points_from, points}
 use Rattle.label_weights.specs.ByLabel.{label_from}
 use Rattle.label_weights.specs.Weighted.{weight_of, point_weight}
 use Rattle.bank_prog.specs.inner.Located.{label_at, labels_behind}
 
-abbrev places : List Point → List Place
+abbrev places : List Point → List PointKind
 places ps = map (λ q. q.place) ps
 
 -- the nodes of a tree are of the label that stands before them
-tree-labels : (l : ℕ) (of : Names) (above : List ℕ) (t : Tree) (qs : List Place) → labels_behind l (places (tree_points of above t) ++ qs) ≡ map (λ p. l) (tree_points of above t) ++ labels_behind l qs
+tree-labels : (l : ℕ) (of : Names) (above : List ℕ) (t : Tree) (qs : List PointKind) → labels_behind l (places (tree_points of above t) ++ qs) ≡ map (λ p. l) (tree_points of above t) ++ labels_behind l qs
 tree-labels l of above (Do s t) qs = ap (λ ls. l ∷ ls) (tree-labels l (names_after of s) (above ++ step_values s) t qs)
 tree-labels l of above (If c x y t u) qs =
     let a = tree_points of above t in
@@ -78,7 +78,7 @@ point-weights labels ws k past e =
 
 -- ---- the walk
 
-pub walk-more : {V : Type 0} (f : ℕ → ℕ) (view : V → Place) (xs : List V) (i : ℕ) (d : V) (l l' : ℕ) (out out' goal : List ℕ) → i < length xs → l' ≡ label_at l (view (get_or xs i d)) → out' ≡ out ++ f l' ∷ []
+pub walk-more : {V : Type 0} (f : ℕ → ℕ) (view : V → PointKind) (xs : List V) (i : ℕ) (d : V) (l l' : ℕ) (out out' goal : List ℕ) → i < length xs → l' ≡ label_at l (view (get_or xs i d)) → out' ≡ out ++ f l' ∷ []
     → out ++ map f (labels_behind l (map view (drop i xs))) ≡ goal → out' ++ map f (labels_behind l' (map view (drop (i + 1) xs))) ≡ goal
 walk-more f view xs i d l l' out out' goal lt e o h =
     let rest = map view (drop (i + 1) xs) in
@@ -87,5 +87,5 @@ walk-more f view xs i d l l' out out' goal lt e o h =
     ∙ ap (λ k. out ++ f k ∷ map f (labels_behind k rest)) e
     ∙ sym (at_drop_more (λ ys. out ++ map f (labels_behind l (map view ys))) xs i d lt) ∙ h
 
-pub walk-all : {V : Type 0} (f : ℕ → ℕ) (view : V → Place) (xs : List V) (i l : ℕ) (out goal : List ℕ) → length xs ≤ i → out ++ map f (labels_behind l (map view (drop i xs))) ≡ goal → out ≡ goal
+pub walk-all : {V : Type 0} (f : ℕ → ℕ) (view : V → PointKind) (xs : List V) (i l : ℕ) (out goal : List ℕ) → length xs ≤ i → out ++ map f (labels_behind l (map view (drop i xs))) ≡ goal → out ≡ goal
 walk-all f view xs i l out goal le h = sym (append-nil out) ∙ sym (at_drop_all (λ ys. out ++ map f (labels_behind l (map view ys))) xs i le) ∙ h

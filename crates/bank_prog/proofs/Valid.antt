@@ -6,10 +6,10 @@ use Rattle.std.proofs.lemmas.List.Elements.{All-map}
 use Rattle.std.proofs.lemmas.Nat.{mul-le}
 use Rattle.ssu_ir.specs.Tree.{Label}
 use Rattle.ssu_ir.specs.Points.{points}
-use Rattle.slot_placement.specs.Uses.{accesses, Sort, Parameter, Result, Fetched, values, place_values, Role, Operand, Address, Written, Argument, Ending, Use, uses, is_used}
-use Rattle.slot_placement.specs.Fits.{is_result}
-use Rattle.slot_placement.proofs.Sound.{Each, each-append}
-use Rattle.slot_placement.proofs.Spilled.{each-all, each-weaker}
+use Rattle.placement.specs.Uses.{accesses, ValueOrigin, Parameter, Result, Fetched, values, place_values, Role, Operand, Address, Written, Argument, Ending, Use, uses, is_used}
+use Rattle.placement.specs.Fits.{is_result}
+use Rattle.placement.proofs.Sound.{Each, each-append}
+use Rattle.placement.proofs.Spilled.{each-all, each-weaker}
 use Rattle.label_weights.specs.ByLabel.{label_from}
 use Rattle.label_weights.specs.Weighted.{AreWeights, point_weight}
 use Rattle.label_weights.proofs.Bounds.{weight-bounds}
@@ -20,7 +20,7 @@ use Rattle.bank_form.specs.declared.column.Bank.TheVariants.{A, B, M}
 use Rattle.bank_form.specs.declared.column.Column.{Column}
 use Rattle.bank_form.specs.declared.column.Column.TheVariants.{Dir, Fill, Stay, Ear, First, Srv, PasL, PasS}
 use Rattle.bank_form.specs.declared.column.Service.{Service}
-use Rattle.bank_form.specs.Columns.{is_fetched, sort_of, eight, point_uses, place_words, beginnings, role_beginnings, sort_beginnings, services, has_bank, Priced, sort_defs, def_columns, dir_columns, point_dirs, fill_columns, stay_columns, point_stays, ear_columns, point_ears, first_columns, srv_columns, for_eight, pas_l_columns, pas_s_columns, all_dirs, all_stays, all_ears, all_pas_l, all_pas_s, priced, costs}
+use Rattle.bank_form.specs.Columns.{is_fetched, origin_of, eight, point_uses, place_words, beginnings, role_beginnings, origin_beginnings, services, has_bank, Priced, origin_defs, def_columns, dir_columns, point_dirs, fill_columns, stay_columns, point_stays, ear_columns, point_ears, first_columns, srv_columns, for_eight, pas_l_columns, pas_s_columns, all_dirs, all_stays, all_ears, all_pas_l, all_pas_s, priced, costs}
 use Rattle.bank_form.specs.Program.{bank_program}
 use Rattle.bank_rows.proofs.Distinct.{each-flat, each-points, each-map}
 use Rattle.bank_rows.proofs.PlainLines.{each-kept, mapped-each}
@@ -35,7 +35,7 @@ if-cheap : (b : Bool) (ps : List Priced) → Each IsCheap ps → Each IsCheap (i
 if-cheap true ps h = h
 if-cheap false ps h = tt
 
-defs-cheap : (x : ℕ) (s : Sort) → Each IsCheap (sort_defs x s)
+defs-cheap : (x : ℕ) (s : ValueOrigin) → Each IsCheap (origin_defs x s)
 defs-cheap x (Parameter zero i) = (omega arith, (omega arith, (omega arith, tt)))
 defs-cheap x (Parameter (suc l) i) = (omega arith, (omega arith, (omega arith, tt)))
 defs-cheap x Result = (omega arith, (omega arith, (omega arith, tt)))
@@ -51,7 +51,7 @@ services-cheap (Ending i) = (omega arith, (omega arith, (omega arith, (omega ari
 
 srvs-cheap : (labels : List Label) (u : Use) → Each IsCheap (srv_columns labels u)
 srvs-cheap labels u =
-    let p = λ (s : Service). has_bank (is_fetched (sort_of labels u.value)) s.from in
+    let p = λ (s : Service). has_bank (is_fetched (origin_of labels u.value)) s.from in
     mapped-each IsCheap (λ (s : Service). (Srv u.point u.operand s.from s.at, s.cost)) (filter p (services u.role)) (each-kept (λ (s : Service). s.cost ≤ 33) p (services u.role) (services-cheap u.role))
 
 eight-cheap : (b : Bool) (column : ℕ → Column) → Each IsCheap (for_eight b column)
@@ -61,12 +61,12 @@ eight-cheap false column = tt
 all-cheap : (labels : List Label) → Each IsCheap (priced labels)
 all-cheap labels =
     let ps = points labels in
-    each-append IsCheap (flat_map def_columns (values labels)) _ (each-flat IsCheap def_columns (λ v. defs-cheap v.var v.sort) (values labels)) (
-    each-append IsCheap (all_dirs labels) _ (each-points IsCheap (point_dirs labels) (λ k q. each-flat IsCheap (dir_columns labels (place_words q.place)) (λ u. if-cheap (is_result (sort_of labels u.value)) (map (λ f. (Dir u.point u.operand f, 0)) (role_beginnings (place_words q.place) u.role))
+    each-append IsCheap (flat_map def_columns (values labels)) _ (each-flat IsCheap def_columns (λ v. defs-cheap v.var v.origin) (values labels)) (
+    each-append IsCheap (all_dirs labels) _ (each-points IsCheap (point_dirs labels) (λ k q. each-flat IsCheap (dir_columns labels (place_words q.place)) (λ u. if-cheap (is_result (origin_of labels u.value)) (map (λ f. (Dir u.point u.operand f, 0)) (role_beginnings (place_words q.place) u.role))
     (each-map IsCheap (λ f. (Dir u.point u.operand f, 0)) (λ f. omega arith) (role_beginnings (place_words q.place) u.role))) (point_uses k q)) 0 ps) (
     each-append IsCheap (flat_map (fill_columns labels) (values labels)) _ (each-flat IsCheap (fill_columns labels) (λ v. if-cheap (is_used labels v.var) ((Fill v.var A, 1) ∷ (Fill v.var B, 1) ∷ (Fill v.var M, 17) ∷ []) (omega arith, (omega arith, (omega arith, tt)))) (values labels)) (
-    each-append IsCheap (all_stays labels) _ (each-points IsCheap (point_stays labels) (λ k q. each-flat IsCheap (stay_columns labels (place_words q.place)) (λ v. if-cheap (is_used labels v.var) (map (λ f. (Stay v.var f, 0)) (sort_beginnings (place_words q.place) v.sort))
-    (each-map IsCheap (λ f. (Stay v.var f, 0)) (λ f. omega arith) (sort_beginnings (place_words q.place) v.sort))) (place_values k q.place)) 0 ps) (
+    each-append IsCheap (all_stays labels) _ (each-points IsCheap (point_stays labels) (λ k q. each-flat IsCheap (stay_columns labels (place_words q.place)) (λ v. if-cheap (is_used labels v.var) (map (λ f. (Stay v.var f, 0)) (origin_beginnings (place_words q.place) v.origin))
+    (each-map IsCheap (λ f. (Stay v.var f, 0)) (λ f. omega arith) (origin_beginnings (place_words q.place) v.origin))) (place_values k q.place)) 0 ps) (
     each-append IsCheap (all_ears labels) _ (each-points IsCheap point_ears (λ k q. each-flat IsCheap (ear_columns (place_words q.place)) (λ u. each-map IsCheap (λ f. (Ear u.point u.operand f, 1)) (λ f. omega arith) (role_beginnings (place_words q.place) u.role)) (point_uses k q)) 0 ps) (
     each-append IsCheap (flat_map first_columns (accesses labels)) _ (each-flat IsCheap first_columns (λ a. each-map IsCheap (λ f. (First a.point f, 0)) (λ f. omega arith) (beginnings a.mem a.words)) (accesses labels)) (
     each-append IsCheap (flat_map (srv_columns labels) (uses labels)) _ (each-flat IsCheap (srv_columns labels) (srvs-cheap labels) (uses labels)) (

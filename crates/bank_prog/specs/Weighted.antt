@@ -2,7 +2,7 @@
 -- rows don't depend on the weights.
 use Rattle.std.specs.Prelude.{ℕ, ◌*◌, nat_eq, List, [], ◌∷◌, map, if◌then◌else◌}
 use Rattle.ssu_ir.specs.Tree.{Label}
-use Rattle.slot_placement.specs.Uses.{Value, values}
+use Rattle.placement.specs.Uses.{Value, values}
 use Rattle.label_weights.specs.Weighted.{point_weight}
 use Rattle.zo_model.specs.Contents.{Contents}
 use Rattle.bank_form.specs.declared.column.Column.{Column}

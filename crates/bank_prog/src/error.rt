@@ -10,7 +10,7 @@ use std::alloc::{AllocError, AllocFailed};
 #[derive(Clone, Copy)]
 pub enum BankError {
     NoMemory,
-    /// So many columns, or so many rows, are more than a program may have.
+    /// So many columns, or N rows, are more than a program may have.
     TooLarge(u64),
 }
 

@@ -1,15 +1,20 @@
-//! The 0-1 program that chooses where the values of a program in single-use form stand.
+//! The 0-1 program that chooses where the values of a program in single-use form stand: its columns with their costs, its
+//! rows, and bounds on its size.
 #![tactic(auto)]
 
+mod columns;
 pub mod error;
 pub mod laws;
+mod named;
 pub mod program;
+pub mod size_laws;
 mod weighing;
 
-pub use bank_columns::{column_names, column_numbers};
 pub use bank_form::{
-    Access, Bank, Column, Form, Numbers, Role, Service, Sort, Stop, Tables, Use, Value, form_of,
-    number, services,
+    Access, Bank, Column, Form, Numbers, Origin, PointSummary, Role, Service, Tables, Use, Value,
+    form_of, number, services,
 };
+pub use columns::{columns_of, costs_of};
 pub use error::BankError;
+pub use named::{column_names, column_numbers};
 pub use program::build;

@@ -13,16 +13,16 @@ ghost use Rattle.bank_form.specs.Program.{bank_program, IsTooLarge};
 ghost use Rattle.bank_prog.specs.Weighted.{weighted_program};
 ghost use Rattle.bank_prog.specs.declared.error.BankError.TheVariants.{TooLarge as Exceeds};
 
+use crate::columns::{columns_of, costs_of};
 use crate::error::BankError;
 use crate::weighing::weighted_costs;
-use bank_columns::{columns_of, costs_of};
 use bank_form::column::Column;
 use bank_form::form::{Form, form_of};
 use bank_form::numbers::{COUNT_LIMIT, number_columns};
 use bank_rows::rows_of;
-use held_values::held;
 use label_weights::Weights;
 use ssu_ir::Ssu;
+use ssu_liveness::held;
 use std::alloc::Global;
 use zo_model::ZeroOne;
 
@@ -55,12 +55,12 @@ fn unweighted(
     Ok(ZeroOne { costs, rows })
 }
 
-/// The program of the banks, where so many slots may be used and the labels have these weights.
+/// The program of the banks, where N slots may be used and the labels have these weights.
 ///
 /// # Errors
 ///
 /// `TooLarge` tells the number of columns, else that of rows, where it is above 2^26.
-#[tactic(auto, using(bank_sizes::proofs::FewColumns::columns_few, bank_sizes::proofs::FewRows::rows_few))]
+#[tactic(auto, using(crate::proofs::FewColumns::columns_few, crate::proofs::FewRows::rows_few))]
 pub fn build(alloc: Global, s: &Ssu, slots: u32, w: &Weights) -> Result<ZeroOne, BankError>
     requires single { single (labels_view s.now) ≡ true }
     requires slots { slots ≤ 128 }

@@ -6,7 +6,7 @@ ghost use Rattle.ssu_ir.specs.Points.{points};
 ghost use Rattle.ssu_ir.specs.Tree.{Label};
 ghost use Rattle.ssu_ir.specs.View.{labels_view};
 ghost use Rattle.label_weights.specs.Weighted.{AreWeights, weight_of};
-ghost use Rattle.held_values.specs.inner.Spots.{spot_place};
+ghost use Rattle.ssu_liveness.specs.inner.PointIds.{kind_of_point};
 ghost use Rattle.bank_form.specs.inner.Form.{value_view};
 ghost use Rattle.bank_prog.specs.Weighted.{column_point, point_in, weigh};
 ghost use Rattle.bank_prog.specs.inner.Located.{label_at, labels_behind, known_point, AreLocated};
@@ -15,10 +15,10 @@ ghost use Rattle.ssu_ir.specs.declared.ssu.Ssu as ssu;
 use bank_form::column::Column;
 use bank_form::form::{Form, Value};
 use bank_form::tables::short;
-use held_values::{Spot, spots_of};
 use label_weights::Weights;
 use nv_base::NoMemory;
 use ssu_ir::Ssu;
+use ssu_liveness::{PointId, point_ids_of};
 use std::alloc::Global;
 use std::collections::HashMap;
 
@@ -31,23 +31,27 @@ pub struct Located {
 }
 
 /// The label of a point that follows one of this label.
-fn label_at(spot: Spot, label: u32) -> Result<u32, NoMemory>
-    ensures { IfOk result (λ l. (s : ssu.Ssu) → l ≡ label_at label (spot_place s spot)) }
+fn label_at(point_id: PointId, label: u32) -> Result<u32, NoMemory>
+    ensures { IfOk result (λ l. (s : ssu.Ssu) → l ≡ label_at label (kind_of_point s point_id)) }
 {
-    match spot {
-        Spot::Entry(l) => short(l),
-        Spot::Node(_) => Ok(label),
+    match point_id {
+        PointId::Entry(l) => short(l),
+        PointId::Node(_) => Ok(label),
     }
 }
 
 /// The weights of points in order.
-fn spot_weights(alloc: Global, spots: &[Spot], w: &Weights) -> Result<Vec<u16>, NoMemory>
-    ensures { IfOk result (λ v. (s : ssu.Ssu) → v.items ≡ map (weight_of w.now) (labels_behind 0 (map (spot_place s) spots.now))) }
+fn weights_of_points(
+    alloc: Global,
+    point_ids: &[PointId],
+    w: &Weights,
+) -> Result<Vec<u16>, NoMemory>
+    ensures { IfOk result (λ v. (s : ssu.Ssu) → v.items ≡ map (weight_of w.now) (labels_behind 0 (map (kind_of_point s) point_ids.now))) }
 {
     let mut weights = Vec::new(alloc);
     let mut label = 0;
-    for spot in spots {
-        label = label_at(*spot, label)?;
+    for point_id in point_ids {
+        label = label_at(*point_id, label)?;
         weights.push(w.of(label))?;
     }
     Ok(weights)
@@ -71,9 +75,9 @@ fn locate(alloc: Global, f: &Form<'_>, w: &Weights) -> Result<Located, NoMemory>
     ensures located { IfOk result (AreLocated (labels_view f.now.ssu.now) w.now) }
     ensures weights { IfOk result (λ _. AreWeights w.now) }
 {
-    let spots = spots_of(alloc, f.ssu)?;
+    let point_ids = point_ids_of(alloc, f.ssu)?;
     Ok(Located {
-        weights: spot_weights(alloc, &spots, w)?,
+        weights: weights_of_points(alloc, &point_ids, w)?,
         past: w.of(short(f.ssu.labels.len())?),
         points: points_of(alloc, &f.tables.values)?,
     })

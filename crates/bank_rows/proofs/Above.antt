@@ -7,13 +7,13 @@ use Rattle.std.proofs.lemmas.Bool.{false≢true, le-leb, lt-leb}
 use Rattle.nv_base.specs.Sets.{is_in, all_different}
 use Rattle.nv_base.proofs.Sets.{in-append}
 use Rattle.ssu_ir.specs.Tree.{Lit, Una, Bin, Clone, Read, Write, Tree, Do, If, End, Label, Does, Forks, Ends, step_values}
-use Rattle.ssu_ir.specs.Points.{Names, own, names_after, Place, Entry, At, Point, place_values, nodes, tree_points, label_points, points_from}
+use Rattle.ssu_ir.specs.Points.{Names, own, names_after, PointKind, Entry, At, Point, place_values, nodes, tree_points, label_points, points_from}
 use Rattle.ssu_ir.proofs.PointLemmas.{length-tree_points}
-use Rattle.slot_placement.specs.Uses as pure
-use Rattle.slot_placement.specs.Uses.{Sort, Parameter, Fetched, numbered, values_from}
-use Rattle.held_values.specs.inner.Numbers.{values_among}
-use Rattle.held_values.proofs.Scoped.{split-different}
-use Rattle.place_checks.proofs.Seen.{and-true', same-order}
+use Rattle.placement.specs.Uses as pure
+use Rattle.placement.specs.Uses.{ValueOrigin, Parameter, Fetched, numbered, values_from}
+use Rattle.ssu_liveness.specs.inner.Numbers.{values_among}
+use Rattle.ssu_liveness.proofs.Scoped.{split-different}
+use Rattle.placement_checks.proofs.Seen.{and-true', same-order}
 use Rattle.bank_rows.specs.inner.Waiting.{point_in, covers}
 
 -- ---- truth values
@@ -144,12 +144,12 @@ all-tested x n (l ∷ ls) j =
 
 -- ---- the point that defines a value
 
-numbered-in : (j : ℕ) (sort : ℕ → Sort) (i : ℕ) (xs : List ℕ) (rest : List pure.Value) (x : ℕ) → point_in (numbered j sort i xs ++ rest) x ≡ (if is_in x xs then Some j else point_in rest x)
-numbered-in j sort i [] rest x = refl
-numbered-in j sort i (y ∷ ys) rest x = pick (nat_eq y x) (nat_eq x y) (same-order y x) (numbered-in j sort (suc i) ys rest x)
+numbered-in : (j : ℕ) (origin : ℕ → ValueOrigin) (i : ℕ) (xs : List ℕ) (rest : List pure.Value) (x : ℕ) → point_in (numbered j origin i xs ++ rest) x ≡ (if is_in x xs then Some j else point_in rest x)
+numbered-in j origin i [] rest x = refl
+numbered-in j origin i (y ∷ ys) rest x = pick (nat_eq y x) (nat_eq x y) (same-order y x) (numbered-in j origin (suc i) ys rest x)
   where
-    pick : (a b : Bool) → a ≡ b → point_in (numbered j sort (suc i) ys ++ rest) x ≡ (if is_in x ys then Some j else point_in rest x)
-        → (if a then Some j else point_in (numbered j sort (suc i) ys ++ rest) x) ≡ (if b || is_in x ys then Some j else point_in rest x)
+    pick : (a b : Bool) → a ≡ b → point_in (numbered j origin (suc i) ys ++ rest) x ≡ (if is_in x ys then Some j else point_in rest x)
+        → (if a then Some j else point_in (numbered j origin (suc i) ys ++ rest) x) ≡ (if b || is_in x ys then Some j else point_in rest x)
     pick true true e h = refl
     pick false false e h = h
     pick true false e h = absurd (false≢true (sym e))
@@ -158,7 +158,7 @@ numbered-in j sort i (y ∷ ys) rest x = pick (nat_eq y x) (nat_eq x y) (same-or
 one-in : (j y : ℕ) (rest : Option ℕ) (x : ℕ) → (if nat_eq y x then Some j else rest) ≡ (if nat_eq x y || false then Some j else rest)
 one-in j y rest x = ap (λ b. if b then Some j else rest) (same-order y x ∙ sym (or-false (nat_eq x y)))
 
-place-in : (j : ℕ) (p : Place) (rest : List pure.Value) (x : ℕ) → point_in (pure.place_values j p ++ rest) x ≡ (if is_in x (place_values p) then Some j else point_in rest x)
+place-in : (j : ℕ) (p : PointKind) (rest : List pure.Value) (x : ℕ) → point_in (pure.place_values j p ++ rest) x ≡ (if is_in x (place_values p) then Some j else point_in rest x)
 place-in j (Entry l params) rest x = numbered-in j (Parameter l) 0 params rest x
 place-in j (At (Does (Lit v n))) rest x = one-in j v (point_in rest x) x
 place-in j (At (Does (Una v op y))) rest x = one-in j v (point_in rest x) x

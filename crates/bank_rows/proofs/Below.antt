@@ -1,7 +1,7 @@
--- How many points lie below each, by those of the points behind it.
+-- How many points lie below each, by those of the points after it.
 use Rattle.std.proofs.Common.{◌≡◌, ℕ, zero, suc, ◌+◌, ◌<◌, ◌≤◌, List, [], ◌∷◌, ◌++◌, length, map, get_or, set, refl, sym, ap, subst, ◌∙◌, append_assoc, arith}
 use Rattle.ssu_ir.specs.Tree.{Tree, Do, If, End, Label, step_values}
-use Rattle.ssu_ir.specs.Points.{Names, own, names_after, Place, Point, nodes, tree_points, points_from, points}
+use Rattle.ssu_ir.specs.Points.{Names, own, names_after, PointKind, Point, nodes, tree_points, points_from, points}
 use Rattle.ssu_ir.proofs.PointLemmas.{length-tree_points}
 use Rattle.std.proofs.lemmas.List.{get_or-set_same, get_or-set_other}
 use Rattle.bank_rows.specs.inner.Waiting.{arms, below_at}
@@ -19,7 +19,7 @@ past [] k h = refl
 past (x ∷ xs) zero h = absurd (omega arith)
 past (x ∷ xs) (suc k) h = past xs k (omega (arith, h))
 
--- what lies behind a point agrees
+-- what lies after a point agrees
 pub below-same : (n : ℕ) (f g : ℕ → ℕ) (k : ℕ) → ((j : ℕ) → k < j → f j ≡ g j) → below_at n f k ≡ below_at n g k
 below-same zero f g k h = refl
 below-same (suc zero) f g k h = ap (λ b. 1 + b) (h (k + 1) (omega arith))
@@ -82,12 +82,12 @@ labels-sized : (n : ℕ) (ls : List Label) → Sized (points_from n ls)
 labels-sized n [] = tt
 labels-sized n (l ∷ ls) = (first-below own l.params l.body (points_from (suc n) ls), tree-sized own l.params l.body (points_from (suc n) ls) (labels-sized (suc n) ls))
 
-sized-at : (ps : List Point) (k : ℕ) (p : Place) → Sized ps → k < length ps → p ≡ get_or (map (λ q. q.place) ps) k p → from_list (counts ps) k ≡ below_at (arms p) (from_list (counts ps)) k
+sized-at : (ps : List Point) (k : ℕ) (p : PointKind) → Sized ps → k < length ps → p ≡ get_or (map (λ q. q.place) ps) k p → from_list (counts ps) k ≡ below_at (arms p) (from_list (counts ps)) k
 sized-at [] k p h l e = absurd (omega arith)
 sized-at (q ∷ ps) zero p h l e = h.0 ∙ ap (λ z. below_at (arms z) (from_list (counts (q ∷ ps))) 0) (sym e)
 sized-at (q ∷ ps) (suc k) p h l e = sized-at ps k p h.1 (omega (arith, l)) e ∙ sym (shifted (arms p) q.below (counts ps) k)
 
-pub points-sized : (labels : List Label) (k : ℕ) (p : Place) → k < length (points labels) → p ≡ get_or (map (λ q. q.place) (points labels)) k p
+pub points-sized : (labels : List Label) (k : ℕ) (p : PointKind) → k < length (points labels) → p ≡ get_or (map (λ q. q.place) (points labels)) k p
     → from_list (counts (points labels)) k ≡ below_at (arms p) (from_list (counts (points labels))) k
 points-sized labels k p l e = sized-at (points labels) k p (labels-sized 0 labels) l e
 

@@ -5,12 +5,12 @@ use Rattle.std.proofs.lemmas.Bool.{and_parts, false≢true, false_from_ne_true, 
 use Rattle.std.proofs.lemmas.Grind.{flat_map-append}
 use Rattle.nv_base.specs.Sets.{is_in, all_different}
 use Rattle.ssu_ir.specs.Points.{Point, place_values}
-use Rattle.ssu_ir.proofs.Held.{in-left, in-right}
-use Rattle.slot_placement.specs.Uses.{Value, Role, Use, uses_at}
-use Rattle.held_values.specs.inner.Numbers.{values_among}
-use Rattle.held_values.proofs.Scoped.{in-itself, split-different}
-use Rattle.slot_placement.proofs.Sound.{Each, each-append}
-use Rattle.slot_placement.proofs.Spilled.{each-weaker}
+use Rattle.ssu_ir.proofs.Liveness.{in-left, in-right}
+use Rattle.placement.specs.Uses.{Value, Role, Use, uses_at}
+use Rattle.ssu_liveness.specs.inner.Numbers.{values_among}
+use Rattle.ssu_liveness.proofs.Scoped.{in-itself, split-different}
+use Rattle.placement.proofs.Sound.{Each, each-append}
+use Rattle.placement.proofs.Spilled.{each-weaker}
 use Rattle.bank_form.specs.declared.column.Column.{Column}
 use Rattle.bank_form.specs.Columns.{Priced, each_point}
 use Rattle.bank_form.specs.Program.{same_column}

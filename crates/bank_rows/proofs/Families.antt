@@ -7,23 +7,23 @@ use Rattle.std.proofs.lemmas.List.{append-nil}
 use Rattle.nv_base.specs.declared.term.Mem.{Mem}
 use Rattle.nv_base.specs.Sets.{is_in, all_different}
 use Rattle.ssu_ir.specs.Tree.{Lit, Una, Bin, Clone, Read, Write, Label, Does, Forks, Ends}
-use Rattle.ssu_ir.specs.Points.{Place, Entry, At, Point, place_values, points}
+use Rattle.ssu_ir.specs.Points.{PointKind, Entry, At, Point, place_values, points}
 use Rattle.ssu_ir.specs.Single.{single, is_entry, is_single, all_defined}
-use Rattle.slot_placement.specs.Uses as pure
-use Rattle.slot_placement.specs.Uses.{Access, Sort, Parameter, Result, Fetched, Value, values, Role, Operand, Address, Written, Argument, Ending, Use, uses, uses_at, place_roles, is_used, accesses, place_accesses}
-use Rattle.slot_placement.specs.Fits.{is_result}
-use Rattle.held_values.specs.inner.Numbers.{values_among}
-use Rattle.held_values.proofs.Scoped.{different-filter}
-use Rattle.held_values.proofs.Numbering.{places-of-labels, different-labels}
-use Rattle.slot_placement.proofs.Sound.{Each, each-append}
-use Rattle.slot_placement.proofs.Spilled.{each-weaker}
-use Rattle.slot_placement.proofs.Fitting.{values-are, vars-of-place}
+use Rattle.placement.specs.Uses as pure
+use Rattle.placement.specs.Uses.{Access, ValueOrigin, Parameter, Result, Fetched, Value, values, Role, Operand, Address, Written, Argument, Ending, Use, uses, uses_at, place_roles, is_used, accesses, place_accesses}
+use Rattle.placement.specs.Fits.{is_result}
+use Rattle.ssu_liveness.specs.inner.Numbers.{values_among}
+use Rattle.ssu_liveness.proofs.Scoped.{different-filter}
+use Rattle.ssu_liveness.proofs.Numbering.{places-of-labels, different-labels}
+use Rattle.placement.proofs.Sound.{Each, each-append}
+use Rattle.placement.proofs.Spilled.{each-weaker}
+use Rattle.placement.proofs.Fitting.{values-are, vars-of-place}
 use Rattle.bank_form.specs.declared.column.Bank.{Bank}
 use Rattle.bank_form.specs.declared.column.Bank.TheVariants.{A, B, M, T, L, A15, W}
 use Rattle.bank_form.specs.declared.column.Column.{Column}
 use Rattle.bank_form.specs.declared.column.Column.TheVariants.{Def, Dir, Fill, Stay, Ear, First, Srv, PasL, PasS}
 use Rattle.bank_form.specs.declared.column.Service.{Service}
-use Rattle.bank_form.specs.Columns.{Priced, sort_of, is_fetched, point_uses, place_words, eight, may_begin, beginnings, role_beginnings, sort_beginnings, sort_defs, def_columns, dir_columns, point_dirs, fill_columns, stay_columns, point_stays, ear_columns, point_ears, first_columns, services, has_bank, srv_columns, for_eight, pas_l_columns, pas_s_columns, all_dirs, all_stays, all_ears, all_pas_l, all_pas_s, priced}
+use Rattle.bank_form.specs.Columns.{Priced, origin_of, is_fetched, point_uses, place_words, eight, may_begin, beginnings, role_beginnings, origin_beginnings, origin_defs, def_columns, dir_columns, point_dirs, fill_columns, stay_columns, point_stays, ear_columns, point_ears, first_columns, services, has_bank, srv_columns, for_eight, pas_l_columns, pas_s_columns, all_dirs, all_stays, all_ears, all_pas_l, all_pas_s, priced}
 use Rattle.bank_form.proofs.Tabled.{uses-each, accesses-each}
 use Rattle.bank_rows.proofs.Distinct.{Distinct, each-flat, each-points, each-map, flat-points, join, by-keys, by-register, by-point, by-use, uses-point, values-in, by-value, by-definition}
 
@@ -93,10 +93,10 @@ role-beginnings n (Written m i) = some-beginnings m n
 role-beginnings n (Argument l i) = refl
 role-beginnings n (Ending i) = refl
 
-sort-beginnings : (n : ℕ) (s : Sort) → all_different (sort_beginnings n s) ≡ true
-sort-beginnings n (Parameter l i) = refl
-sort-beginnings n Result = refl
-sort-beginnings n (Fetched m i) = some-beginnings m n
+origin-beginnings : (n : ℕ) (s : ValueOrigin) → all_different (origin_beginnings n s) ≡ true
+origin-beginnings n (Parameter l i) = refl
+origin-beginnings n Result = refl
+origin-beginnings n (Fetched m i) = some-beginnings m n
 
 abbrev service_spot : Service → ℕ
 service_spot s = 7 * bank_number s.from + bank_number s.at
@@ -128,22 +128,22 @@ kept-different p (s ∷ ss) h =
 
 -- ---- values
 
-defs-var : (x : ℕ) (s : Sort) → Each (λ p. var_of p.0 ≡ x) (sort_defs x s)
+defs-var : (x : ℕ) (s : ValueOrigin) → Each (λ p. var_of p.0 ≡ x) (origin_defs x s)
 defs-var x (Parameter zero i) = (refl, (refl, (refl, tt)))
 defs-var x (Parameter (suc l) i) = (refl, (refl, (refl, tt)))
 defs-var x Result = (refl, (refl, (refl, tt)))
 defs-var x (Fetched m i) = tt
 
-defs-family : (x : ℕ) (s : Sort) → Each (λ p. family p.0 ≡ 0) (sort_defs x s)
+defs-family : (x : ℕ) (s : ValueOrigin) → Each (λ p. family p.0 ≡ 0) (origin_defs x s)
 defs-family x (Parameter zero i) = (refl, (refl, (refl, tt)))
 defs-family x (Parameter (suc l) i) = (refl, (refl, (refl, tt)))
 defs-family x Result = (refl, (refl, (refl, tt)))
 defs-family x (Fetched m i) = tt
 
-defs-distinct : (x : ℕ) (s : Sort) → Distinct (sort_defs x s)
-defs-distinct x (Parameter zero i) = by-keys spot_of (sort_defs x (Parameter zero i)) refl
-defs-distinct x (Parameter (suc l) i) = by-keys spot_of (sort_defs x (Parameter (suc l) i)) refl
-defs-distinct x Result = by-keys spot_of (sort_defs x Result) refl
+defs-distinct : (x : ℕ) (s : ValueOrigin) → Distinct (origin_defs x s)
+defs-distinct x (Parameter zero i) = by-keys spot_of (origin_defs x (Parameter zero i)) refl
+defs-distinct x (Parameter (suc l) i) = by-keys spot_of (origin_defs x (Parameter (suc l) i)) refl
+defs-distinct x Result = by-keys spot_of (origin_defs x Result) refl
 defs-distinct x (Fetched m i) = tt
 
 abbrev three_fills : ℕ → Bool → List Priced
@@ -174,13 +174,13 @@ chosen-distinct true make rs h d = by-register spot_of make h rs d
 chosen-distinct false make rs h d = tt
 
 stays-distinct : (labels : List Label) (n : ℕ) (v : Value) → Distinct (stay_columns labels n v)
-stays-distinct labels n v = chosen-distinct (is_used labels v.var) (λ f. (Stay v.var f, 0)) (sort_beginnings n v.sort) (λ r. refl) (sort-beginnings n v.sort)
+stays-distinct labels n v = chosen-distinct (is_used labels v.var) (λ f. (Stay v.var f, 0)) (origin_beginnings n v.origin) (λ r. refl) (origin-beginnings n v.origin)
 
 stays-var : (labels : List Label) (n : ℕ) (v : Value) → Each (λ p. var_of p.0 ≡ v.var) (stay_columns labels n v)
-stays-var labels n v = chosen-each (λ p. var_of p.0 ≡ v.var) (is_used labels v.var) (λ f. (Stay v.var f, 0)) (sort_beginnings n v.sort) (λ r. refl)
+stays-var labels n v = chosen-each (λ p. var_of p.0 ≡ v.var) (is_used labels v.var) (λ f. (Stay v.var f, 0)) (origin_beginnings n v.origin) (λ r. refl)
 
 stays-family : (labels : List Label) (n : ℕ) (v : Value) → Each (λ p. family p.0 ≡ 3) (stay_columns labels n v)
-stays-family labels n v = chosen-each (λ p. family p.0 ≡ 3) (is_used labels v.var) (λ f. (Stay v.var f, 0)) (sort_beginnings n v.sort) (λ r. refl)
+stays-family labels n v = chosen-each (λ p. family p.0 ≡ 3) (is_used labels v.var) (λ f. (Stay v.var f, 0)) (origin_beginnings n v.origin) (λ r. refl)
 
 stays-values : (labels : List Label) (k : ℕ) (q : Point) → Each (λ p. is_in (var_of p.0) (place_values q.place) ≡ true) (point_stays labels k q)
 stays-values labels k q =
@@ -194,10 +194,10 @@ stays-point labels k q d =
 -- ---- uses
 
 dirs-each : (P : Priced → Type 0) (labels : List Label) (n : ℕ) (u : Use) → ((f : ℕ) → P (Dir u.point u.operand f, 0)) → Each P (dir_columns labels n u)
-dirs-each P labels n u h = chosen-each P (is_result (sort_of labels u.value)) (λ f. (Dir u.point u.operand f, 0)) (role_beginnings n u.role) h
+dirs-each P labels n u h = chosen-each P (is_result (origin_of labels u.value)) (λ f. (Dir u.point u.operand f, 0)) (role_beginnings n u.role) h
 
 dirs-distinct : (labels : List Label) (n : ℕ) (u : Use) → Distinct (dir_columns labels n u)
-dirs-distinct labels n u = chosen-distinct (is_result (sort_of labels u.value)) (λ f. (Dir u.point u.operand f, 0)) (role_beginnings n u.role) (λ r. refl) (role-beginnings n u.role)
+dirs-distinct labels n u = chosen-distinct (is_result (origin_of labels u.value)) (λ f. (Dir u.point u.operand f, 0)) (role_beginnings n u.role) (λ r. refl) (role-beginnings n u.role)
 
 dirs-point : (labels : List Label) (k : ℕ) (q : Point) → Each (λ p. point_of p.0 ≡ k) (point_dirs labels k q)
 dirs-point labels k q =
@@ -223,17 +223,17 @@ ears-at k q =
 abbrev at_service : Use → Service → Priced
 at_service u s = (Srv u.point u.operand s.from s.at, s.cost)
 
-spots-of-services : (u : Use) (ss : List Service) → map (λ p. spot_of p.0) (map (at_service u) ss) ≡ map service_spot ss
-spots-of-services u [] = refl
-spots-of-services u (s ∷ ss) = ap (λ xs. service_spot s ∷ xs) (spots-of-services u ss)
+point_ids-of-services : (u : Use) (ss : List Service) → map (λ p. spot_of p.0) (map (at_service u) ss) ≡ map service_spot ss
+point_ids-of-services u [] = refl
+point_ids-of-services u (s ∷ ss) = ap (λ xs. service_spot s ∷ xs) (point_ids-of-services u ss)
 
 srvs-each : (P : Priced → Type 0) (labels : List Label) (u : Use) → ((s : Service) → P (at_service u s)) → Each P (srv_columns labels u)
-srvs-each P labels u h = each-map P (at_service u) h (filter (λ s. has_bank (is_fetched (sort_of labels u.value)) s.from) (services u.role))
+srvs-each P labels u h = each-map P (at_service u) h (filter (λ s. has_bank (is_fetched (origin_of labels u.value)) s.from) (services u.role))
 
 srvs-distinct : (labels : List Label) (u : Use) → Distinct (srv_columns labels u)
 srvs-distinct labels u =
-    let p = λ (s : Service). has_bank (is_fetched (sort_of labels u.value)) s.from in
-    by-keys spot_of (srv_columns labels u) (ap all_different (spots-of-services u (filter p (services u.role))) ∙ kept-different p (services u.role) (all-services u.role))
+    let p = λ (s : Service). has_bank (is_fetched (origin_of labels u.value)) s.from in
+    by-keys spot_of (srv_columns labels u) (ap all_different (point_ids-of-services u (filter p (services u.role))) ∙ kept-different p (services u.role) (all-services u.role))
 
 abbrev point_srvs : List Label → ℕ → Point → List Priced
 point_srvs labels k q = flat_map (srv_columns labels) (uses_at k 0 q.uses (place_roles q.place))
@@ -252,10 +252,10 @@ firsts-distinct a = subst Distinct (sym (append-nil (first_columns a))) (by-regi
 firsts-each : (P : Priced → Type 0) (a : Access) → ((f : ℕ) → P (First a.point f, 0)) → Each P (first_columns a)
 firsts-each P a h = each-map P (λ f. (First a.point f, 0)) h (beginnings a.mem a.words)
 
-abbrev point_firsts : ℕ → Place → List Priced
+abbrev point_firsts : ℕ → PointKind → List Priced
 point_firsts k p = flat_map first_columns (place_accesses k p)
 
-firsts-at : (k : ℕ) (p : Place) → Distinct (point_firsts k p)
+firsts-at : (k : ℕ) (p : PointKind) → Distinct (point_firsts k p)
 firsts-at k (Entry l params) = tt
 firsts-at k (At (Does (Lit v n))) = tt
 firsts-at k (At (Does (Una v op y))) = tt
@@ -269,7 +269,7 @@ firsts-at k (At (Ends l)) = tt
 alone : (k : ℕ) (m : Mem) (n : ℕ) → Each (λ p. point_of p.0 ≡ k) (first_columns (record { point = k; mem = m; words = n }) ++ [])
 alone k m n = each-append (λ p. point_of p.0 ≡ k) (first_columns (record { point = k; mem = m; words = n })) [] (firsts-each (λ p. point_of p.0 ≡ k) (record { point = k; mem = m; words = n }) (λ f. refl)) tt
 
-firsts-point : (k : ℕ) (p : Place) → Each (λ p. point_of p.0 ≡ k) (point_firsts k p)
+firsts-point : (k : ℕ) (p : PointKind) → Each (λ p. point_of p.0 ≡ k) (point_firsts k p)
 firsts-point k (Entry l params) = tt
 firsts-point k (At (Does (Lit v n))) = tt
 firsts-point k (At (Does (Una v op y))) = tt
@@ -342,6 +342,6 @@ priced-distinct labels h =
     (by-value var_of (fill_columns labels) (λ v. fills-var v.var (is_used labels v.var)) (λ v. fills-distinct v.var (is_used labels v.var)) (values labels) vars) stay in
     let dir = before 1 (all_dirs labels) _ (each-points (λ p. family p.0 ≡ 1) (point_dirs labels) (λ k q. each-flat (λ p. family p.0 ≡ 1) (dir_columns labels (place_words q.place)) (λ u. dirs-each (λ p. family p.0 ≡ 1) labels (place_words q.place) u (λ f. refl)) (point_uses k q)) 0 ps)
     (by-point point_of (point_dirs labels) (dirs-point labels) (dirs-at labels) 0 ps) fill in
-    let def = before 0 (flat_map def_columns (values labels)) _ (each-flat (λ p. family p.0 ≡ 0) def_columns (λ v. defs-family v.var v.sort) (values labels))
-    (by-value var_of def_columns (λ v. defs-var v.var v.sort) (λ v. defs-distinct v.var v.sort) (values labels) vars) dir in
+    let def = before 0 (flat_map def_columns (values labels)) _ (each-flat (λ p. family p.0 ≡ 0) def_columns (λ v. defs-family v.var v.origin) (values labels))
+    (by-value var_of def_columns (λ v. defs-var v.var v.origin) (λ v. defs-distinct v.var v.origin) (values labels) vars) dir in
     def.distinct

@@ -1,4 +1,4 @@
--- Rows of reads: what is held behind a read is held at the next point.
+-- Rows of reads: what is held after a read is live at the next point.
 use Rattle.std.proofs.Common.{◌≡◌, ℕ, zero, suc, ◌+◌, ◌<◌, ◌≤◌, Bool, true, false, if◌then◌else◌, List, [], ◌∷◌, ◌++◌, map, length, drop, get_or, refl, sym, ap, subst, ◌∙◌, append_assoc, arith, pos, neg_ℤ}
 use Rattle.std.specs.List.{flat_map, AllZip}
 use Rattle.std.proofs.lemmas.Bool.{false≢true}
@@ -7,11 +7,11 @@ use Rattle.nv_base.specs.Sets.{is_in, all_different, Within, without}
 use Rattle.zo_model.specs.declared.program.Row.{Row}
 use Rattle.zo_model.specs.Contents.{RowContents, row_contents}
 use Rattle.ssu_ir.specs.Tree.{Lit, Una, Bin, Clone, Read, Write, Tree, Do, If, End, Label, Does, Forks, Ends, step_values}
-use Rattle.ssu_ir.specs.Points.{Names, own, names_after, held, Place, Entry, At, Point, tree_points, points_from, points}
-use Rattle.held_values.specs.Held.{Kept, IsRow, items_of}
-use Rattle.slot_placement.specs.Uses as pure
-use Rattle.slot_placement.specs.Uses.{reads_at}
-use Rattle.slot_placement.specs.Fits.{point_values}
+use Rattle.ssu_ir.specs.Points.{Names, own, names_after, live_of, PointKind, Entry, At, Point, tree_points, points_from, points}
+use Rattle.ssu_liveness.specs.LiveRows.{Kept, IsRow, items_of}
+use Rattle.placement.specs.Uses as pure
+use Rattle.placement.specs.Uses.{reads_at}
+use Rattle.placement.specs.Fits.{point_values}
 use Rattle.bank_form.specs.declared.column.Column.{Column}
 use Rattle.bank_form.specs.Columns.{each_point, eight}
 use Rattle.bank_form.specs.Rows.{at_most, stays_at, covering, is_sdram, access_owners, fill_owners}
@@ -46,9 +46,9 @@ pub fills-all : {V : Type 0} (number : Numbers) (labels : List Label) (view : V 
 fills-all number labels view xs i now rows goal l h =
     sym (append-nil (map row_contents rows)) ∙ sym (at_drop_all (λ ys. map row_contents rows ++ map (row_of number) (fills labels (map view ys) now)) xs i l) ∙ h
 
--- ---- what is held behind a read
+-- ---- what is held after a read
 
-abbrev pub is_read : Place → Bool
+abbrev pub is_read : PointKind → Bool
 is_read (Entry l ps) = false
 is_read (At (Does (Lit x v))) = false
 is_read (At (Does (Una x op y))) = false
@@ -67,7 +67,7 @@ abbrev pub Chained : List Point → Type 0
 Chained [] = Unit {0}
 Chained (q ∷ ps) = (is_read q.place ≡ true → After q.after ps) × Chained ps
 
-head-after : (of : Names) (above : List ℕ) (t : Tree) (ps : List Point) → After (held of above t) (tree_points of above t ++ ps)
+head-after : (of : Names) (above : List ℕ) (t : Tree) (ps : List Point) → After (live_of of above t) (tree_points of above t ++ ps)
 head-after of above (Do s t) ps = refl
 head-after of above (If c x y t u) ps = refl
 head-after of above (End l) ps = refl
@@ -140,7 +140,7 @@ reads-same number labels gone row xs (a ∷ as') h =
     ∙ ap (λ zs. map (row_of number) (access_owners labels (without xs gone) a) ++ zs) (reads-same number labels gone row xs as' h)
     ∙ sym (map-append (row_of number) (access_owners labels (without xs gone) a) (flat_map (access_owners labels (without xs gone)) as'))
 
-place-same : (number : Numbers) (labels : List Label) (k : ℕ) (gone row xs : List ℕ) (q : Place) → (is_read q ≡ true → Similar row xs)
+place-same : (number : Numbers) (labels : List Label) (k : ℕ) (gone row xs : List ℕ) (q : PointKind) → (is_read q ≡ true → Similar row xs)
     → map (row_of number) (flat_map (access_owners labels (flat_map (other gone) row)) (reads_at k q)) ≡ map (row_of number) (flat_map (access_owners labels (without xs gone)) (reads_at k q))
 place-same number labels k gone row xs (Entry l ps) h = refl
 place-same number labels k gone row xs (At (Does (Lit x v))) h = refl

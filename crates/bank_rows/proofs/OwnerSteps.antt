@@ -6,7 +6,7 @@ use Rattle.zo_model.specs.declared.program.Row.{Row}
 use Rattle.zo_model.specs.Contents.{RowContents, row_contents}
 use Rattle.ssu_ir.specs.Tree.{Label}
 use Rattle.ssu_ir.specs.Points.{Point}
-use Rattle.held_values.specs.Held.{Kept, IsRow, items_of}
+use Rattle.ssu_liveness.specs.LiveRows.{Kept, IsRow, items_of}
 use Rattle.bank_form.specs.declared.column.Column.TheVariants.{PasL}
 use Rattle.bank_form.specs.Columns.{each_point, eight}
 use Rattle.bank_form.specs.Rows.{Line, at_most, stays_at, read_owners}

@@ -6,14 +6,14 @@ use Rattle.std.proofs.lemmas.List.Elements.{All-map}
 use Rattle.std.proofs.lemmas.List.{length-map}
 use Rattle.nv_base.specs.Sets.{is_in, all_different, without}
 use Rattle.ssu_ir.specs.Tree.{Lit, Una, Bin, Clone, Read, Write, Label, Does, Forks, Ends}
-use Rattle.ssu_ir.specs.Points.{Place, Entry, At, Point, points, IsHeld}
+use Rattle.ssu_ir.specs.Points.{PointKind, Entry, At, Point, points, IsLive}
 use Rattle.ssu_ir.specs.Single.{single}
-use Rattle.ssu_ir.proofs.Held.{points_held}
-use Rattle.slot_placement.specs.Uses.{Access, accesses, reads_at, writes_at, Sort, Parameter, Result, Fetched, Value, values, place_values, Role, Operand, Address, Written, Argument, Ending, Use, uses, uses_from, uses_at, place_roles, uses_of, is_used}
-use Rattle.slot_placement.specs.Fits.{is_result, parameter, point_values}
-use Rattle.held_values.proofs.Scoped.{in-itself, different-filter, different-without}
-use Rattle.slot_placement.proofs.Sound.{Each, each-append}
-use Rattle.slot_placement.proofs.Spilled.{each-all, all-each, each-weaker}
+use Rattle.ssu_ir.proofs.Liveness.{points_held}
+use Rattle.placement.specs.Uses.{Access, accesses, reads_at, writes_at, ValueOrigin, Parameter, Result, Fetched, Value, values, place_values, Role, Operand, Address, Written, Argument, Ending, Use, uses, uses_from, uses_at, place_roles, uses_of, is_used}
+use Rattle.placement.specs.Fits.{is_result, parameter, point_values}
+use Rattle.ssu_liveness.proofs.Scoped.{in-itself, different-filter, different-without}
+use Rattle.placement.proofs.Sound.{Each, each-append}
+use Rattle.placement.proofs.Spilled.{each-all, all-each, each-weaker}
 use Rattle.zo_model.specs.declared.program.ZeroOne.{ZeroOne}
 use Rattle.zo_model.specs.Contents.{contents}
 use Rattle.zo_model.specs.Program.{IsValid}
@@ -24,8 +24,8 @@ use Rattle.bank_form.specs.declared.column.Bank.TheVariants.{A, B, M, T, L, A15,
 use Rattle.bank_form.specs.declared.column.Column.{Column}
 use Rattle.bank_form.specs.declared.column.Column.TheVariants.{Def, Dir, Fill, Stay, Ear, First, Srv, PasL, PasS}
 use Rattle.bank_form.specs.declared.column.Service.{Service}
-use Rattle.bank_form.specs.Columns.{each_point, sort_of, is_fetched, eight, point_uses, place_words, beginnings, role_beginnings, sort_beginnings, services, has_bank, Priced, sort_defs, def_columns, dir_columns, point_dirs, fill_columns, stay_columns, point_stays, ear_columns, point_ears, first_columns, srv_columns, for_eight, pas_l_columns, pas_s_columns, all_dirs, all_stays, all_ears, all_pas_l, all_pas_s, priced, columns, costs}
-use Rattle.bank_form.specs.Rows.{Line, at_most, covers, exactly_one, homes, def, home, stay, srv, srv_from, srv_at, dir, ear, is_parameter, is_written, parameter_choice, result_choice, access_choice, early, use_choice, one_choice, served_home, served_stay, use_stay, use_cover, in_register, fill, word_from_register, copy_lines, copy_cover, at_home, argument_lines, argument_cover, homes_cover, two_operands, both_at, pair_lines, operand_lines, operand_banks, held_in, room_lines, capacity, is_sdram, same_side, run_at, sort_stays, stays_at, role_early, early_at, covering, side_covering, waiting, read_owners, access_owners, fill_owners, side_owners, write_owners, owners, stay_begins, word_begins, begins_at, adjacency, is_slot, slot_read, slot_written, result_written, value_written, passes, lines}
+use Rattle.bank_form.specs.Columns.{each_point, origin_of, is_fetched, eight, point_uses, place_words, beginnings, role_beginnings, origin_beginnings, services, has_bank, Priced, origin_defs, def_columns, dir_columns, point_dirs, fill_columns, stay_columns, point_stays, ear_columns, point_ears, first_columns, srv_columns, for_eight, pas_l_columns, pas_s_columns, all_dirs, all_stays, all_ears, all_pas_l, all_pas_s, priced, columns, costs}
+use Rattle.bank_form.specs.Rows.{Line, at_most, covers, exactly_one, homes, def, home, stay, srv, srv_from, srv_at, dir, ear, is_parameter, is_written, parameter_choice, result_choice, access_choice, early, use_choice, one_choice, served_home, served_stay, use_stay, use_cover, in_register, fill, word_from_register, copy_lines, copy_cover, at_home, argument_lines, argument_cover, homes_cover, two_operands, both_at, pair_lines, operand_lines, operand_banks, live_in, room_lines, capacity, is_sdram, same_side, run_at, origin_stays, stays_at, role_early, early_at, covering, side_covering, waiting, read_owners, access_owners, fill_owners, side_owners, write_owners, owners, stay_begins, word_begins, begins_at, adjacency, is_slot, slot_read, slot_written, result_written, value_written, passes, lines}
 use Rattle.bank_form.specs.Program as program
 use Rattle.bank_form.specs.Program.{same_column, bank_program}
 use Rattle.bank_rows.proofs.Distinct.{each-flat, each-points, each-map, apart-property}
@@ -195,7 +195,7 @@ if-plain false ls h = tt
 -- ---- 1. one choice
 
 parameter-plain : (v : Value) → Each IsPlain (parameter_choice v)
-parameter-plain v = if-plain (is_parameter v.sort) (exactly_one (def v.var)) (one-plain (def v.var) (keys-differ tag (def v.var) refl))
+parameter-plain v = if-plain (is_parameter v.origin) (exactly_one (def v.var)) (one-plain (def v.var) (keys-differ tag (def v.var) refl))
 
 dirs-of : (u : Use) → Each (OfUse u) (dir u)
 dirs-of u = each-map (OfUse u) (Dir u.point u.operand) (λ f. (refl, refl)) eight
@@ -214,7 +214,7 @@ result-differ labels x =
 result-plain : (labels : List Label) (v : Value) → Each IsPlain (result_choice labels v)
 result-plain labels v =
     let cs = def v.var ++ flat_map dir (uses_of labels v.var) in
-    if-plain (is_result v.sort) (exactly_one cs) (one-plain cs (result-differ labels v.var))
+    if-plain (is_result v.origin) (exactly_one cs) (one-plain cs (result-differ labels v.var))
 
 access-plain : (a : Access) → Each IsPlain (access_choice a)
 access-plain a = one-plain (map (First a.point) eight) (keys-differ tag (map (First a.point) eight) refl)
@@ -259,7 +259,7 @@ stayed-plain u = covers-plain (stay u.value) (srv_from u.point u.operand T) (key
 cover-plain : (labels : List Label) (u : Use) → Each IsPlain (use_cover labels u)
 cover-plain labels u =
     each-append IsPlain (map (served_home u) homes) (use_stay labels u) (each-map IsPlain (served_home u) (served-plain u) homes)
-    (if-plain (is_fetched (sort_of labels u.value)) (served_stay u ∷ []) (stayed-plain u, tt))
+    (if-plain (is_fetched (origin_of labels u.value)) (served_stay u ∷ []) (stayed-plain u, tt))
 
 home-tags : (x : ℕ) (h : Bank) → all_different (map tag (home x h)) ≡ true
 home-tags x A = refl
@@ -292,7 +292,7 @@ copies-plain labels x =
     (each-flat IsPlain (word_from_register x) (word-plain x) (uses_of labels x)))
 
 copy-plain : (labels : List Label) (v : Value) → Each IsPlain (copy_cover labels v)
-copy-plain labels v = if-plain (is_used labels v.var && not (is_fetched v.sort)) (copy_lines labels v.var) (copies-plain labels v.var)
+copy-plain labels v = if-plain (is_used labels v.var && not (is_fetched v.origin)) (copy_lines labels v.var) (copies-plain labels v.var)
 
 argument-tags : (x k i : ℕ) (p : Bank) → all_different (map tag (at_home x p ++ srv_at k i p)) ≡ true
 argument-tags x k i A = refl
@@ -334,17 +334,17 @@ operands-plain labels = each-points IsPlain operand_lines (λ k q. if-plain (two
 
 -- ---- 4. capacity
 
-each-held : {X : Type 0} (P : X → Type 0) (f : ℕ → Point → List X) → ((k : ℕ) (q : Point) → IsHeld q → Each P (f k q)) → (k : ℕ) (ps : List Point) → Each IsHeld ps → Each P (each_point f k ps)
+each-held : {X : Type 0} (P : X → Type 0) (f : ℕ → Point → List X) → ((k : ℕ) (q : Point) → IsLive q → Each P (f k q)) → (k : ℕ) (ps : List Point) → Each IsLive ps → Each P (each_point f k ps)
 each-held P f h k [] g = tt
 each-held P f h k (q ∷ ps) g = each-append P (f k q) (each_point f (suc k) ps) (h k q g.0) (each-held P f h (suc k) ps g.1)
 
-held-differ : (xs : List ℕ) (h : Bank) → all_different xs ≡ true → Differ (held_in xs h)
+held-differ : (xs : List ℕ) (h : Bank) → all_different xs ≡ true → Differ (live_in xs h)
 held-differ xs h d = flat-differ (λ x. home x h) OfVar Apart vars-clash (λ x. (refl, (refl, tt))) (λ x. keys-differ tag (home x h) (home-tags x h)) xs (vars-apart xs d)
 
 rooms-plain : (slots : ℕ) (xs : List ℕ) → slots ≤ 128 → all_different xs ≡ true → Each IsPlain (room_lines slots xs)
 rooms-plain slots xs l d = (
-  most-plain 15 (held_in xs A) (omega arith) (held-differ xs A d),
-  (most-plain 15 (held_in xs B) (omega arith) (held-differ xs B d), (most-plain slots (held_in xs M) l (held-differ xs M d), tt)),
+  most-plain 15 (live_in xs A) (omega arith) (held-differ xs A d),
+  (most-plain 15 (live_in xs B) (omega arith) (held-differ xs B d), (most-plain slots (live_in xs M) l (held-differ xs M d), tt)),
 )
 
 -- ---- 5. owners
@@ -367,22 +367,22 @@ if-differ : (b : Bool) (cs : List Column) → Differ cs → Differ (if b then cs
 if-differ true cs h = h
 if-differ false cs h = tt
 
-stays-each : (P : Column → Type 0) (sdram : Bool) (r x : ℕ) (s : Sort) → ((f : ℕ) → P (Stay x f)) → Each P (sort_stays sdram r x s)
+stays-each : (P : Column → Type 0) (sdram : Bool) (r x : ℕ) (s : ValueOrigin) → ((f : ℕ) → P (Stay x f)) → Each P (origin_stays sdram r x s)
 stays-each P sdram r x (Parameter l i) h = tt
 stays-each P sdram r x Result h = tt
 stays-each P sdram r x (Fetched m i) h = if-each P (same_side sdram (is_sdram m)) (map (Stay x) (run_at r i)) (run-each P (Stay x) r i h)
 
-stays-differ : (sdram : Bool) (r x : ℕ) (s : Sort) → Differ (sort_stays sdram r x s)
+stays-differ : (sdram : Bool) (r x : ℕ) (s : ValueOrigin) → Differ (origin_stays sdram r x s)
 stays-differ sdram r x (Parameter l i) = tt
 stays-differ sdram r x Result = tt
 stays-differ sdram r x (Fetched m i) = if-differ (same_side sdram (is_sdram m)) (map (Stay x) (run_at r i)) (run-differ (Stay x) r i)
 
 all-stays : (P : Column → Type 0) (labels : List Label) (sdram : Bool) (r : ℕ) (xs : List ℕ) → ((x f : ℕ) → P (Stay x f)) → Each P (stays_at labels sdram r xs)
-all-stays P labels sdram r xs h = each-flat P (λ x. sort_stays sdram r x (sort_of labels x)) (λ x. stays-each P sdram r x (sort_of labels x) (h x)) xs
+all-stays P labels sdram r xs h = each-flat P (λ x. origin_stays sdram r x (origin_of labels x)) (λ x. stays-each P sdram r x (origin_of labels x) (h x)) xs
 
 stay-differ : (labels : List Label) (sdram : Bool) (r : ℕ) (xs : List ℕ) → all_different xs ≡ true → Differ (stays_at labels sdram r xs)
 stay-differ labels sdram r xs d =
-    flat-differ (λ x. sort_stays sdram r x (sort_of labels x)) OfVar Apart vars-clash (λ x. stays-each (OfVar x) sdram r x (sort_of labels x) (λ f. refl)) (λ x. stays-differ sdram r x (sort_of labels x)) xs (vars-apart xs d)
+    flat-differ (λ x. origin_stays sdram r x (origin_of labels x)) OfVar Apart vars-clash (λ x. stays-each (OfVar x) sdram r x (origin_of labels x) (λ f. refl)) (λ x. stays-differ sdram r x (origin_of labels x)) xs (vars-apart xs d)
 
 readers-plain : (labels : List Label) (k : ℕ) (q : Point) → all_different q.before ≡ true → Each IsPlain (read_owners labels k q)
 readers-plain labels k q d =
@@ -404,7 +404,7 @@ read-plain labels xs a d = each-map IsPlain (λ r. at_most 1 (stays_at labels (i
     (join-differ (λ c. family c ≡ 3) (stays_at labels (is_sdram a.mem) r xs) (covering r a) (all-stays (λ c. family c ≡ 3) labels (is_sdram a.mem) r xs (λ x f. refl))
     (covering-each (λ c. family c ≡ 3 → ⊥) r a (λ k f e. omega (arith, e))) (stay-differ labels (is_sdram a.mem) r xs d) (covering-differ r a))) eight
 
-reads-plain : (labels : List Label) (k : ℕ) (xs : List ℕ) (q : Place) → (is_read q ≡ true → all_different xs ≡ true) → Each IsPlain (flat_map (access_owners labels xs) (reads_at k q))
+reads-plain : (labels : List Label) (k : ℕ) (xs : List ℕ) (q : PointKind) → (is_read q ≡ true → all_different xs ≡ true) → Each IsPlain (flat_map (access_owners labels xs) (reads_at k q))
 reads-plain labels k xs (Entry l ps) d = tt
 reads-plain labels k xs (At (Does (Lit x v))) d = tt
 reads-plain labels k xs (At (Does (Una x op y))) d = tt
@@ -416,11 +416,11 @@ reads-plain labels k xs (At (Does (Write m y ys))) d = tt
 reads-plain labels k xs (At (Forks c x y)) d = tt
 reads-plain labels k xs (At (Ends l)) d = tt
 
-after-different : (after : List ℕ) (ps : List Point) → Each IsHeld ps → After after ps → all_different after ≡ true
+after-different : (after : List ℕ) (ps : List Point) → Each IsLive ps → After after ps → all_different after ≡ true
 after-different after [] h a = absurd a
 after-different after (q ∷ ps) h a = ap all_different a ∙ h.0.different
 
-fills-plain : (labels : List Label) (k : ℕ) (ps : List Point) → Each IsHeld ps → Chained ps → Each IsPlain (each_point (fill_owners labels) k ps)
+fills-plain : (labels : List Label) (k : ℕ) (ps : List Point) → Each IsLive ps → Chained ps → Each IsPlain (each_point (fill_owners labels) k ps)
 fills-plain labels k [] h c = tt
 fills-plain labels k (q ∷ ps) h c =
     let gone = point_values k q in
@@ -453,7 +453,7 @@ early-differ sdram r us p =
     (λ u. role-each (OfUse u) sdram r u.point u.operand u.role (λ f. (refl, refl)) (λ f. (refl, refl))) (λ u. role-differ sdram r u.point u.operand u.role) us p
 
 -- at a point there is at most one write
-one-write : (k : ℕ) (q : Place) → Pairs (λ a b. ⊥) (writes_at k q)
+one-write : (k : ℕ) (q : PointKind) → Pairs (λ a b. ⊥) (writes_at k q)
 one-write k (Entry l ps) = tt
 one-write k (At (Does (Lit x v))) = tt
 one-write k (At (Does (Una x op y))) = tt
@@ -467,7 +467,7 @@ one-write k (At (Ends l)) = tt
 side-each : (P : Column → Type 0) (sdram : Bool) (r : ℕ) (a : Access) → ((k f : ℕ) → P (First k f)) → Each P (side_covering sdram r a)
 side-each P sdram r a h = if-each P (same_side sdram (is_sdram a.mem)) (covering r a) (covering-each P r a h)
 
-writes-differ : (sdram : Bool) (r k : ℕ) (q : Place) → Differ (flat_map (side_covering sdram r) (writes_at k q))
+writes-differ : (sdram : Bool) (r k : ℕ) (q : PointKind) → Differ (flat_map (side_covering sdram r) (writes_at k q))
 writes-differ sdram r k q =
     flat-differ (side_covering sdram r) (λ a c. family c ≡ 5) (λ a b. ⊥) (λ a b n c h g. n) (λ a. side-each (λ c. family c ≡ 5) sdram r a (λ k f. refl))
     (λ a. if-differ (same_side sdram (is_sdram a.mem)) (covering r a) (covering-differ r a)) (writes_at k q) (one-write k q)
@@ -486,10 +486,10 @@ first-not-early k f h = ⊎_elim (λ (e : family (First k f) ≡ 1). omega (arit
 pass-not-early : (k r : ℕ) → IsEarly (PasS k r) → ⊥
 pass-not-early k r h = ⊎_elim (λ (e : family (PasS k r) ≡ 1). omega (arith, e)) (λ (e : family (PasS k r) ≡ 4). omega (arith, e)) h
 
-firsts-each : (P : Column → Type 0) (sdram : Bool) (r k : ℕ) (q : Place) → ((j f : ℕ) → P (First j f)) → Each P (flat_map (side_covering sdram r) (writes_at k q))
+firsts-each : (P : Column → Type 0) (sdram : Bool) (r k : ℕ) (q : PointKind) → ((j f : ℕ) → P (First j f)) → Each P (flat_map (side_covering sdram r) (writes_at k q))
 firsts-each P sdram r k q h = each-flat P (side_covering sdram r) (λ a. side-each P sdram r a h) (writes_at k q)
 
-pass-differ : (r k : ℕ) (q : Place) → Differ (PasS k r ∷ flat_map (side_covering false r) (writes_at k q))
+pass-differ : (r k : ℕ) (q : PointKind) → Differ (PasS k r ∷ flat_map (side_covering false r) (writes_at k q))
 pass-differ r k q =
     join-differ (λ c. family c ≡ 8) (PasS k r ∷ []) (flat_map (side_covering false r) (writes_at k q)) (refl, tt) (firsts-each (λ c. family c ≡ 8 → ⊥) false r k q (λ j f e. omega (arith, e))) (tt, tt) (writes-differ false r k q)
 
@@ -507,7 +507,7 @@ writers-plain labels k q =
     (join-differ IsEarly (early_at true r us) (flat_map (side_covering true r) (writes_at k q.place)) (early-each true r us)
     (firsts-each (λ c. IsEarly c → ⊥) true r k q.place first-not-early) (early-differ true r us apart) (writes-differ true r k q.place))) eight)
 
-owners-plain : (labels : List Label) → Each IsHeld (points labels) → Each IsPlain (owners labels)
+owners-plain : (labels : List Label) → Each IsLive (points labels) → Each IsPlain (owners labels)
 owners-plain labels h =
     let ps = points labels in
     each-append IsPlain (each_point (read_owners labels) 0 ps) _ (each-held IsPlain (read_owners labels) (λ k q g. readers-plain labels k q g.different) 0 ps h) (
@@ -520,8 +520,8 @@ begins-plain : (labels : List Label) (k : ℕ) (q : Point) → Each IsPlain (beg
 begins-plain labels k q =
     let n = place_words q.place in
     each-append IsPlain (flat_map (stay_begins labels n) (place_values k q.place)) (flat_map (word_begins n) (point_uses k q))
-    (each-flat IsPlain (stay_begins labels n) (λ v. if-plain (is_used labels v.var) (map (λ f. covers (First v.point f ∷ []) (Stay v.var f ∷ [])) (sort_beginnings n v.sort))
-    (each-map IsPlain (λ f. covers (First v.point f ∷ []) (Stay v.var f ∷ [])) (λ f. covers-plain (First v.point f ∷ []) (Stay v.var f ∷ []) ((refl, tt), (tt, tt))) (sort_beginnings n v.sort))) (place_values k q.place))
+    (each-flat IsPlain (stay_begins labels n) (λ v. if-plain (is_used labels v.var) (map (λ f. covers (First v.point f ∷ []) (Stay v.var f ∷ [])) (origin_beginnings n v.origin))
+    (each-map IsPlain (λ f. covers (First v.point f ∷ []) (Stay v.var f ∷ [])) (λ f. covers-plain (First v.point f ∷ []) (Stay v.var f ∷ []) ((refl, tt), (tt, tt))) (origin_beginnings n v.origin))) (place_values k q.place))
     (each-flat IsPlain (word_begins n) (λ u. each-map IsPlain (λ f. covers (First u.point f ∷ []) (Dir u.point u.operand f ∷ Ear u.point u.operand f ∷ []))
     (λ f. covers-plain (First u.point f ∷ []) (Dir u.point u.operand f ∷ Ear u.point u.operand f ∷ []) ((refl, (refl, tt)), ((refl, tt), (tt, tt)))) (role_beginnings n u.role)) (point_uses k q))
 
@@ -536,7 +536,7 @@ read-pass u =
 
 result-pass : (v : Value) → Each IsPlain (result_written v)
 result-pass v =
-    if-plain (is_result v.sort) (slot_written v.point (Def v.var M) ∷ [])
+    if-plain (is_result v.origin) (slot_written v.point (Def v.var M) ∷ [])
     (covers-plain (map (PasS v.point) eight) (Def v.var M ∷ []) (keys-differ tag (map (PasS v.point) eight ++ Def v.var M ∷ []) refl), tt)
 
 value-pass : (labels : List Label) (v : Value) → Each IsPlain (value_written labels v)
@@ -550,7 +550,7 @@ passes-plain labels =
 
 -- ---- all lines
 
-lines-plain : (labels : List Label) (slots : ℕ) → slots ≤ 128 → Each IsHeld (points labels) → Each IsPlain (lines labels slots)
+lines-plain : (labels : List Label) (slots : ℕ) → slots ≤ 128 → Each IsLive (points labels) → Each IsPlain (lines labels slots)
 lines-plain labels slots l h =
     each-append IsPlain (one_choice labels) _ (choice-plain labels) (
     each-append IsPlain (homes_cover labels) _ (homes-plain labels) (
@@ -568,7 +568,7 @@ if-cheap : (b : Bool) (ps : List Priced) → Each IsCheap ps → Each IsCheap (i
 if-cheap true ps h = h
 if-cheap false ps h = tt
 
-defs-cheap : (x : ℕ) (s : Sort) → Each IsCheap (sort_defs x s)
+defs-cheap : (x : ℕ) (s : ValueOrigin) → Each IsCheap (origin_defs x s)
 defs-cheap x (Parameter zero i) = (omega arith, (omega arith, (omega arith, tt)))
 defs-cheap x (Parameter (suc l) i) = (omega arith, (omega arith, (omega arith, tt)))
 defs-cheap x Result = (omega arith, (omega arith, (omega arith, tt)))
@@ -588,7 +588,7 @@ mapped-each P f (x ∷ xs) h = (h.0, mapped-each P f xs h.1)
 
 srvs-cheap : (labels : List Label) (u : Use) → Each IsCheap (srv_columns labels u)
 srvs-cheap labels u =
-    let p = λ (s : Service). has_bank (is_fetched (sort_of labels u.value)) s.from in
+    let p = λ (s : Service). has_bank (is_fetched (origin_of labels u.value)) s.from in
     mapped-each IsCheap (λ (s : Service). (Srv u.point u.operand s.from s.at, s.cost)) (filter p (services u.role)) (each-kept (λ (s : Service). s.cost ≤ 33) p (services u.role) (services-cheap u.role))
 
 eight-cheap : (b : Bool) (column : ℕ → Column) → Each IsCheap (for_eight b column)
@@ -598,12 +598,12 @@ eight-cheap false column = tt
 all-cheap : (labels : List Label) → Each IsCheap (priced labels)
 all-cheap labels =
     let ps = points labels in
-    each-append IsCheap (flat_map def_columns (values labels)) _ (each-flat IsCheap def_columns (λ v. defs-cheap v.var v.sort) (values labels)) (
-    each-append IsCheap (all_dirs labels) _ (each-points IsCheap (point_dirs labels) (λ k q. each-flat IsCheap (dir_columns labels (place_words q.place)) (λ u. if-cheap (is_result (sort_of labels u.value)) (map (λ f. (Dir u.point u.operand f, 0)) (role_beginnings (place_words q.place) u.role))
+    each-append IsCheap (flat_map def_columns (values labels)) _ (each-flat IsCheap def_columns (λ v. defs-cheap v.var v.origin) (values labels)) (
+    each-append IsCheap (all_dirs labels) _ (each-points IsCheap (point_dirs labels) (λ k q. each-flat IsCheap (dir_columns labels (place_words q.place)) (λ u. if-cheap (is_result (origin_of labels u.value)) (map (λ f. (Dir u.point u.operand f, 0)) (role_beginnings (place_words q.place) u.role))
     (each-map IsCheap (λ f. (Dir u.point u.operand f, 0)) (λ f. omega arith) (role_beginnings (place_words q.place) u.role))) (point_uses k q)) 0 ps) (
     each-append IsCheap (flat_map (fill_columns labels) (values labels)) _ (each-flat IsCheap (fill_columns labels) (λ v. if-cheap (is_used labels v.var) ((Fill v.var A, 1) ∷ (Fill v.var B, 1) ∷ (Fill v.var M, 17) ∷ []) (omega arith, (omega arith, (omega arith, tt)))) (values labels)) (
-    each-append IsCheap (all_stays labels) _ (each-points IsCheap (point_stays labels) (λ k q. each-flat IsCheap (stay_columns labels (place_words q.place)) (λ v. if-cheap (is_used labels v.var) (map (λ f. (Stay v.var f, 0)) (sort_beginnings (place_words q.place) v.sort))
-    (each-map IsCheap (λ f. (Stay v.var f, 0)) (λ f. omega arith) (sort_beginnings (place_words q.place) v.sort))) (place_values k q.place)) 0 ps) (
+    each-append IsCheap (all_stays labels) _ (each-points IsCheap (point_stays labels) (λ k q. each-flat IsCheap (stay_columns labels (place_words q.place)) (λ v. if-cheap (is_used labels v.var) (map (λ f. (Stay v.var f, 0)) (origin_beginnings (place_words q.place) v.origin))
+    (each-map IsCheap (λ f. (Stay v.var f, 0)) (λ f. omega arith) (origin_beginnings (place_words q.place) v.origin))) (place_values k q.place)) 0 ps) (
     each-append IsCheap (all_ears labels) _ (each-points IsCheap point_ears (λ k q. each-flat IsCheap (ear_columns (place_words q.place)) (λ u. each-map IsCheap (λ f. (Ear u.point u.operand f, 1)) (λ f. omega arith) (role_beginnings (place_words q.place) u.role)) (point_uses k q)) 0 ps) (
     each-append IsCheap (flat_map first_columns (accesses labels)) _ (each-flat IsCheap first_columns (λ a. each-map IsCheap (λ f. (First a.point f, 0)) (λ f. omega arith) (beginnings a.mem a.words)) (accesses labels)) (
     each-append IsCheap (flat_map (srv_columns labels) (uses labels)) _ (each-flat IsCheap (srv_columns labels) (srvs-cheap labels) (uses labels)) (
@@ -626,7 +626,7 @@ program-fits labels slots s l n m =
       columns_fit = omega (arith, n, same);
       rows_fit = m;
       costs_fit = costs-fit labels;
-      rows_ok = subst (λ k. All (IsRowText k) (program.rows labels slots)) same (rows-fit (columns labels) (lines labels slots) n (lines-plain labels slots l (all-each IsHeld (points labels) (points_held labels s))));
+      rows_ok = subst (λ k. All (IsRowText k) (program.rows labels slots)) same (rows-fit (columns labels) (lines labels slots) n (lines-plain labels slots l (all-each IsLive (points labels) (points_held labels s))));
     }
 
 pub program-valid : (z : ZeroOne) (labels : List Label) (slots : ℕ) → contents z ≡ bank_program labels slots → single labels ≡ true → slots ≤ 128 → length (columns labels) ≤ 2 ^ 26 → length (program.rows labels slots) ≤ 2 ^ 26 → IsValid z

@@ -5,8 +5,8 @@ use Rattle.std.proofs.lemmas.Int.{ints}
 use Rattle.std.proofs.lemmas.List.{append-nil}
 use Rattle.std.proofs.lemmas.List.Elements.{All-nil, All-cons}
 use Rattle.nv_base.proofs.Sets.{same-number}
-use Rattle.slot_placement.proofs.Sound.{Each}
-use Rattle.slot_placement.proofs.Spilled.{each-all, each-weaker}
+use Rattle.placement.proofs.Sound.{Each}
+use Rattle.placement.proofs.Spilled.{each-all, each-weaker}
 use Rattle.zo_model.specs.Program.{AtMost, Rise, IsCoefficient}
 use Rattle.zo_model.specs.ProgramText.{IsRowText}
 use Rattle.bank_form.specs.declared.column.Column.{Column}

@@ -6,15 +6,15 @@ use Rattle.std.proofs.lemmas.Bool.{false≢true}
 use Rattle.std.proofs.lemmas.List.Elements.{Contains-append_left, Contains-append_right, Contains-append_cases}
 use Rattle.nv_base.specs.declared.term.Mem.{Mem}
 use Rattle.ssu_ir.specs.Tree.{Step, Lit, Una, Bin, Clone, Read, Write, Label, Does, Forks, Ends}
-use Rattle.ssu_ir.specs.Points.{Place, Entry, At, Point, points}
-use Rattle.slot_placement.specs.Uses.{Access, accesses, accesses_from, place_accesses, step_reads, step_writes, Sort, Parameter, Result, Fetched, Value, values, values_from, numbered, step_values, place_values, Role, Use, uses, uses_from, uses_at, place_roles, is_used}
-use Rattle.slot_placement.specs.Fits.{is_result}
+use Rattle.ssu_ir.specs.Points.{PointKind, Entry, At, Point, points}
+use Rattle.placement.specs.Uses.{Access, accesses, accesses_from, place_accesses, step_reads, step_writes, ValueOrigin, Parameter, Result, Fetched, Value, values, values_from, numbered, step_values, place_values, Role, Use, uses, uses_from, uses_at, place_roles, is_used}
+use Rattle.placement.specs.Fits.{is_result}
 use Rattle.bank_form.specs.declared.column.Bank.{Bank}
 use Rattle.bank_form.specs.declared.column.Bank.TheVariants.{A, B, M}
 use Rattle.bank_form.specs.declared.column.Column.{Column}
 use Rattle.bank_form.specs.declared.column.Column.TheVariants.{Def, Dir, Fill, Stay, Ear, First, Srv, PasL, PasS}
 use Rattle.bank_form.specs.declared.column.Service.{Service}
-use Rattle.bank_form.specs.Columns.{each_point, sort_of, is_fetched, point_uses, place_words, eight, may_begin, beginnings, role_beginnings, sort_beginnings, Priced, sort_defs, def_columns, dir_columns, point_dirs, fill_columns, stay_columns, point_stays, ear_columns, point_ears, first_columns, services, has_bank, srv_columns, for_eight, pas_l_columns, pas_s_columns, all_dirs, all_stays, all_ears, all_pas_l, all_pas_s, priced, columns}
+use Rattle.bank_form.specs.Columns.{each_point, origin_of, is_fetched, point_uses, place_words, eight, may_begin, beginnings, role_beginnings, origin_beginnings, Priced, origin_defs, def_columns, dir_columns, point_dirs, fill_columns, stay_columns, point_stays, ear_columns, point_ears, first_columns, services, has_bank, srv_columns, for_eight, pas_l_columns, pas_s_columns, all_dirs, all_stays, all_ears, all_pas_l, all_pas_s, priced, columns}
 use Rattle.bank_form.specs.Rows.{homes}
 
 -- ---- elements of lists that are made piece by piece
@@ -116,12 +116,12 @@ use-point u k i (x ∷ xs) (r ∷ rs) m = ⊎_elim
     (λ (n : Contains (uses_at k (suc i) xs rs) u). use-point u k (suc i) xs rs n)
     (first-or-other u (record { point = k; operand = i; value = x; role = r }) (uses_at k (suc i) xs rs) m.0 m.1 m.2)
 
-numbered-point : (v : Value) (k : ℕ) (sort : ℕ → Sort) (i : ℕ) (xs : List ℕ) → Contains (numbered k sort i xs) v → v.point ≡ k
-numbered-point v k sort i [] m = contains-none _ v m
-numbered-point v k sort i (x ∷ xs) m = ⊎_elim
-    (λ (e : ◌≡◌ {A = Value} (record { point = k; var = x; sort = sort i }) v). ap (λ (w : Value). w.point) (sym e))
-    (λ (n : Contains (numbered k sort (suc i) xs) v). numbered-point v k sort (suc i) xs n)
-    (first-or-other v (record { point = k; var = x; sort = sort i }) (numbered k sort (suc i) xs) m.0 m.1 m.2)
+numbered-point : (v : Value) (k : ℕ) (origin : ℕ → ValueOrigin) (i : ℕ) (xs : List ℕ) → Contains (numbered k origin i xs) v → v.point ≡ k
+numbered-point v k origin i [] m = contains-none _ v m
+numbered-point v k origin i (x ∷ xs) m = ⊎_elim
+    (λ (e : ◌≡◌ {A = Value} (record { point = k; var = x; origin = origin i }) v). ap (λ (w : Value). w.point) (sym e))
+    (λ (n : Contains (numbered k origin (suc i) xs) v). numbered-point v k origin (suc i) xs n)
+    (first-or-other v (record { point = k; var = x; origin = origin i }) (numbered k origin (suc i) xs) m.0 m.1 m.2)
 
 one-value : (v : Value) (k x : ℕ) → Contains (numbered k (λ i. Result) 0 (x ∷ [])) v → v.point ≡ k
 one-value v k x m = numbered-point v k (λ i. Result) 0 (x ∷ []) m
@@ -134,7 +134,7 @@ step-value-point v k (Clone xs y) m = contains-none _ v m
 step-value-point v k (Read d xs y) m = numbered-point v k (Fetched d) 0 xs m
 step-value-point v k (Write d y xs) m = contains-none _ v m
 
-pub value-point : (v : Value) (k : ℕ) (q : Place) → Contains (place_values k q) v → v.point ≡ k
+pub value-point : (v : Value) (k : ℕ) (q : PointKind) → Contains (place_values k q) v → v.point ≡ k
 value-point v k (Entry l params) m = numbered-point v k (Parameter l) 0 params m
 value-point v k (At (Does s)) m = step-value-point v k s m
 value-point v k (At (Forks c x y)) m = contains-none _ v m
@@ -154,7 +154,7 @@ step-access-point a k (Clone xs y) m = contains-none _ a m
 step-access-point a k (Read d xs y) m = one-access a k d (length xs) m
 step-access-point a k (Write d y xs) m = one-access a k d (length xs) m
 
-pub access-point : (a : Access) (k : ℕ) (q : Place) → Contains (place_accesses k q) a → a.point ≡ k
+pub access-point : (a : Access) (k : ℕ) (q : PointKind) → Contains (place_accesses k q) a → a.point ≡ k
 access-point a k (Entry l params) m = contains-none _ a m
 access-point a k (At (Does s)) m = step-access-point a k s m
 access-point a k (At (Forks c x y)) m = contains-none _ a m
@@ -242,7 +242,7 @@ access-place labels a m =
     let i : w.index ≡ a.point = omega (arith, p) in
     (w.place, subst (λ k. slice_get (points labels) k ≡ Some w.place) i w.at, w.here)
 
--- ---- the families of columns, one behind another
+-- ---- the families of columns, one after another
 
 abbrev from-pas-l : List Label → List Priced
 from-pas-l labels = all_pas_l labels ++ all_pas_s labels
@@ -298,21 +298,21 @@ named-part labels ps c h m =
 zero-from : (k : ℕ) → k ≡ 0 + k
 zero-from k = omega arith
 
-defs-here : (x : ℕ) (s : Sort) (h : Bank) → is_fetched s ≡ false → Contains homes h → Contains (map (λ p. p.0) (sort_defs x s)) (Def x h)
+defs-here : (x : ℕ) (s : ValueOrigin) (h : Bank) → is_fetched s ≡ false → Contains homes h → Contains (map (λ p. p.0) (origin_defs x s)) (Def x h)
 defs-here x (Parameter zero i) h e m = contains-map (Def x) homes h m
 defs-here x (Parameter (suc l) i) h e m = contains-map (Def x) homes h m
 defs-here x Result h e m = contains-map (Def x) homes h m
 defs-here x (Fetched d i) h e m = absurd (false≢true (sym e))
 
 -- a value that isn't read can first be put into each bank
-pub def-there : (labels : List Label) (v : Value) (h : Bank) → Contains (values labels) v → is_fetched v.sort ≡ false → Contains homes h → Contains (columns labels) (Def v.var h)
+pub def-there : (labels : List Label) (v : Value) (h : Bank) → Contains (values labels) v → is_fetched v.origin ≡ false → Contains homes h → Contains (columns labels) (Def v.var h)
 def-there labels v h m e n =
     named-part labels (def_columns v) (Def v.var h)
     (λ p i. Contains-append_left (flat_map def_columns (values labels)) (from-dirs labels) p (contains-flat def_columns (values labels) v p m i))
-    (defs-here v.var v.sort h e n)
+    (defs-here v.var v.origin h e n)
 
 -- a written word whose value is a result can first be put where its write may begin
-pub dir-there : (labels : List Label) (k : ℕ) (q : Point) (u : Use) (f : ℕ) → slice_get (points labels) k ≡ Some q → Contains (point_uses k q) u → is_result (sort_of labels u.value) ≡ true
+pub dir-there : (labels : List Label) (k : ℕ) (q : Point) (u : Use) (f : ℕ) → slice_get (points labels) k ≡ Some q → Contains (point_uses k q) u → is_result (origin_of labels u.value) ≡ true
     → Contains (role_beginnings (place_words q.place) u.role) f → Contains (columns labels) (Dir u.point u.operand f)
 dir-there labels k q u f g m e n =
     let c : Priced = (Dir u.point u.operand f, 0) in
@@ -320,7 +320,7 @@ dir-there labels k q u f g m e n =
     named labels c (to-dirs labels c (Contains-append_left (all_dirs labels) (from-fills labels) c
     (contains-point (point_dirs labels) 0 (points labels) k k q c (zero-from k) g
     (contains-flat (dir_columns labels (place_words q.place)) (point_uses k q) u c m
-    (contains-if (is_result (sort_of labels u.value)) (map (λ f. (Dir u.point u.operand f, 0)) fs) c e (contains-map (λ f. (Dir u.point u.operand f, 0)) fs f n))))))
+    (contains-if (is_result (origin_of labels u.value)) (map (λ f. (Dir u.point u.operand f, 0)) fs) c e (contains-map (λ f. (Dir u.point u.operand f, 0)) fs f n))))))
 
 fills-here : (x : ℕ) (b : Bool) (h : Bank) → b ≡ true → Contains homes h → Contains (map (λ (p : Priced). p.0) (if b then (Fill x A, 1) ∷ (Fill x B, 1) ∷ (Fill x M, 17) ∷ [] else [])) (Fill x h)
 fills-here x true h e m = contains-map (Fill x) homes h m
@@ -335,10 +335,10 @@ fill-there labels v h m e n =
 
 -- a used read value can stay where its read may begin
 pub stay-there : (labels : List Label) (k : ℕ) (q : Point) (v : Value) (f : ℕ) → slice_get (points labels) k ≡ Some q → Contains (place_values k q.place) v → is_used labels v.var ≡ true
-    → Contains (sort_beginnings (place_words q.place) v.sort) f → Contains (columns labels) (Stay v.var f)
+    → Contains (origin_beginnings (place_words q.place) v.origin) f → Contains (columns labels) (Stay v.var f)
 stay-there labels k q v f g m e n =
     let c : Priced = (Stay v.var f, 0) in
-    let fs = sort_beginnings (place_words q.place) v.sort in
+    let fs = origin_beginnings (place_words q.place) v.origin in
     named labels c (to-stays labels c (Contains-append_left (all_stays labels) (from-ears labels) c
     (contains-point (point_stays labels) 0 (points labels) k k q c (zero-from k) g
     (contains-flat (stay_columns labels (place_words q.place)) (place_values k q.place) v c m
@@ -362,11 +362,11 @@ first-there labels a f m n =
     (contains-flat first_columns (accesses labels) a c m (contains-map (λ f. (First a.point f, 0)) (beginnings a.mem a.words) f n))))
 
 -- a use can be served in each way of its role; from a read register only where its value is read
-pub srv-there : (labels : List Label) (u : Use) (s : Service) → Contains (uses labels) u → Contains (services u.role) s → has_bank (is_fetched (sort_of labels u.value)) s.from ≡ true
+pub srv-there : (labels : List Label) (u : Use) (s : Service) → Contains (uses labels) u → Contains (services u.role) s → has_bank (is_fetched (origin_of labels u.value)) s.from ≡ true
     → Contains (columns labels) (Srv u.point u.operand s.from s.at)
 srv-there labels u s m n e =
     let c : Priced = (Srv u.point u.operand s.from s.at, s.cost) in
-    let may = λ (t : Service). has_bank (is_fetched (sort_of labels u.value)) t.from in
+    let may = λ (t : Service). has_bank (is_fetched (origin_of labels u.value)) t.from in
     named labels c (to-srvs labels c (Contains-append_left (flat_map (srv_columns labels) (uses labels)) (from-pas-l labels) c
     (contains-flat (srv_columns labels) (uses labels) u c m
     (contains-map (λ (t : Service). (Srv u.point u.operand t.from t.at, t.cost)) (filter may (services u.role)) s (contains-kept may (services u.role) s n e)))))

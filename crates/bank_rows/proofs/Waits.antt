@@ -5,11 +5,11 @@ use Rattle.std.proofs.lemmas.List.{at_drop_more, at_drop_all, append-nil}
 use Rattle.nv_base.specs.Sets.{is_in, all_different}
 use Rattle.ssu_ir.specs.Tree.{Label}
 use Rattle.ssu_ir.specs.Points.{Point, place_values, points}
-use Rattle.slot_placement.specs.Uses as pure
-use Rattle.slot_placement.specs.Uses.{values_from}
-use Rattle.slot_placement.specs.Fits.{point_values}
-use Rattle.held_values.specs.inner.Numbers.{values_among}
-use Rattle.slot_placement.proofs.Fitting.{vars-of-place}
+use Rattle.placement.specs.Uses as pure
+use Rattle.placement.specs.Uses.{values_from}
+use Rattle.placement.specs.Fits.{point_values}
+use Rattle.ssu_liveness.specs.inner.Numbers.{values_among}
+use Rattle.placement.proofs.Fitting.{vars-of-place}
 use Rattle.bank_form.specs.Columns.{each_point}
 use Rattle.bank_form.specs.Rows.{waiting, is_written}
 use Rattle.bank_form.specs.inner.Form.{part_of}

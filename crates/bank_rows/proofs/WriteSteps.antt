@@ -9,8 +9,8 @@ use Rattle.zo_model.specs.declared.program.Row.{Row}
 use Rattle.zo_model.specs.Contents.{RowContents, row_contents}
 use Rattle.ssu_ir.specs.Tree.{Label}
 use Rattle.ssu_ir.specs.Points.{Point, points}
-use Rattle.slot_placement.specs.Uses as pure
-use Rattle.slot_placement.specs.Uses.{Role, Operand, Address, Written, Argument, Ending, writes_at}
+use Rattle.placement.specs.Uses as pure
+use Rattle.placement.specs.Uses.{Role, Operand, Address, Written, Argument, Ending, writes_at}
 use Rattle.bank_form.specs.declared.column.Column.TheVariants.{PasS}
 use Rattle.bank_form.specs.declared.form.Use.{Use}
 use Rattle.bank_form.specs.Columns.{each_point, eight}

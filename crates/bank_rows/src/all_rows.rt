@@ -6,7 +6,7 @@ ghost use Rattle.std.specs.List.{AllZip};
 ghost use Rattle.ssu_ir.specs.Points.{points};
 ghost use Rattle.ssu_ir.specs.Single.{single};
 ghost use Rattle.ssu_ir.specs.View.{labels_view};
-ghost use Rattle.held_values.specs.Held.{IsRow, items_of};
+ghost use Rattle.ssu_liveness.specs.LiveRows.{IsRow, items_of};
 ghost use Rattle.zo_model.specs.Contents.{row_contents};
 ghost use Rattle.bank_form.specs.Program.{same_column, row_of};
 ghost use Rattle.bank_form.specs.Rows.{lines};
@@ -25,7 +25,7 @@ use nv_base::NoMemory;
 use std::alloc::Global;
 use zo_model::Row;
 
-/// The rows of all families behind others, where these values are held at the points.
+/// The rows of all families behind others, where these values are live at the points.
 fn push_all(
     alloc: Global,
     numbers: &Numbers,
@@ -48,7 +48,7 @@ fn push_all(
     push_passes(alloc, numbers, f, rows)
 }
 
-/// The rows of all families, where these values are held at the points.
+/// The rows of all families, where these values are live at the points.
 pub fn rows_of(
     alloc: Global,
     numbers: &Numbers,

@@ -8,13 +8,13 @@ ghost use Rattle.bank_form.specs.Program.{same_column};
 ghost use Rattle.bank_form.specs.Rows as lines;
 ghost use Rattle.bank_form.specs.inner.Adds.{Adds};
 ghost use Rattle.bank_form.specs.inner.Form as form;
-ghost use Rattle.bank_form.specs.inner.Form.{use_view, value_view, stop_view};
+ghost use Rattle.bank_form.specs.inner.Form.{use_view, value_view, summary_view};
 
 use bank_form::column::Column;
-use bank_form::form::{Form, Stop, Use, Value};
+use bank_form::form::{Form, PointSummary, Use, Value};
 use bank_form::lines::push_covers;
 use bank_form::numbers::Numbers;
-use bank_form::runs::{role_beginnings, sort_beginnings};
+use bank_form::runs::{origin_beginnings, role_beginnings};
 use nv_base::NoMemory;
 use std::alloc::Global;
 use zo_model::Row;
@@ -59,7 +59,13 @@ fn push_stay_begins(
     ensures { OnOk result (Adds (get same_column numbers.now) rows.old.items rows.new.items (lines.stay_begins (labels_view f.now.ssu.now) n (value_view v))) }
 {
     if f.is_used(v.var) {
-        push_stay_begins_at(alloc, numbers, v, &sort_beginnings(alloc, n, v.sort)?, rows)?;
+        push_stay_begins_at(
+            alloc,
+            numbers,
+            v,
+            &origin_beginnings(alloc, n, v.origin)?,
+            rows,
+        )?;
     }
     Ok(())
 }
@@ -140,30 +146,30 @@ fn push_uses_begin(
     Ok(())
 }
 
-fn push_stop_begins(
+fn push_point_begins(
     alloc: Global,
     numbers: &Numbers,
     f: &Form<'_>,
-    stop: &Stop,
+    summary: &PointSummary,
     rows: &mut Vec<Row>,
 ) -> Result<(), NoMemory>
-    ensures { OnOk result (Adds (get same_column numbers.now) rows.old.items rows.new.items (form.part_begins (labels_view f.now.ssu.now) (stop_view stop.now))) }
+    ensures { OnOk result (Adds (get same_column numbers.now) rows.old.items rows.new.items (form.part_begins (labels_view f.now.ssu.now) (summary_view summary.now))) }
 {
-    push_values_begin(alloc, numbers, f, stop.words, &stop.values, rows)?;
-    push_uses_begin(alloc, numbers, stop.words, &stop.uses, rows)
+    push_values_begin(alloc, numbers, f, summary.words, &summary.values, rows)?;
+    push_uses_begin(alloc, numbers, summary.words, &summary.uses, rows)
 }
 
 fn push_begins(
     alloc: Global,
     numbers: &Numbers,
     f: &Form<'_>,
-    stops: &[Stop],
+    summaries: &[PointSummary],
     rows: &mut Vec<Row>,
 ) -> Result<(), NoMemory>
-    ensures { OnOk result (Adds (get same_column numbers.now) rows.old.items rows.new.items (flat_map (form.part_begins (labels_view f.now.ssu.now)) (map stop_view stops.now))) }
+    ensures { OnOk result (Adds (get same_column numbers.now) rows.old.items rows.new.items (flat_map (form.part_begins (labels_view f.now.ssu.now)) (map summary_view summaries.now))) }
 {
-    for stop in stops {
-        push_stop_begins(alloc, numbers, f, stop, rows)?;
+    for summary in summaries {
+        push_point_begins(alloc, numbers, f, summary, rows)?;
     }
     Ok(())
 }
@@ -177,5 +183,5 @@ pub fn push_adjacency(
 ) -> Result<(), NoMemory>
     ensures { OnOk result (Adds (get same_column numbers.now) rows.old.items rows.new.items (lines.adjacency (labels_view f.now.ssu.now))) }
 {
-    push_begins(alloc, numbers, f, &f.tables.stops, rows)
+    push_begins(alloc, numbers, f, &f.tables.summaries, rows)
 }

@@ -12,7 +12,7 @@ ghost use Rattle.bank_form.specs.inner.Adds.{Adds};
 ghost use Rattle.bank_form.specs.inner.Form.{use_view, value_view, access_view};
 
 use bank_form::column::{Column, Service};
-use bank_form::form::{Access, Form, Role, Sort, Use, Value};
+use bank_form::form::{Access, Form, Origin, Role, Use, Value};
 use bank_form::lines::push_exactly_one;
 use bank_form::names;
 use bank_form::numbers::Numbers;
@@ -29,10 +29,10 @@ fn push_parameter_choice(
 ) -> Result<(), NoMemory>
     ensures { OnOk result (Adds (get same_column numbers.now) rows.old.items rows.new.items (lines.parameter_choice (value_view v))) }
 {
-    match v.sort {
-        Sort::Parameter(_, _) => push_exactly_one(alloc, numbers, &names::def(v.var), rows),
-        Sort::Result => Ok(()),
-        Sort::Fetched(_, _) => Ok(()),
+    match v.origin {
+        Origin::Parameter(_, _) => push_exactly_one(alloc, numbers, &names::def(v.var), rows),
+        Origin::Result => Ok(()),
+        Origin::Fetched(_, _) => Ok(()),
     }
 }
 
@@ -77,15 +77,15 @@ fn push_result_choice(
 ) -> Result<(), NoMemory>
     ensures { OnOk result (Adds (get same_column numbers.now) rows.old.items rows.new.items (lines.result_choice (labels_view f.now.ssu.now) (value_view v))) }
 {
-    match v.sort {
-        Sort::Parameter(_, _) => Ok(()),
-        Sort::Result => {
+    match v.origin {
+        Origin::Parameter(_, _) => Ok(()),
+        Origin::Result => {
             let mut cs = Vec::new(alloc);
             cs.extend_from_slice(&names::def(v.var))?;
             add_dirs(&mut cs, f.uses_of(v.var))?;
             push_exactly_one(alloc, numbers, &cs, rows)
         }
-        Sort::Fetched(_, _) => Ok(()),
+        Origin::Fetched(_, _) => Ok(()),
     }
 }
 

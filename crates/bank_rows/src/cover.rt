@@ -11,7 +11,7 @@ ghost use Rattle.bank_form.specs.inner.Adds.{Adds};
 ghost use Rattle.bank_form.specs.inner.Form.{use_view, value_view, role_view};
 
 use bank_form::column::{Bank, Column};
-use bank_form::form::{Form, Role, Sort, Use, Value};
+use bank_form::form::{Form, Origin, Role, Use, Value};
 use bank_form::lines::{push_at_most, push_covers};
 use bank_form::names;
 use bank_form::numbers::Numbers;
@@ -43,10 +43,10 @@ fn push_served_stay(
 ) -> Result<(), NoMemory>
     ensures { OnOk result (Adds (get same_column numbers.now) rows.old.items rows.new.items (lines.use_stay (labels_view f.now.ssu.now) (use_view u))) }
 {
-    match f.sort_of(u.value) {
-        Sort::Parameter(_, _) => Ok(()),
-        Sort::Result => Ok(()),
-        Sort::Fetched(_, _) => {
+    match f.origin_of(u.value) {
+        Origin::Parameter(_, _) => Ok(()),
+        Origin::Result => Ok(()),
+        Origin::Fetched(_, _) => {
             let served = names::srv_from(u.point, u.operand, Bank::T);
             push_covers(alloc, numbers, &names::stay(u.value), &served, rows)
         }
@@ -182,7 +182,7 @@ fn push_copy_cover(
 ) -> Result<(), NoMemory>
     ensures { OnOk result (Adds (get same_column numbers.now) rows.old.items rows.new.items (lines.copy_cover (labels_view f.now.ssu.now) (value_view v))) }
 {
-    if f.is_used(v.var) && !v.sort.is_fetched() {
+    if f.is_used(v.var) && !v.origin.is_fetched() {
         push_copies(alloc, numbers, f, v.var, rows)?;
     }
     Ok(())

@@ -6,17 +6,17 @@ ghost use Rattle.std.specs.List.{AllZip, flat_map};
 ghost use Rattle.ssu_ir.specs.Points.{points};
 ghost use Rattle.ssu_ir.specs.Single.{single};
 ghost use Rattle.ssu_ir.specs.View.{labels_view};
-ghost use Rattle.held_values.specs.Held.{IsRow, items_of};
+ghost use Rattle.ssu_liveness.specs.LiveRows.{IsRow, items_of};
 ghost use Rattle.bank_form.specs.Program.{same_column};
 ghost use Rattle.bank_form.specs.Rows as lines;
 ghost use Rattle.bank_form.specs.inner.Adds.{Adds};
-ghost use Rattle.bank_form.specs.inner.Form.{sort_view};
+ghost use Rattle.bank_form.specs.inner.Form.{origin_view};
 ghost use Rattle.bank_form.specs.inner.Owners as owners;
 
 use crate::refills::push_fill_owners;
 use crate::waiting::push_write_owners;
 use bank_form::column::Column;
-use bank_form::form::{Form, Sort};
+use bank_form::form::{Form, Origin};
 use bank_form::lines::push_at_most;
 use bank_form::numbers::Numbers;
 use bank_form::tables::short;
@@ -47,10 +47,16 @@ pub fn run_at(r: u8, i: u32) -> Option<u8>
 }
 
 /// The column that a read value stays in register r, where it can.
-fn add_fetched(cs: &mut Vec<Column>, sdram: bool, r: u8, x: u32, sort: Sort) -> Result<(), NoMemory>
-    ensures { OnOk result (cs.new.items ≡ cs.old.items ++ lines.sort_stays sdram r x (sort_view sort)) }
+fn add_fetched(
+    cs: &mut Vec<Column>,
+    sdram: bool,
+    r: u8,
+    x: u32,
+    origin: Origin,
+) -> Result<(), NoMemory>
+    ensures { OnOk result (cs.new.items ≡ cs.old.items ++ lines.origin_stays sdram r x (origin_view origin)) }
 {
-    if let Sort::Fetched(m, i) = sort {
+    if let Origin::Fetched(m, i) = origin {
         if is_on_side(sdram, m) {
             if let Some(f) = run_at(r, i) {
                 cs.push(Column::Stay(x, f))?;
@@ -63,7 +69,7 @@ fn add_fetched(cs: &mut Vec<Column>, sdram: bool, r: u8, x: u32, sort: Sort) -> 
 fn add_stay(cs: &mut Vec<Column>, f: &Form<'_>, sdram: bool, r: u8, x: u32) -> Result<(), NoMemory>
     ensures { OnOk result (cs.new.items ≡ cs.old.items ++ owners.value_stays (labels_view f.now.ssu.now) sdram r x) }
 {
-    add_fetched(cs, sdram, r, x, f.sort_of(x))
+    add_fetched(cs, sdram, r, x, f.origin_of(x))
 }
 
 /// The columns that these values stay in register r.
@@ -177,7 +183,7 @@ fn push_read_owners(
     Ok(())
 }
 
-/// The rows of the fifth family, where these values are held at the points.
+/// The rows of the fifth family, where these values are live at the points.
 pub fn push_owners(
     alloc: Global,
     numbers: &Numbers,

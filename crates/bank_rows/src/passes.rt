@@ -11,7 +11,7 @@ ghost use Rattle.bank_form.specs.inner.Form as form;
 ghost use Rattle.bank_form.specs.inner.Form.{use_view, value_view};
 
 use bank_form::column::{Bank, Column, Service};
-use bank_form::form::{Form, Sort, Use, Value};
+use bank_form::form::{Form, Origin, Use, Value};
 use bank_form::lines::push_covers;
 use bank_form::names;
 use bank_form::numbers::Numbers;
@@ -108,12 +108,12 @@ fn push_result_written(
 ) -> Result<(), NoMemory>
     ensures { OnOk result (Adds (get same_column numbers.now) rows.old.items rows.new.items (lines.result_written (value_view v))) }
 {
-    match v.sort {
-        Sort::Parameter(_, _) => Ok(()),
-        Sort::Result => {
+    match v.origin {
+        Origin::Parameter(_, _) => Ok(()),
+        Origin::Result => {
             push_slot_written(alloc, numbers, v.point, Column::Def(v.var, Bank::M), rows)
         }
-        Sort::Fetched(_, _) => Ok(()),
+        Origin::Fetched(_, _) => Ok(()),
     }
 }
 

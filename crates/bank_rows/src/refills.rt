@@ -6,16 +6,16 @@ ghost use Rattle.std.specs.List.{AllZip, flat_map};
 ghost use Rattle.nv_base.specs.Sets.{is_in};
 ghost use Rattle.ssu_ir.specs.Points.{points};
 ghost use Rattle.ssu_ir.specs.View.{labels_view};
-ghost use Rattle.held_values.specs.Held.{IsRow, items_of};
+ghost use Rattle.ssu_liveness.specs.LiveRows.{IsRow, items_of};
 ghost use Rattle.bank_form.specs.Columns.{each_point};
 ghost use Rattle.bank_form.specs.Program.{same_column};
 ghost use Rattle.bank_form.specs.Rows as lines;
 ghost use Rattle.bank_form.specs.inner.Adds.{Adds};
-ghost use Rattle.bank_form.specs.inner.Form.{value_view, access_view, stop_view};
+ghost use Rattle.bank_form.specs.inner.Form.{value_view, access_view, summary_view};
 ghost use Rattle.bank_form.specs.inner.Owners as owners;
 
 use crate::owners::add_stays;
-use bank_form::form::{Access, Form, Stop, Value};
+use bank_form::form::{Access, Form, PointSummary, Value};
 use bank_form::lines::push_at_most;
 use bank_form::numbers::Numbers;
 use bank_limits::coverings::add_coverings;
@@ -130,19 +130,19 @@ fn push_reads(
     Ok(())
 }
 
-/// The rows of one point, where these values are held at the next.
-fn push_stop_fills(
+/// The rows of one point, where these values are live at the next.
+fn push_point_fills(
     alloc: Global,
     numbers: &Numbers,
     f: &Form<'_>,
-    stop: &Stop,
+    summary: &PointSummary,
     next: &[u32],
     rows: &mut Vec<Row>,
 ) -> Result<(), NoMemory>
-    ensures { OnOk result (Adds (get same_column numbers.now) rows.old.items rows.new.items (owners.part_fills (labels_view f.now.ssu.now) (stop_view stop.now) next.now)) }
+    ensures { OnOk result (Adds (get same_column numbers.now) rows.old.items rows.new.items (owners.part_fills (labels_view f.now.ssu.now) (summary_view summary.now) next.now)) }
 {
-    let xs = others(alloc, next, &stop.values)?;
-    push_reads(alloc, numbers, f, &xs, &stop.reads, rows)
+    let xs = others(alloc, next, &summary.values)?;
+    push_reads(alloc, numbers, f, &xs, &summary.reads, rows)
 }
 
 /// The row of a number, or none past the last.
@@ -159,19 +159,19 @@ fn push_fills(
     alloc: Global,
     numbers: &Numbers,
     f: &Form<'_>,
-    stops: &[Stop],
+    summaries: &[PointSummary],
     held: &[Vec<u32>],
     rows: &mut Vec<Row>,
 ) -> Result<(), NoMemory>
-    ensures { OnOk result (Adds (get same_column numbers.now) rows.old.items rows.new.items (owners.fills (labels_view f.now.ssu.now) (map stop_view stops.now) (owners.rest (items_of held.now)))) }
+    ensures { OnOk result (Adds (get same_column numbers.now) rows.old.items rows.new.items (owners.fills (labels_view f.now.ssu.now) (map summary_view summaries.now) (owners.rest (items_of held.now)))) }
 {
-    for k in 0..stops.len() {
-        push_stop_fills(alloc, numbers, f, &stops[k], row_at(held, k + 1), rows)?;
+    for k in 0..summaries.len() {
+        push_point_fills(alloc, numbers, f, &summaries[k], row_at(held, k + 1), rows)?;
     }
     Ok(())
 }
 
-/// The rows of the second sentence, where these values are held at the points.
+/// The rows of the second sentence, where these values are live at the points.
 pub fn push_fill_owners(
     alloc: Global,
     numbers: &Numbers,
@@ -182,5 +182,5 @@ pub fn push_fill_owners(
     requires held { AllZip IsRow (items_of held.now) (points (labels_view f.now.ssu.now)) }
     ensures { OnOk result (Adds (get same_column numbers.now) rows.old.items rows.new.items (each_point (lines.fill_owners (labels_view f.now.ssu.now)) 0 (points (labels_view f.now.ssu.now)))) }
 {
-    push_fills(alloc, numbers, f, &f.tables.stops, held, rows)
+    push_fills(alloc, numbers, f, &f.tables.summaries, held, rows)
 }

@@ -5,15 +5,15 @@ ghost use Rattle.std.specs.HashMap.{get};
 ghost use Rattle.ssu_ir.specs.Points.{points};
 ghost use Rattle.ssu_ir.specs.Slots.{node_of};
 ghost use Rattle.ssu_ir.specs.View.{labels_view};
-ghost use Rattle.held_values.specs.inner.Spots.{spot_place};
+ghost use Rattle.ssu_liveness.specs.inner.PointIds.{kind_of_point};
 ghost use Rattle.bank_form.specs.inner.Adds.{either};
 ghost use Rattle.bank_form.specs.inner.Form.{at_node, value_view};
 ghost use Rattle.bank_rows.specs.inner.Waiting as waits;
 
 use bank_form::form::Value;
-use held_values::Spot;
 use nv_base::NoMemory;
 use ssu_ir::{Ssu, SsuNode};
+use ssu_liveness::PointId;
 use std::alloc::Global;
 use std::collections::HashMap;
 
@@ -38,12 +38,12 @@ fn node_arms(n: &SsuNode) -> u32
 }
 
 /// How many nodes follow a point directly.
-fn spot_arms(s: &Ssu, spot: Spot) -> u32
-    ensures { result ≡ waits.arms (spot_place s.now spot) }
+fn point_arms(s: &Ssu, point_id: PointId) -> u32
+    ensures { result ≡ waits.arms (kind_of_point s.now point_id) }
 {
-    match spot {
-        Spot::Entry(_) => 1,
-        Spot::Node(id) => match s.nodes.get(id.0) {
+    match point_id {
+        PointId::Entry(_) => 1,
+        PointId::Node(id) => match s.nodes.get(id.0) {
             Some(n) => node_arms(n),
             None => 0,
         },
@@ -70,7 +70,7 @@ fn sum(a: u32, b: u32) -> Result<u32, NoMemory>
     }
 }
 
-/// How many points lie below one where two nodes follow, by those of the points behind it.
+/// How many points lie below one where two nodes follow, by those of the points after it.
 fn below_fork(below: &[u32], k: usize) -> Result<u32, NoMemory>
     requires { k < length below.now }
     ensures { IfOk result (λ b. b ≡ waits.below_at 2 (waits.read_from below.now) k) }
@@ -82,7 +82,7 @@ fn below_fork(below: &[u32], k: usize) -> Result<u32, NoMemory>
     }
 }
 
-/// How many points lie below one where so many nodes follow.
+/// How many points lie below one where N nodes follow.
 fn below_for(below: &[u32], k: usize, arms: u32) -> Result<u32, NoMemory>
     requires { k < length below.now }
     ensures { IfOk result (λ b. b ≡ waits.below_at arms (waits.read_from below.now) k) }
@@ -95,15 +95,15 @@ fn below_for(below: &[u32], k: usize, arms: u32) -> Result<u32, NoMemory>
 }
 
 /// How many points lie below each.
-pub fn belows(alloc: Global, s: &Ssu, spots: &[Spot]) -> Result<Vec<u32>, NoMemory>
-    requires { map (spot_place s.now) spots.now ≡ map (λ p. p.place) (points (labels_view s.now)) }
+pub fn counts_below(alloc: Global, s: &Ssu, point_ids: &[PointId]) -> Result<Vec<u32>, NoMemory>
+    requires { map (kind_of_point s.now) point_ids.now ≡ map (λ p. p.place) (points (labels_view s.now)) }
     ensures { IfOk result (λ v. v.items ≡ map (λ p. p.below) (points (labels_view s.now))) }
 {
-    let mut below = vec![in alloc; 0; spots.len()]?;
-    let mut k = spots.len();
+    let mut below = vec![in alloc; 0; point_ids.len()]?;
+    let mut k = point_ids.len();
     while k > 0 {
         k -= 1;
-        let b = below_for(&below, k, spot_arms(s, spots[k]))?;
+        let b = below_for(&below, k, point_arms(s, point_ids[k]))?;
         below[k] = b;
     }
     Ok(below)

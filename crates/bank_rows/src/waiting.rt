@@ -11,19 +11,19 @@ ghost use Rattle.bank_form.specs.Columns.{each_point};
 ghost use Rattle.bank_form.specs.Program.{same_column};
 ghost use Rattle.bank_form.specs.Rows as lines;
 ghost use Rattle.bank_form.specs.inner.Adds.{Adds};
-ghost use Rattle.bank_form.specs.inner.Form.{access_view, role_view, use_view, stop_view};
+ghost use Rattle.bank_form.specs.inner.Form.{access_view, role_view, use_view, summary_view};
 ghost use Rattle.bank_rows.specs.inner.Waiting as waits;
 
 use crate::owners::{is_on_side, run_at};
-use crate::spans::{Defined, belows, defined_at, item};
+use crate::spans::{Defined, counts_below, defined_at, item};
 use bank_form::column::Column;
-use bank_form::form::{Access, Form, Role, Stop, Use};
+use bank_form::form::{Access, Form, PointSummary, Role, Use};
 use bank_form::lines::push_at_most;
 use bank_form::numbers::Numbers;
 use bank_form::tables::short;
 use bank_limits::coverings::add_coverings;
-use held_values::spots_of;
 use nv_base::NoMemory;
+use ssu_liveness::point_ids_of;
 use std::alloc::Global;
 use zo_model::Row;
 
@@ -121,12 +121,12 @@ fn words_of_points(
     below: &[u32],
     defined: &Defined,
     uses: &[Use],
-    stops: &[Stop],
+    summaries: &[PointSummary],
 ) -> Result<Vec<Vec<Use>>, NoMemory>
-    ensures { IfOk result (λ v. waits.lists_of v.items ≡ waits.each_waiting below.now (get nat_eq defined.now) (map use_view uses.now) 0 stops.now) }
+    ensures { IfOk result (λ v. waits.lists_of v.items ≡ waits.each_waiting below.now (get nat_eq defined.now) (map use_view uses.now) 0 summaries.now) }
 {
     let mut words = Vec::new(alloc);
-    for k in 0..stops.len() {
+    for k in 0..summaries.len() {
         words.push(words_of_point(alloc, below, defined, short(k)?, uses)?)?;
     }
     Ok(words)
@@ -137,11 +137,11 @@ fn waiting_words(alloc: Global, f: &Form<'_>) -> Result<Vec<Vec<Use>>, NoMemory>
     requires single { single (labels_view f.now.ssu.now) ≡ true }
     ensures { IfOk result (λ v. waits.lists_of v.items ≡ waits.all_waiting (labels_view f.now.ssu.now)) }
 {
-    let spots = spots_of(alloc, f.ssu)?;
-    let below = belows(alloc, f.ssu, &spots)?;
+    let point_ids = point_ids_of(alloc, f.ssu)?;
+    let below = counts_below(alloc, f.ssu, &point_ids)?;
     let defined = defined_at(alloc, &f.tables.values)?;
     let written = written_words(alloc, &f.tables.uses)?;
-    words_of_points(alloc, &below, &defined, &written, &f.tables.stops)
+    words_of_points(alloc, &below, &defined, &written, &f.tables.summaries)
 }
 
 /// The columns that a word is put early into register r, where it can.
@@ -267,18 +267,26 @@ fn push_sdram_write_owners(
 }
 
 /// The write registers of one point, where these words wait.
-fn push_stop_writes(
+fn push_point_writes(
     alloc: Global,
     numbers: &Numbers,
-    stop: &Stop,
+    summary: &PointSummary,
     us: &[Use],
     rows: &mut Vec<Row>,
 ) -> Result<(), NoMemory>
-    ensures { OnOk result (Adds (get same_column numbers.now) rows.old.items rows.new.items (waits.part_writes (stop_view stop.now) (map use_view us.now))) }
+    ensures { OnOk result (Adds (get same_column numbers.now) rows.old.items rows.new.items (waits.part_writes (summary_view summary.now) (map use_view us.now))) }
 {
     let rs = [0, 1, 2, 3, 4, 5, 6, 7];
-    push_write_owners_at(alloc, numbers, stop.point, us, &stop.writes, &rs, rows)?;
-    push_sdram_write_owners(alloc, numbers, us, &stop.writes, &rs, rows)
+    push_write_owners_at(
+        alloc,
+        numbers,
+        summary.point,
+        us,
+        &summary.writes,
+        &rs,
+        rows,
+    )?;
+    push_sdram_write_owners(alloc, numbers, us, &summary.writes, &rs, rows)
 }
 
 /// The words of a number, or none past the last.
@@ -294,14 +302,14 @@ fn words_at(words: &[Vec<Use>], k: usize) -> &[Use]
 fn push_writes(
     alloc: Global,
     numbers: &Numbers,
-    stops: &[Stop],
+    summaries: &[PointSummary],
     words: &[Vec<Use>],
     rows: &mut Vec<Row>,
 ) -> Result<(), NoMemory>
-    ensures { OnOk result (Adds (get same_column numbers.now) rows.old.items rows.new.items (waits.writes (map stop_view stops.now) (waits.lists_of words.now))) }
+    ensures { OnOk result (Adds (get same_column numbers.now) rows.old.items rows.new.items (waits.writes (map summary_view summaries.now) (waits.lists_of words.now))) }
 {
-    for k in 0..stops.len() {
-        push_stop_writes(alloc, numbers, &stops[k], words_at(words, k), rows)?;
+    for k in 0..summaries.len() {
+        push_point_writes(alloc, numbers, &summaries[k], words_at(words, k), rows)?;
     }
     Ok(())
 }
@@ -317,5 +325,5 @@ pub fn push_write_owners(
     ensures { OnOk result (Adds (get same_column numbers.now) rows.old.items rows.new.items (each_point (lines.write_owners (labels_view f.now.ssu.now)) 0 (points (labels_view f.now.ssu.now)))) }
 {
     let words = waiting_words(alloc, f)?;
-    push_writes(alloc, numbers, &f.tables.stops, &words, rows)
+    push_writes(alloc, numbers, &f.tables.summaries, &words, rows)
 }

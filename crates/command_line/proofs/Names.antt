@@ -76,7 +76,7 @@ words-apart (verb ∷ a ∷ []) = two-apart verb a
 words-apart (verb ∷ a ∷ b ∷ []) = three-apart verb a b
 words-apart (verb ∷ a ∷ b ∷ c ∷ words) = more-apart verb a b c words
 
--- ---- options behind which a word stands
+-- ---- options after which a word stands
 with-none : (slots budget store : ℕ) (words : List (List ℕ)) → 0 < length words → options_with slots budget store words ≡ None
 with-none slots budget store [] some = absurd (omega arith)
 with-none slots budget store (word ∷ words) some = refl

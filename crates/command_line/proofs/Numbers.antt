@@ -1,4 +1,4 @@
--- The number that a word spells, by itself or behind a key.
+-- The number that a word spells, by itself or after a key.
 use Rattle.std.proofs.Common.{◌≡◌, ◌≢◌, ℕ, ◌<◌, ◌≤◌, ◌^◌, List, ◌++◌, Option, Some, None, Bool, true, false, ◌&&◌, if◌then◌else◌, length, drop, decimal, refl, ap, sym, ◌∙◌, arith}
 use Rattle.std.specs.Prelude.{nat_le, IfNone}
 use Rattle.std.specs.Str.{bytes_eq}
@@ -31,7 +31,7 @@ number-within word least most n w small low high = within word least most n (dig
 pub number-below : (word : List ℕ) (least most n : ℕ) → word ≡ decimal n → n < 2 ^ 64 → n < least → number_in least most word ≡ None
 number-below word least most n w small low = below word least most n (digits_value 10 word) (value-of word n w small) low
 
--- behind a key
+-- after a key
 behind-key : (key word : List ℕ) (n : ℕ) → word ≡ key ++ decimal n → n < 2 ^ 64 → digits_value 10 (drop (length key) word) ≡ n
 behind-key key word n w small =
     ap (λ (x : List ℕ). digits_value 10 (drop (length key) x)) w ∙ ap (digits_value 10) (drop-append_seam key (decimal n)) ∙ (decimal_is_IsNumeral n small).1
@@ -51,11 +51,11 @@ option-found key word least most n w small low high = found key word least most 
 pub option-below : (key word : List ℕ) (least most n : ℕ) → word ≡ key ++ decimal n → n < 2 ^ 64 → n < least → option_of key least most word ≡ None
 option-below key word least most n w small low = none-found key word least most n (digits_value 10 (drop (length key) word)) (behind-key key word n w small) low
 
--- the word, by what stands behind the key
+-- the word, by what stands after the key
 pub key-spelled : (key word spelling read : List ℕ) (n x : ℕ) → word ≡ key ++ drop x word → spelling ≡ drop x word → read ≡ spelling → read ≡ decimal n → word ≡ key ++ decimal n
 key-spelled key word spelling read n x w s r d = w ∙ ap (λ (l : List ℕ). key ++ l) (sym s ∙ sym r ∙ d)
 
--- behind the key stands no number up to `most`
+-- after the key stands no number up to `most`
 none-spelled : (word text : List ℕ) (least most n : ℕ) → (word ≡ text → most < n) → (if bytes_eq word text && nat_le least n && nat_le n most then Some n else None) ≡ None
 none-spelled word text least most n h = by (bytes_eq word text) refl
   where

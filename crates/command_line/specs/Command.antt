@@ -37,7 +37,7 @@ are_names a b = is_name a && is_name b && not (bytes_eq a b)
 abbrev pub are_three_names : List ℕ → List ℕ → List ℕ → Bool
 are_three_names a b c = are_names a b && are_names a c && are_names b c
 
--- the number of a range that a word spells behind a key
+-- the number of a range that a word spells after a key
 abbrev pub option_of : List ℕ → ℕ → ℕ → List ℕ → Option ℕ
 option_of key least most word =
     let n = digits_value 10 (drop (length key) word) in
@@ -55,7 +55,7 @@ number_in least most word =
 
 -- ---- the options of `compile`
 
--- the number that the first word spells behind a key, and the words behind it; where it spells none, this other number, and all
+-- the number that the first word spells after a key, and the words after it; where it spells none, this other number, and all
 -- words
 abbrev pub taken_or : List (List ℕ) → ℕ → List (List ℕ) → Option ℕ → ℕ × List (List ℕ)
 taken_or words other behind (Some n) = (n, behind)
@@ -71,7 +71,7 @@ pub record Options : Type 0 where
   pub budget : ℕ
   pub store : ℕ
 
--- no word may stand behind them
+-- no word may stand after them
 abbrev pub options_with : ℕ → ℕ → ℕ → List (List ℕ) → Option Options
 options_with slots budget store [] = Some (record { slots = slots; budget = budget; store = store })
 options_with slots budget store (word ∷ words) = None
@@ -111,7 +111,7 @@ command_of_three verb input object =
     else if bytes_eq verb (codes "peep") && are_names input object then Some (Peep input object)
     else None
 
--- run OBJ MEM steps=N, exec SRC MEM steps=N, contexts OBJ MEM SCHEDULE, with no word behind them
+-- run OBJ MEM steps=N, exec SRC MEM steps=N, contexts OBJ MEM SCHEDULE, with no word after them
 abbrev pub command_of_four : List ℕ → List ℕ → List ℕ → List ℕ → List (List ℕ) → Option Command
 command_of_four verb first second third (word ∷ words) = None
 command_of_four verb first second third [] =

@@ -57,7 +57,7 @@ cannot_read name = named (codes "cannot read ") name
 abbrev pub cannot_write : List ℕ → List ℕ
 cannot_write name = named (codes "cannot write ") name
 
--- why a command isn't done; want of memory prints nothing
+-- why a command isn't done; memory exhaustion prints nothing
 abbrev pub refusal_text : Refusal → List ℕ
 refusal_text NoMemory = []
 refusal_text (ReadFault name) = cannot_read name.now

@@ -16,7 +16,7 @@ const MOST_SEED: u64 = 4_294_967_295;
 /// The most lines of a made source.
 const MOST_LINES: u64 = 500;
 
-/// How a source is compiled: with so many slots, in a search of so many branches, to code of so many instructions.
+/// How a source is compiled: with N slots, in a search of so many branches, to code of so many instructions.
 #[derive(Clone, Copy)]
 pub struct Options {
     pub slots: u32,
@@ -143,7 +143,7 @@ fn are_three_names(a: &str, b: &str, c: &str) -> bool
     are_names(a, b) && are_names(a, c) && are_names(b, c)
 }
 
-// A command of four words or more, `words` being those behind the fourth.
+// A command of four words or more, `words` being those after the fourth.
 fn of_more<'a>(
     verb: &'a str,
     first: &'a str,
@@ -239,7 +239,7 @@ fn options_in<'a>(words: &'a [String]) -> Option<Options>
     }
 }
 
-// The number that the first word spells behind a key, and the words behind it; where it spells none, the other number and
+// The number that the first word spells after a key, and the words after it; where it spells none, the other number and
 // all words.
 fn taken_from<'a>(
     words: &'a [String],
@@ -264,7 +264,7 @@ fn taken_from<'a>(
     }
 }
 
-// The number of a range that the word spells behind a key.
+// The number of a range that the word spells after a key.
 fn option_in(word: &str, key: &str, least: u64, most: u64) -> Option<u64>
     ensures some { IfSome result (λ n. option_of key.now least most word.now ≡ Some n) }
     ensures none { IfNone result (option_of key.now least most word.now ≡ None) }

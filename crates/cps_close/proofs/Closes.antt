@@ -19,12 +19,12 @@ use Rattle.flow_ir.specs.Tree as flow
 use Rattle.flow_ir.specs.Formed as flow_formed
 use Rattle.flow_ir.specs.Wide.{live}
 use Rattle.cps_ir.specs.Callless.{only_jumps}
-use Rattle.cps_close.specs.inner.Closed.{Table, labels_in, labels_of_all, wanted, number, operands, tree_of, with_wanted, closed, closed_labels, defines, IsTable}
+use Rattle.cps_close.specs.inner.Closed.{Table, labels_in, labels_of_all, needed, number, operands, tree_of, with_wanted, closed, closed_labels, defines, IsTable}
 use Rattle.cps_close.proofs.Members.{either, in-left, in-right, in-first, out-both, in-or-out, stays, apart-turned, different-parts, different-join}
 use Rattle.cps_close.proofs.Places.{Setting, Place, Places, let-place, read-place, write-place, first-place, second-place, rest-place, label-places, body-place, other-places, label-here}
 use Rattle.cps_close.proofs.Settles.{Settled, AllSettled, all-ready, jump-takes, live-known, defines-defined}
 use Rattle.cps_close.proofs.Tables.{closed-at, closed-from}
-use Rattle.cps_close.proofs.Reached.{setting, place-of, kept-reached, all-settled, labels-differ, wanted-of}
+use Rattle.cps_close.proofs.Reached.{setting, place-of, kept-reached, all-settled, labels-differ, needed-of}
 
 -- ---- operands whose variables are known
 
@@ -52,11 +52,11 @@ length-operands (x ∷ xs) = ap suc (length-operands xs)
 
 -- ---- labels in scope
 
--- a label of the flow that takes so many words, and those that it wants
+-- a label of the flow that takes N words, and those that it wants
 pub record Target (labels : List flow.Label) (tab : Table) (l k : ℕ) : Type 0 where
   pub there : flow.Label
   pub found : slice_get labels (number tab l) ≡ Some there
-  pub many : length there.params ≡ k + length (wanted tab l)
+  pub many : length there.params ≡ k + length (needed tab l)
   pub counted : nat_le 1 (number tab l) ≡ true
 
 abbrev pub Targets : List flow.Label → Table → Scoped → Type 0
@@ -64,9 +64,9 @@ Targets labels tab ss = (l k : ℕ) → takes ss l k ≡ true → Target labels 
 
 settled-target : (labels : List flow.Label) (tab : Table) (l k : ℕ) (xs : List ℕ) (t : Term) → Settled labels tab (record { label = l; params = xs; body = t }) → length xs ≡ k → Target labels tab l k
 settled-target labels tab l k xs t s n = record {
-  there = with_wanted tab (record { label = l; params = xs; body = t }) (wanted tab l);
+  there = with_wanted tab (record { label = l; params = xs; body = t }) (needed tab l);
   found = s.found;
-  many = length-append xs (wanted tab l) ∙ ap (λ m. m + length (wanted tab l)) n;
+  many = length-append xs (needed tab l) ∙ ap (λ m. m + length (needed tab l)) n;
   counted = s.counted;
 }
 
@@ -84,10 +84,10 @@ targets-fix labels s h (label m xs t ls) ss all phi alone held known p g l k e =
 
 -- ---- trees
 
-jump-many : (labels : List flow.Label) (tab : Table) (l : ℕ) (bs : List Atom) → Target labels tab l (length bs) → flow_formed.takes_as_many (length (bs ++ operands (wanted tab l))) (slice_get labels (number tab l)) ≡ true
+jump-many : (labels : List flow.Label) (tab : Table) (l : ℕ) (bs : List Atom) → Target labels tab l (length bs) → flow_formed.takes_as_many (length (bs ++ operands (needed tab l))) (slice_get labels (number tab l)) ≡ true
 jump-many labels tab l bs t =
-    let n : length t.there.params ≡ length (bs ++ operands (wanted tab l)) = t.many ∙ sym (length-append bs (operands (wanted tab l)) ∙ ap (λ m. length bs + m) (length-operands (wanted tab l))) in
-    ap (flow_formed.takes_as_many (length (bs ++ operands (wanted tab l)))) t.found ∙ eq-eqb (length t.there.params) (length (bs ++ operands (wanted tab l))) n
+    let n : length t.there.params ≡ length (bs ++ operands (needed tab l)) = t.many ∙ sym (length-append bs (operands (needed tab l)) ∙ ap (λ m. length bs + m) (length-operands (needed tab l))) in
+    ap (flow_formed.takes_as_many (length (bs ++ operands (needed tab l)))) t.found ∙ eq-eqb (length t.there.params) (length (bs ++ operands (needed tab l))) n
 
 pub tree-formed : (labels : List flow.Label) (s : Setting) → AllSettled labels s → (t : Term) (ss : Scoped) (phi : Wants) (known : List ℕ) → Place s ss phi known t → Targets labels s.tab ss → (now : List ℕ) → Within (live (tree_of s.tab t)) now
     → flow_formed.is_formed labels now (tree_of s.tab t) ≡ true
@@ -134,9 +134,9 @@ tree-formed labels s h (Return bs) ss phi known p g now w = absurd (false≢true
 tree-formed labels s h (Throw k bs) ss phi known p g now w = absurd (false≢true p.jumps)
 tree-formed labels s h (Jump l bs) ss phi known p g now w =
     let target = g l (length bs) (jump-takes s ss phi known l bs p) in
-    and_from (all_known now (bs ++ operands (wanted s.tab l))) (nat_le 1 (number s.tab l) && flow_formed.takes_as_many (length (bs ++ operands (wanted s.tab l))) (slice_get labels (number s.tab l)))
-    (atoms-live now (bs ++ operands (wanted s.tab l)) w)
-    (and_from (nat_le 1 (number s.tab l)) (flow_formed.takes_as_many (length (bs ++ operands (wanted s.tab l))) (slice_get labels (number s.tab l))) target.counted (jump-many labels s.tab l bs target))
+    and_from (all_known now (bs ++ operands (needed s.tab l))) (nat_le 1 (number s.tab l) && flow_formed.takes_as_many (length (bs ++ operands (needed s.tab l))) (slice_get labels (number s.tab l)))
+    (atoms-live now (bs ++ operands (needed s.tab l)) w)
+    (and_from (nat_le 1 (number s.tab l)) (flow_formed.takes_as_many (length (bs ++ operands (needed s.tab l))) (slice_get labels (number s.tab l))) target.counted (jump-many labels s.tab l bs target))
 tree-formed labels s h (Halt k bs) ss phi known p g now w = and_from (all_known now bs) (nat_le (length bs) 8) (atoms-live now bs w) (and_parts (all_known known bs) (nat_le (length bs) 8) p.formed).1
 
 -- ---- variables of a label
@@ -178,7 +178,7 @@ defines-different (Halt k bs) e = refl
 
 -- what is known of a label of the flow
 pub record LabelFormed (labels : List flow.Label) (tab : Table) (c : Seen) : Type 0 where
-  pub formed : flow_formed.is_label labels (with_wanted tab c (wanted tab c.label)) ≡ true
+  pub formed : flow_formed.is_label labels (with_wanted tab c (needed tab c.label)) ≡ true
 
 abbrev pub AllSeen : (Seen → Type 0) → List Seen → Type 0
 AllSeen P [] = true ≡ true
@@ -194,19 +194,19 @@ seen-at P (d ∷ cs) zero c h e = let same : d ≡ c = same_Some d c e in subst 
 seen-at P (d ∷ cs) (suc i) c h e = seen-at P cs i c h.1 e
 
 label-formed : (labels : List flow.Label) (s : Setting) → AllSettled labels s → (l : ℕ) (xs : List ℕ) (t : Term) (ss : Scoped) (phi : Wants) (known : List ℕ) → Place s ss phi (xs ++ known) t → Targets labels s.tab ss → all_different (xs ++ defined t) ≡ true
-    → Settled labels s.tab (record { label = l; params = xs; body = t }) → Within (live (tree_of s.tab t)) (xs ++ wanted s.tab l) → LabelFormed labels s.tab (record { label = l; params = xs; body = t })
+    → Settled labels s.tab (record { label = l; params = xs; body = t }) → Within (live (tree_of s.tab t)) (xs ++ needed s.tab l) → LabelFormed labels s.tab (record { label = l; params = xs; body = t })
 label-formed labels s h l xs t ss phi known p g d settled w =
-    let vs = wanted s.tab l in
+    let vs = needed s.tab l in
     let parts = different-parts xs (defined t) d in
-    let first : all_different (xs ++ wanted s.tab l) ≡ true = different-join xs (wanted s.tab l) parts.0 settled.single (apart-turned (wanted s.tab l) xs (λ y i. (out-both y xs (defines t) (settled.apart y i)).0)) in
-    let all : all_different ((xs ++ wanted s.tab l) ++ defines t) ≡ true =
-    different-join (xs ++ wanted s.tab l) (defines t) first (defines-different t parts.1)
-    (λ y i. either y xs (wanted s.tab l) i (λ q. out-inside y (defines t) (defined t) (defines-defined t) (parts.2 y q)) (λ q. (out-both y xs (defines t) (settled.apart y q)).1)) in
+    let first : all_different (xs ++ needed s.tab l) ≡ true = different-join xs (needed s.tab l) parts.0 settled.single (apart-turned (needed s.tab l) xs (λ y i. (out-both y xs (defines t) (settled.apart y i)).0)) in
+    let all : all_different ((xs ++ needed s.tab l) ++ defines t) ≡ true =
+    different-join (xs ++ needed s.tab l) (defines t) first (defines-different t parts.1)
+    (λ y i. either y xs (needed s.tab l) i (λ q. out-inside y (defines t) (defined t) (defines-defined t) (parts.2 y q)) (λ q. (out-both y xs (defines t) (settled.apart y q)).1)) in
     record {
       formed =
-          and_from (flow_formed.is_formed labels (xs ++ wanted s.tab l) (tree_of s.tab t)) (all_different ((xs ++ wanted s.tab l) ++ flow_formed.defined (tree_of s.tab t)))
-          (tree-formed labels s h t ss phi (xs ++ known) p g (xs ++ wanted s.tab l) w)
-          (ap (λ ds. all_different ((xs ++ wanted s.tab l) ++ ds)) (tree-defined s.tab t) ∙ all);
+          and_from (flow_formed.is_formed labels (xs ++ needed s.tab l) (tree_of s.tab t)) (all_different ((xs ++ needed s.tab l) ++ flow_formed.defined (tree_of s.tab t)))
+          (tree-formed labels s h t ss phi (xs ++ known) p g (xs ++ needed s.tab l) w)
+          (ap (λ ds. all_different ((xs ++ needed s.tab l) ++ ds)) (tree-defined s.tab t) ∙ all);
     }
 
 mutual
@@ -270,11 +270,11 @@ pub some-label : (a b : flow.Label) → Some a ≡ Some b → a ≡ b
 some-label a b e = same_Some a b e
 
 -- the label of the flow for the label at an index
-pub closed-wanted : (funs : List Fun) (f : Fun) (tab : Table) → is_function funs f ≡ true → only_jumps f.body ≡ true → IsTable (labels_in f.body) tab → (i : ℕ) (c : Seen) → slice_get (labels_in f.body) i ≡ Some c
-    → slice_get (closed_labels tab (labels_in f.body) tab.lists) i ≡ Some (with_wanted tab c (wanted tab c.label))
-closed-wanted funs f tab e j t i c at =
+pub closed-needed : (funs : List Fun) (f : Fun) (tab : Table) → is_function funs f ≡ true → only_jumps f.body ≡ true → IsTable (labels_in f.body) tab → (i : ℕ) (c : Seen) → slice_get (labels_in f.body) i ≡ Some c
+    → slice_get (closed_labels tab (labels_in f.body) tab.lists) i ≡ Some (with_wanted tab c (needed tab c.label))
+closed-needed funs f tab e j t i c at =
     let k = kept-reached funs f tab e j t.reached in
-    closed-at tab (labels_in f.body) tab.lists i c at ∙ ap (λ v. Some (with_wanted tab c v)) (sym (wanted-of f tab k.index i c (labels-differ funs f e) at))
+    closed-at tab (labels_in f.body) tab.lists i c at ∙ ap (λ v. Some (with_wanted tab c v)) (sym (needed-of f tab k.index i c (labels-differ funs f e) at))
 
 label-at : (funs : List Fun) (f : Fun) (tab : Table) → is_function funs f ≡ true → only_jumps f.body ≡ true → IsTable (labels_in f.body) tab → (i : ℕ) (l : flow.Label) → slice_get (closed tab f) i ≡ Some l → flow_formed.is_label (closed tab f) l ≡ true
 label-at funs f tab e j t zero l q =
@@ -286,8 +286,8 @@ label-at funs f tab e j t (suc i) l q =
     let all = labels-formed (closed tab f) (setting funs f tab) settled f.body [] nowhere f.params (place-of funs f tab e j k.least) (none-targets (closed tab f) tab) in
     let from = closed-from tab (labels_in f.body) tab.lists i l q in
     let one = seen-at (LabelFormed (closed tab f) tab) (labels_in f.body) i from.0 all from.1 in
-    let here = closed-wanted funs f tab e j t i from.0 from.1 in
-    let same : with_wanted tab from.0 (wanted tab from.0.label) ≡ l = some-label (with_wanted tab from.0 (wanted tab from.0.label)) l (sym here ∙ q) in
+    let here = closed-needed funs f tab e j t i from.0 from.1 in
+    let same : with_wanted tab from.0 (needed tab from.0.label) ≡ l = some-label (with_wanted tab from.0 (needed tab from.0.label)) l (sym here ∙ q) in
     subst (λ z. flow_formed.is_label (closed tab f) z ≡ true) same one.formed
 
 -- the flow of a function of at most 8 parameters is well formed

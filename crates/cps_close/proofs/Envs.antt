@@ -1,4 +1,4 @@
--- Environments behind assignments.
+-- Environments after assignments.
 use Rattle.std.proofs.Common.{◌≡◌, ℕ, Bool, true, false, nat_eq, ◌||◌, List, [], ◌∷◌, ◌++◌, refl, sym, ap, subst, ◌∙◌, if◌then◌else◌, length, arith}
 use Rattle.std.proofs.lemmas.Bool.{or_right, false≢true}
 use Rattle.nv_base.specs.declared.term.Atom.{Atom}

@@ -13,9 +13,9 @@ turned false true = refl
 turned false false = refl
 
 -- the set that has what is gone, and then what is wanted
-pub members-start : (gone wanted now : List ℕ) (q : ℕ) (b0 b1 b2 : Bool) → b0 ≡ false → b1 ≡ (is_in q gone || b0) → b2 ≡ (is_in q wanted || b1) → now ≡ wanted → b2 ≡ is_in q (gone ++ now)
-members-start gone wanted now q b0 b1 b2 e0 e1 e2 e =
-    e2 ∙ ap (λ b. is_in q wanted || b) (e1 ∙ ap (λ b. is_in q gone || b) e0) ∙ turned (is_in q wanted) (is_in q gone) ∙ sym (in-append q gone wanted) ∙ ap (λ l. is_in q (gone ++ l)) (sym e)
+pub members-start : (gone needed now : List ℕ) (q : ℕ) (b0 b1 b2 : Bool) → b0 ≡ false → b1 ≡ (is_in q gone || b0) → b2 ≡ (is_in q needed || b1) → now ≡ needed → b2 ≡ is_in q (gone ++ now)
+members-start gone needed now q b0 b1 b2 e0 e1 e2 e =
+    e2 ∙ ap (λ b. is_in q needed || b) (e1 ∙ ap (λ b. is_in q gone || b) e0) ∙ turned (is_in q needed) (is_in q gone) ∙ sym (in-append q gone needed) ∙ ap (λ l. is_in q (gone ++ l)) (sym e)
 
 -- the list with one more, if it isn't there
 abbrev pub added : Bool → List ℕ → ℕ → List ℕ

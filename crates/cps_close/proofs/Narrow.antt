@@ -17,13 +17,13 @@ use Rattle.flow_ir.specs.Tree as flow
 use Rattle.flow_ir.specs.Wide.{live, tree_wide, label_wide}
 use Rattle.flow_ir.specs.Wide as behind
 use Rattle.cps_ir.specs.Callless.{only_jumps}
-use Rattle.cps_close.specs.inner.Closed.{Table, labels_in, labels_of_all, wanted, operands, tree_of, with_wanted, closed, IsTable}
+use Rattle.cps_close.specs.inner.Closed.{Table, labels_in, labels_of_all, needed, operands, tree_of, with_wanted, closed, IsTable}
 use Rattle.cps_close.proofs.Members.{in-left, in-right}
 use Rattle.cps_close.proofs.Places.{Setting, Place, Places, let-place, read-place, write-place, first-place, second-place, rest-place, label-places, body-place, other-places, label-here}
-use Rattle.cps_close.proofs.Settles.{Settled, AllSettled, jump-takes, live-wanted}
+use Rattle.cps_close.proofs.Settles.{Settled, AllSettled, jump-takes, live-needed}
 use Rattle.cps_close.proofs.Tables.{closed-from}
 use Rattle.cps_close.proofs.Reached.{setting, place-of, kept-reached, all-settled}
-use Rattle.cps_close.proofs.Closes.{AllSeen, seen-join, seen-at, length-operands, closed-wanted, some-label}
+use Rattle.cps_close.proofs.Closes.{AllSeen, seen-join, seen-at, length-operands, closed-needed, some-label}
 
 -- ---- the greatest of two
 
@@ -47,27 +47,27 @@ operands-alone (a ∷ as') = let h : 0 + (length (a ∷ as') + 1) ≤ length (a 
 
 -- where a label in scope begins is at most so wide
 abbrev pub Entries : Table → Scoped → ℕ → Type 0
-Entries tab ss m = (l k : ℕ) → takes ss l k ≡ true → k + length (wanted tab l) + 1 ≤ m
+Entries tab ss m = (l k : ℕ) → takes ss l k ≡ true → k + length (needed tab l) + 1 ≤ m
 
-entry-at : (tab : Table) (b : Bool) (l k n c m : ℕ) (o : Option ℕ) → nat_eq n l ≡ b → c + length (wanted tab n) + 1 ≤ m → (takes_as_many k o ≡ true → k + length (wanted tab l) + 1 ≤ m) → takes_as_many k (if b then Some c else o) ≡ true
-    → k + length (wanted tab l) + 1 ≤ m
+entry-at : (tab : Table) (b : Bool) (l k n c m : ℕ) (o : Option ℕ) → nat_eq n l ≡ b → c + length (needed tab n) + 1 ≤ m → (takes_as_many k o ≡ true → k + length (needed tab l) + 1 ≤ m) → takes_as_many k (if b then Some c else o) ≡ true
+    → k + length (needed tab l) + 1 ≤ m
 entry-at tab true l k n c m o same h g e =
     let many : c ≡ k = eqb-true c k e in
-    subst (λ z. k + length (wanted tab z) + 1 ≤ m) (same-number n l same) (subst (λ z. z + length (wanted tab n) + 1 ≤ m) many h)
+    subst (λ z. k + length (needed tab z) + 1 ≤ m) (same-number n l same) (subst (λ z. z + length (needed tab n) + 1 ≤ m) many h)
 entry-at tab false l k n c m o same h g e = g e
 
-few-wanted : (labels : List flow.Label) (tab : Table) (c : Seen) (held : List ℕ) → Settled labels tab c → Within (wanted tab c.label) held → length (wanted tab c.label) ≤ different held
-few-wanted labels tab c held s h = omega (arith, different-all (wanted tab c.label) s.single, different-below (wanted tab c.label) held h)
+few-needed : (labels : List flow.Label) (tab : Table) (c : Seen) (held : List ℕ) → Settled labels tab c → Within (needed tab c.label) held → length (needed tab c.label) ≤ different held
+few-needed labels tab c held s h = omega (arith, different-all (needed tab c.label) s.single, different-below (needed tab c.label) held h)
 
 entries-fix : (labels : List flow.Label) (s : Setting) → AllSettled labels s → (ls : Labels) (ss all : Scoped) (phi alone : Wants) (held known : List ℕ) (funs : List Fun) (w : Widths) (own m : ℕ) → Places s all phi alone held known ls → labels_wide funs w own phi held ls ≤ m
     → Entries s.tab ss m → Entries s.tab (scoped ls ++ ss) m
 entries-fix labels s h none ss all phi alone held known funs w own m p le g l k e = g l k e
 entries-fix labels s h (label n xs t ls) ss all phi alone held known funs w own m p le g l k e =
     let there = label-here s all phi alone held known n xs t ls p in
-    let few = few-wanted labels s.tab (record { label = n; params = xs; body = t }) held (h (record { label = n; params = xs; body = t }) there.0 there.1) p.least.0 in
+    let few = few-needed labels s.tab (record { label = n; params = xs; body = t }) held (h (record { label = n; params = xs; body = t }) there.0 there.1) p.least.0 in
     let outer = max-first (max (entry_wide held (length xs)) (term_wide funs w own phi t)) (labels_wide funs w own phi held ls) m le in
     let entry : different held + (length xs + 1) ≤ m = max-first (entry_wide held (length xs)) (term_wide funs w own phi t) m outer in
-    let here : length xs + length (wanted s.tab n) + 1 ≤ m = omega (arith, few, entry) in
+    let here : length xs + length (needed s.tab n) + 1 ≤ m = omega (arith, few, entry) in
     entry-at s.tab (nat_eq n l) l k n (length xs) m (arity l (scoped ls ++ ss)) refl here
     (entries-fix labels s h ls ss all phi alone held known funs w own m (other-places s all phi alone held known n xs t ls p) (max-second (max (entry_wide held (length xs)) (term_wide funs w own phi t)) (labels_wide funs w own phi held ls) m le) g l k) e
 
@@ -77,13 +77,13 @@ pub tree-narrow : (labels : List flow.Label) (s : Setting) → AllSettled labels
     → tree_wide (tree_of s.tab t) ≤ m
 tree-narrow labels s h funs w own m (Let x a t) ss phi known p g le =
     let place = let-place s ss phi known x a t p in
-    let extra = let-more (prim_vars a ++ without (live (tree_of s.tab t)) (x ∷ [])) (prim_vars a ++ without (wants phi t) (x ∷ [])) (live-wanted s (Let x a t) ss phi known p) in
+    let extra = let-more (prim_vars a ++ without (live (tree_of s.tab t)) (x ∷ [])) (prim_vars a ++ without (wants phi t) (x ∷ [])) (live-needed s (Let x a t) ss phi known p) in
     max-both (let_wide (prim_vars a ++ without (live (tree_of s.tab t)) (x ∷ []))) (tree_wide (tree_of s.tab t)) m
     (at-most (let_wide (prim_vars a ++ without (live (tree_of s.tab t)) (x ∷ []))) (let_wide (prim_vars a ++ without (wants phi t) (x ∷ []))) m extra (max-first (let_wide (prim_vars a ++ without (wants phi t) (x ∷ []))) (term_wide funs w own phi t) m le))
     (tree-narrow labels s h funs w own m t ss phi (x ∷ known) place g (max-second (let_wide (prim_vars a ++ without (wants phi t) (x ∷ []))) (term_wide funs w own phi t) m le))
 tree-narrow labels s h funs w own m (Read o xs a t) ss phi known p g le =
     let place = read-place s ss phi known o xs a t p in
-    let inner = live-wanted s t ss phi (xs ++ known) place in
+    let inner = live-needed s t ss phi (xs ++ known) place in
     let first = max-first (max (operands_wide (without (wants phi t) xs) (a ∷ [])) (different (xs ++ wants phi t))) (term_wide funs w own phi t) m le in
     let held = operands-more (without (live (tree_of s.tab t)) xs) (without (wants phi t) xs) (a ∷ []) (within-without_same (live (tree_of s.tab t)) (wants phi t) xs inner) in
     let all = different-below (xs ++ live (tree_of s.tab t)) (xs ++ wants phi t) (within-behind_same xs (live (tree_of s.tab t)) (wants phi t) inner) in
@@ -95,7 +95,7 @@ tree-narrow labels s h funs w own m (Read o xs a t) ss phi known p g le =
 tree-narrow labels s h funs w own m (Write o a bs t) ss phi known p g le =
     let place = write-place s ss phi known o a bs t p in
     max-both (operands_wide (live (tree_of s.tab t)) (a ∷ bs)) (tree_wide (tree_of s.tab t)) m
-    (at-most (operands_wide (live (tree_of s.tab t)) (a ∷ bs)) (operands_wide (wants phi t) (a ∷ bs)) m (operands-more (live (tree_of s.tab t)) (wants phi t) (a ∷ bs) (live-wanted s t ss phi known place))
+    (at-most (operands_wide (live (tree_of s.tab t)) (a ∷ bs)) (operands_wide (wants phi t) (a ∷ bs)) m (operands-more (live (tree_of s.tab t)) (wants phi t) (a ∷ bs) (live-needed s t ss phi known place))
     (max-first (operands_wide (wants phi t) (a ∷ bs)) (term_wide funs w own phi t) m le))
     (tree-narrow labels s h funs w own m t ss phi known place g (max-second (operands_wide (wants phi t) (a ∷ bs)) (term_wide funs w own phi t) m le))
 tree-narrow labels s h funs w own m (If c a b t u) ss phi known p g le =
@@ -103,7 +103,7 @@ tree-narrow labels s h funs w own m (If c a b t u) ss phi known p g le =
     let two = second-place s ss phi known c a b t u p in
     let here = operands_wide (wants phi t ++ wants phi u) (a ∷ b ∷ []) in
     let within : Within (live (tree_of s.tab t) ++ live (tree_of s.tab u)) (wants phi t ++ wants phi u) =
-    within-both (live (tree_of s.tab t)) (live (tree_of s.tab u)) (wants phi t ++ wants phi u) (λ y e. in-left y (wants phi t) (wants phi u) (live-wanted s t ss phi known one y e)) (λ y e. in-right y (wants phi t) (wants phi u) (live-wanted s u ss phi known two y e)) in
+    within-both (live (tree_of s.tab t)) (live (tree_of s.tab u)) (wants phi t ++ wants phi u) (λ y e. in-left y (wants phi t) (wants phi u) (live-needed s t ss phi known one y e)) (λ y e. in-right y (wants phi t) (wants phi u) (live-needed s u ss phi known two y e)) in
     let rest = max-second (operands_wide (wants phi t ++ wants phi u) (a ∷ b ∷ [])) (max (term_wide funs w own phi t) (term_wide funs w own phi u)) m le in
     max-both (operands_wide (live (tree_of s.tab t) ++ live (tree_of s.tab u)) (a ∷ b ∷ [])) (max (tree_wide (tree_of s.tab t)) (tree_wide (tree_of s.tab u))) m
     (at-most (operands_wide (live (tree_of s.tab t) ++ live (tree_of s.tab u)) (a ∷ b ∷ [])) (operands_wide (wants phi t ++ wants phi u) (a ∷ b ∷ [])) m
@@ -121,14 +121,14 @@ tree-narrow labels s h funs w own m (Return bs) ss phi known p g le = absurd (fa
 tree-narrow labels s h funs w own m (Throw k bs) ss phi known p g le = absurd (false≢true p.jumps)
 tree-narrow labels s h funs w own m (Jump l bs) ss phi known p g le =
     let entry = g l (length bs) (jump-takes s ss phi known l bs p) in
-    let done : operands_wide [] (bs ++ operands (wanted s.tab l)) ≤ m = omega (arith, operands-alone (bs ++ operands (wanted s.tab l)), length-append bs (operands (wanted s.tab l)), length-operands (wanted s.tab l), entry) in
+    let done : operands_wide [] (bs ++ operands (needed s.tab l)) ≤ m = omega (arith, operands-alone (bs ++ operands (needed s.tab l)), length-append bs (operands (needed s.tab l)), length-operands (needed s.tab l), entry) in
     done
 tree-narrow labels s h funs w own m (Halt k bs) ss phi known p g le = le
 
 -- ---- labels
 
 pub record Narrow (tab : Table) (m : ℕ) (c : Seen) : Type 0 where
-  pub by : label_wide (with_wanted tab c (wanted tab c.label)) ≤ m
+  pub by : label_wide (with_wanted tab c (needed tab c.label)) ≤ m
 
 mutual
   labels-narrow : (labels : List flow.Label) (s : Setting) → AllSettled labels s → (funs : List Fun) (w : Widths) (own m : ℕ) (t : Term) (ss : Scoped) (phi : Wants) (known : List ℕ) → Place s ss phi known t → Entries s.tab ss m → term_wide funs w own phi t ≤ m
@@ -165,14 +165,14 @@ mutual
   all-narrow labels s h funs w own m (label n xs t ls) ss phi alone held known p g le =
       let body = body-place s ss phi alone held known n xs t ls p in
       let there = label-here s ss phi alone held known n xs t ls p in
-      let few = few-wanted labels s.tab (record { label = n; params = xs; body = t }) held (h (record { label = n; params = xs; body = t }) there.0 there.1) p.least.0 in
+      let few = few-needed labels s.tab (record { label = n; params = xs; body = t }) held (h (record { label = n; params = xs; body = t }) there.0 there.1) p.least.0 in
       let outer = max-first (max (entry_wide held (length xs)) (term_wide funs w own phi t)) (labels_wide funs w own phi held ls) m le in
       let entry : different held + (length xs + 1) ≤ m = max-first (entry_wide held (length xs)) (term_wide funs w own phi t) m outer in
       let inner = max-second (entry_wide held (length xs)) (term_wide funs w own phi t) m outer in
-      let count = length-append xs (wanted s.tab n) in
-      let begins : 0 + (length (xs ++ wanted s.tab n) + 1) ≤ m = omega (arith, few, entry, count) in
+      let count = length-append xs (needed s.tab n) in
+      let begins : 0 + (length (xs ++ needed s.tab n) + 1) ≤ m = omega (arith, few, entry, count) in
       seen-join (Narrow s.tab m) (labels_in t) (record { label = n; params = xs; body = t } ∷ labels_of_all ls) (labels-narrow labels s h funs w own m t ss phi (xs ++ known) body g inner) (
-        record { by = max-both (entry_wide [] (length (xs ++ wanted s.tab n))) (tree_wide (tree_of s.tab t)) m begins (tree-narrow labels s h funs w own m t ss phi (xs ++ known) body g inner) },
+        record { by = max-both (entry_wide [] (length (xs ++ needed s.tab n))) (tree_wide (tree_of s.tab t)) m begins (tree-narrow labels s h funs w own m t ss phi (xs ++ known) body g inner) },
         all-narrow labels s h funs w own m ls ss phi alone held known (other-places s ss phi alone held known n xs t ls p) g (max-second (max (entry_wide held (length xs)) (term_wide funs w own phi t)) (labels_wide funs w own phi held ls) m le),
       )
 
@@ -202,8 +202,8 @@ flow-at funs w f tab e j t (suc i) l q =
     let all = labels-narrow (closed tab f) (setting funs f tab) (all-settled funs f tab e j t) funs w f.group (function_wide funs w f) f.body [] nowhere f.params (place-of funs f tab e j k.least) (no-entries tab (function_wide funs w f)) second in
     let from = closed-from tab (labels_in f.body) tab.lists i l q in
     let one = seen-at (Narrow tab (function_wide funs w f)) (labels_in f.body) i from.0 all from.1 in
-    let here = closed-wanted funs f tab e j t i from.0 from.1 in
-    let same : with_wanted tab from.0 (wanted tab from.0.label) ≡ l = some-label (with_wanted tab from.0 (wanted tab from.0.label)) l (sym here ∙ q) in
+    let here = closed-needed funs f tab e j t i from.0 from.1 in
+    let same : with_wanted tab from.0 (needed tab from.0.label) ≡ l = some-label (with_wanted tab from.0 (needed tab from.0.label)) l (sym here ∙ q) in
     subst (λ z. label_wide z ≤ function_wide funs w f) same one.by
 
 -- the flow of a program's main function is at most as wide as the program

@@ -10,7 +10,7 @@ use Rattle.cps_ir.specs.View.{Seen}
 use Rattle.cps_ir.specs.Callless.{only_jumps, labels_only_jump}
 use Rattle.cps_ir.specs.Formed.{Scoped, scoped, arity, takes, takes_as_many, is_formed, are_formed, defined, labels_defined}
 use Rattle.cps_ir.specs.Wide.{Wants, with_wants, wants, labels_want, inside}
-use Rattle.cps_close.specs.inner.Closed.{Table, wanted, used, bound, labels_in, labels_of_all}
+use Rattle.cps_close.specs.inner.Closed.{Table, needed, used, bound, labels_in, labels_of_all}
 use Rattle.cps_close.proofs.Ready.{Apart}
 use Rattle.cps_close.proofs.Members.{either, first-or-rest, out-both, in-right, different-parts}
 use Rattle.cps_close.proofs.Wants.{inside-more, WantsKnown, known-fix, known-wider, labels-want-known}
@@ -36,7 +36,7 @@ abbrev mutual
 
 -- it wants no more
 abbrev pub Least : Table → List ℕ → Seen → Type 0
-Least tab held c = Within (wanted tab c.label) held
+Least tab held c = Within (needed tab c.label) held
 
 -- it uses no more
 abbrev pub Uses : Table → List ℕ → Seen → Type 0
@@ -76,7 +76,7 @@ pub record Setting : Type 0 where
 
 -- labels in scope want at least what they have
 abbrev pub Covers : Table → Scoped → Wants → Type 0
-Covers tab ss phi = (l n : ℕ) → takes ss l n ≡ true → Within (wanted tab l) (phi l)
+Covers tab ss phi = (l n : ℕ) → takes ss l n ≡ true → Within (needed tab l) (phi l)
 
 pub record Place (s : Setting) (ss : Scoped) (phi : Wants) (known : List ℕ) (t : Term) : Type 0 where
   pub formed : is_formed s.funs s.own s.results ss known t ≡ true
@@ -174,9 +174,9 @@ second-place s ss phi known c a b t u p = record {
 
 -- ---- labels
 
-covers-at : (b : Bool) (tab : Table) (l k n m : ℕ) (o : Option ℕ) (u vs : List ℕ) → nat_eq k l ≡ b → Within (wanted tab k) vs → (takes_as_many n o ≡ true → Within (wanted tab l) u) → takes_as_many n (if b then Some m else o) ≡ true
-    → Within (wanted tab l) (if b then vs else u)
-covers-at true tab l k n m o u vs same h g e = subst (λ z. Within (wanted tab z) vs) (same-number k l same) h
+covers-at : (b : Bool) (tab : Table) (l k n m : ℕ) (o : Option ℕ) (u vs : List ℕ) → nat_eq k l ≡ b → Within (needed tab k) vs → (takes_as_many n o ≡ true → Within (needed tab l) u) → takes_as_many n (if b then Some m else o) ≡ true
+    → Within (needed tab l) (if b then vs else u)
+covers-at true tab l k n m o u vs same h g e = subst (λ z. Within (needed tab z) vs) (same-number k l same) h
 covers-at false tab l k n m o u vs same h g e = g e
 
 covers-fix : (tab : Table) (ls : Labels) (ss : Scoped) (phi psi : Wants) (held : List ℕ) → Covers tab ss phi → AllPlaces (Least tab) psi held ls → Covers tab (scoped ls ++ ss) (with_wants phi ls held)

@@ -9,7 +9,7 @@ use Rattle.cps_ir.specs.View.{Seen}
 use Rattle.cps_ir.specs.Formed.{is_formed, is_function, defined, made}
 use Rattle.cps_ir.specs.Wide.{Wants, with_wants, labels_want, inside, nowhere}
 use Rattle.cps_ir.specs.Callless.{only_jumps}
-use Rattle.cps_close.specs.inner.Closed.{Table, labels_in, labels_of_all, index_of, or_nothing, wanted_there, wanted, number_there, with_wanted, closed, used, bound, noted, noted_all, grown, step, step_there, none_wanted, start, after, IsReached, IsTable}
+use Rattle.cps_close.specs.inner.Closed.{Table, labels_in, labels_of_all, index_of, or_nothing, needed_there, needed, number_there, with_wanted, closed, used, bound, noted, noted_all, grown, step, step_there, none_wanted, start, after, IsReached, IsTable}
 use Rattle.cps_close.proofs.Ready.{Apart}
 use Rattle.cps_close.proofs.Members.{either, first-or-rest, in-rest, out-both, in-not-out, in-or-out, different-parts, different-join}
 use Rattle.cps_close.proofs.Places.{Everywhere, AllPlaces, Least, Uses, Among, Sub, sub-left, sub-right, Setting, Place}
@@ -160,7 +160,7 @@ none-there [] i = refl
 none-there (c ∷ cs) zero = refl
 none-there (c ∷ cs) (suc i) = none-there cs i
 
-none-at : (cs : List Seen) (o : Option ℕ) → wanted_there (none_wanted cs) o ≡ []
+none-at : (cs : List Seen) (o : Option ℕ) → needed_there (none_wanted cs) o ≡ []
 none-at cs (Some i) = none-there cs i
 none-at cs None = refl
 
@@ -189,8 +189,8 @@ set-any P ws i j v old new =
     ⊎_elim (λ (e : i ≡ j). subst (λ k. P (or_nothing (slice_get (slice_set ws i v) k))) e (set-at P ws i v (slice_get ws i) refl (subst (λ k. P (or_nothing (slice_get ws k))) (sym e) old) (new e)))
     (λ (n : i ≢ j). subst (λ p. P (or_nothing p)) (sym (set-other ws i j v n)) old) (cases_eq i j)
 
-pub wanted-of : (f : Fun) (tab : Table) → ((l : ℕ) → tab.index l ≡ index_of 0 (labels_in f.body) l) → (i : ℕ) (c : Seen) → all_different (names (labels_in f.body)) ≡ true → slice_get (labels_in f.body) i ≡ Some c → wanted tab c.label ≡ or_nothing (slice_get tab.lists i)
-wanted-of f tab h i c d e = ap (wanted_there tab.lists) (h c.label ∙ present 0 (labels_in f.body) i c d e) ∙ (let zero' : 0 + i ≡ i = omega arith in ap (λ n. or_nothing (slice_get tab.lists n)) zero')
+pub needed-of : (f : Fun) (tab : Table) → ((l : ℕ) → tab.index l ≡ index_of 0 (labels_in f.body) l) → (i : ℕ) (c : Seen) → all_different (names (labels_in f.body)) ≡ true → slice_get (labels_in f.body) i ≡ Some c → needed tab c.label ≡ or_nothing (slice_get tab.lists i)
+needed-of f tab h i c d e = ap (needed_there tab.lists) (h c.label ∙ present 0 (labels_in f.body) i c d e) ∙ (let zero' : 0 + i ≡ i = omega arith in ap (λ n. or_nothing (slice_get tab.lists n)) zero')
 
 kept-step : (funs : List Fun) (f : Fun) (tab : Table) (i : ℕ) (c : Seen) → is_function funs f ≡ true → only_jumps f.body ≡ true → slice_get (labels_in f.body) i ≡ Some c → Kept f tab → Kept f (step tab c i)
 kept-step funs f tab i c e j at k =
@@ -207,7 +207,7 @@ kept-step funs f tab i c e j at k =
       least =
           everywhere-join (Least tab) (Uses tab) (Least (step tab c i)) cs
           (λ held b there old uses.
-          let was : Within (or_nothing (slice_get tab.lists there.0)) held = subst (λ ws. Within ws held) (wanted-of f tab k.index there.0 b d there.1) old in
+          let was : Within (or_nothing (slice_get tab.lists there.0)) held = subst (λ ws. Within ws held) (needed-of f tab k.index there.0 b d there.1) old in
           let now : Within (or_nothing (slice_get (slice_set tab.lists i v) there.0)) held =
           set-any (λ ws. Within ws held) tab.lists i there.0 v was
           (λ (q : i ≡ there.0).
@@ -216,7 +216,7 @@ kept-step funs f tab i c e j at k =
           noted-from (bound c) (used tab c.body) (or_nothing (slice_get tab.lists i)) x (is_in x held ≡ true) m
           (λ r. was x (subst (λ n. is_in x (or_nothing (slice_get tab.lists n)) ≡ true) q r))
           (λ r o. subst (λ (z : Seen). Uses tab held z) same uses x r o)) in
-          subst (λ ws. Within ws held) (sym (wanted-of f (step tab c i) k.index there.0 b d there.1)) now)
+          subst (λ ws. Within ws held) (sym (needed-of f (step tab c i) k.index there.0 b d there.1)) now)
           f.body nowhere (λ b n q. (n, q)) k.least (uses-in (setting funs f tab) f.body [] nowhere f.params (place-of funs f tab e j k.least));
     }
 
@@ -233,7 +233,7 @@ kept-reached funs f tab e j r =
     let cs = labels_in f.body in
     let last = after cs r.steps in
     let k = kept-after funs f r.steps e j in
-    let same : (l : ℕ) → wanted last l ≡ wanted tab l = λ l. ap (wanted_there last.lists) (k.index l ∙ sym (r.index l)) ∙ ap (λ ws. wanted_there ws (tab.index l)) (sym r.lists) in
+    let same : (l : ℕ) → needed last l ≡ needed tab l = λ l. ap (needed_there last.lists) (k.index l ∙ sym (r.index l)) ∙ ap (λ ws. needed_there ws (tab.index l)) (sym r.lists) in
     record {
       index = r.index;
       neat = λ i c at. subst (λ ws. Neat (bound c) (or_nothing (slice_get ws i))) (sym r.lists) (k.neat i c at);
@@ -248,7 +248,7 @@ all-settled funs f tab e j t c i at =
     let d = labels-differ funs f e in
     let k = kept-reached funs f tab e j t.reached in
     let ws = or_nothing (slice_get tab.lists i) in
-    let is : wanted tab c.label ≡ or_nothing (slice_get tab.lists i) = wanted-of f tab k.index i c d at in
+    let is : needed tab c.label ≡ or_nothing (slice_get tab.lists i) = needed-of f tab k.index i c d at in
     let neat = k.neat i c at in
     let index : tab.index c.label ≡ Some i = k.index c.label ∙ present 0 cs i c d at ∙ (let zero' : 0 + i ≡ i = omega arith in ap (λ n. Some n) zero') in
     record {

@@ -8,7 +8,7 @@ use Rattle.cps_ir.specs.Formed.{Scoped, scoped, takes}
 use Rattle.cps_ir.specs.Meaning.{Scope, Top, Bound}
 use Rattle.flow_ir.specs.Tree as flow
 use Rattle.flow_ir.specs.Wide.{live}
-use Rattle.cps_close.specs.inner.Closed.{Table, wanted, number, tree_of, with_wanted}
+use Rattle.cps_close.specs.inner.Closed.{Table, needed, number, tree_of, with_wanted}
 
 -- what is in the first isn't in the second
 abbrev pub Apart : List ℕ → List ℕ → Type 0
@@ -16,10 +16,10 @@ Apart a b = (x : ℕ) → is_in x a ≡ true → is_in x b ≡ false
 
 -- a label where these variables are known
 pub record LabelReady (labels : List flow.Label) (tab : Table) (known : List ℕ) (c : Seen) : Type 0 where
-  pub inside : Within (wanted tab c.label) known
+  pub inside : Within (needed tab c.label) known
   pub apart : Apart c.params known
-  pub whole : Within (live (tree_of tab c.body)) (c.params ++ wanted tab c.label)
-  pub found : slice_get labels (number tab c.label) ≡ Some (with_wanted tab c (wanted tab c.label))
+  pub whole : Within (live (tree_of tab c.body)) (c.params ++ needed tab c.label)
+  pub found : slice_get labels (number tab c.label) ≡ Some (with_wanted tab c (needed tab c.label))
 
 abbrev mutual
   pub Ready : List flow.Label → Table → Scoped → List ℕ → cps.Term → Type 0

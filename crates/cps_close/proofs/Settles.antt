@@ -12,7 +12,7 @@ use Rattle.cps_ir.specs.Formed.{Scoped, scoped, takes, defined, labels_defined}
 use Rattle.cps_ir.specs.Wide.{Wants, with_wants, wants, labels_want, inside}
 use Rattle.flow_ir.specs.Tree as flow
 use Rattle.flow_ir.specs.Wide.{live}
-use Rattle.cps_close.specs.inner.Closed.{Table, wanted, number, operands, tree_of, with_wanted, used, defines, bound}
+use Rattle.cps_close.specs.inner.Closed.{Table, needed, number, operands, tree_of, with_wanted, used, defines, bound}
 use Rattle.cps_close.proofs.Ready.{Apart, Ready, AllReady}
 use Rattle.cps_close.proofs.Members.{either, first-or-rest, in-left, in-right, in-first, in-rest, out-both, in-not-out, stays, stayed, in-or-out, apart-turned}
 use Rattle.cps_close.proofs.Wants.{wants-more, wants-known}
@@ -52,7 +52,7 @@ live-used tab (Fix ls t) = live-used tab t
 live-used tab (Call f bs k hs) = λ y e. e
 live-used tab (Return bs) = λ y e. e
 live-used tab (Throw e bs) = λ y i. i
-live-used tab (Jump l bs) = λ y e. subst (λ v. is_in y v ≡ true) (jump-vars bs (wanted tab l)) e
+live-used tab (Jump l bs) = λ y e. subst (λ v. is_in y v ≡ true) (jump-vars bs (needed tab l)) e
 live-used tab (Halt e bs) = λ y i. i
 
 -- ---- what is used is wanted
@@ -60,58 +60,58 @@ live-used tab (Halt e bs) = λ y i. i
 pub jump-takes : (s : Setting) (ss : Scoped) (phi : Wants) (known : List ℕ) (l : ℕ) (bs : List Atom) → Place s ss phi known (Jump l bs) → takes ss l (length bs) ≡ true
 jump-takes s ss phi known l bs p = (and_parts (all_known known bs) (takes ss l (length bs)) p.formed).1
 
-pub used-wanted : (s : Setting) (t : Term) (ss : Scoped) (phi : Wants) (known : List ℕ) → Place s ss phi known t → (x : ℕ) → is_in x (used s.tab t) ≡ true → is_in x (defines t) ≡ false → is_in x (wants phi t) ≡ true
-used-wanted s (Let y a t) ss phi known p x e out =
+pub used-needed : (s : Setting) (t : Term) (ss : Scoped) (phi : Wants) (known : List ℕ) → Place s ss phi known t → (x : ℕ) → is_in x (used s.tab t) ≡ true → is_in x (defines t) ≡ false → is_in x (wants phi t) ≡ true
+used-needed s (Let y a t) ss phi known p x e out =
     let parts = or_parts (nat_eq x y) (is_in x (defines t)) out in
     either x (prim_vars a) (used s.tab t) e (λ q. in-left x (prim_vars a) (without (wants phi t) (y ∷ [])) q)
-    (λ q. in-right x (prim_vars a) (without (wants phi t) (y ∷ [])) (stays x (wants phi t) (y ∷ []) (used-wanted s t ss phi (y ∷ known) (let-place s ss phi known y a t p) x q parts.1) (or_from (nat_eq x y) false parts.0 refl)))
-used-wanted s (Read m xs a t) ss phi known p x e out =
+    (λ q. in-right x (prim_vars a) (without (wants phi t) (y ∷ [])) (stays x (wants phi t) (y ∷ []) (used-needed s t ss phi (y ∷ known) (let-place s ss phi known y a t p) x q parts.1) (or_from (nat_eq x y) false parts.0 refl)))
+used-needed s (Read m xs a t) ss phi known p x e out =
     let parts = out-both x xs (defines t) out in
     either x (atom_vars a) (used s.tab t) e (λ q. in-left x (atom_vars a) (without (wants phi t) xs) q)
-    (λ q. in-right x (atom_vars a) (without (wants phi t) xs) (stays x (wants phi t) xs (used-wanted s t ss phi (xs ++ known) (read-place s ss phi known m xs a t p) x q parts.1) parts.0))
-used-wanted s (Write m a bs t) ss phi known p x e out =
-    either x (all_vars (a ∷ bs)) (used s.tab t) e (λ q. in-left x (all_vars (a ∷ bs)) (wants phi t) q) (λ q. in-right x (all_vars (a ∷ bs)) (wants phi t) (used-wanted s t ss phi known (write-place s ss phi known m a bs t p) x q out))
-used-wanted s (If c a b t u) ss phi known p x e out =
+    (λ q. in-right x (atom_vars a) (without (wants phi t) xs) (stays x (wants phi t) xs (used-needed s t ss phi (xs ++ known) (read-place s ss phi known m xs a t p) x q parts.1) parts.0))
+used-needed s (Write m a bs t) ss phi known p x e out =
+    either x (all_vars (a ∷ bs)) (used s.tab t) e (λ q. in-left x (all_vars (a ∷ bs)) (wants phi t) q) (λ q. in-right x (all_vars (a ∷ bs)) (wants phi t) (used-needed s t ss phi known (write-place s ss phi known m a bs t p) x q out))
+used-needed s (If c a b t u) ss phi known p x e out =
     let parts = out-both x (defines t) (defines u) out in
     either x (all_vars (a ∷ b ∷ [])) (used s.tab t ++ used s.tab u) e (λ q. in-left x (all_vars (a ∷ b ∷ [])) (wants phi t ++ wants phi u) q)
     (λ r. in-right x (all_vars (a ∷ b ∷ [])) (wants phi t ++ wants phi u)
-    (either x (used s.tab t) (used s.tab u) r (λ q. in-left x (wants phi t) (wants phi u) (used-wanted s t ss phi known (first-place s ss phi known c a b t u p) x q parts.0))
-    (λ q. in-right x (wants phi t) (wants phi u) (used-wanted s u ss phi known (second-place s ss phi known c a b t u p) x q parts.1))))
-used-wanted s (Fix ls t) ss phi known p x e out = used-wanted s t (scoped ls ++ ss) (inside phi ls) known (rest-place s ss phi known ls t p) x e out
-used-wanted s (Call f bs k hs) ss phi known p x e out = absurd (false≢true p.jumps)
-used-wanted s (Return bs) ss phi known p x e out = absurd (false≢true p.jumps)
-used-wanted s (Throw k bs) ss phi known p x e out = absurd (false≢true p.jumps)
-used-wanted s (Jump l bs) ss phi known p x e out =
-    either x (all_vars bs) (wanted s.tab l) e (λ q. in-left x (all_vars bs) (phi l) q) (λ q. in-right x (all_vars bs) (phi l) (p.covers l (length bs) (jump-takes s ss phi known l bs p) x q))
-used-wanted s (Halt k bs) ss phi known p x e out = e
+    (either x (used s.tab t) (used s.tab u) r (λ q. in-left x (wants phi t) (wants phi u) (used-needed s t ss phi known (first-place s ss phi known c a b t u p) x q parts.0))
+    (λ q. in-right x (wants phi t) (wants phi u) (used-needed s u ss phi known (second-place s ss phi known c a b t u p) x q parts.1))))
+used-needed s (Fix ls t) ss phi known p x e out = used-needed s t (scoped ls ++ ss) (inside phi ls) known (rest-place s ss phi known ls t p) x e out
+used-needed s (Call f bs k hs) ss phi known p x e out = absurd (false≢true p.jumps)
+used-needed s (Return bs) ss phi known p x e out = absurd (false≢true p.jumps)
+used-needed s (Throw k bs) ss phi known p x e out = absurd (false≢true p.jumps)
+used-needed s (Jump l bs) ss phi known p x e out =
+    either x (all_vars bs) (needed s.tab l) e (λ q. in-left x (all_vars bs) (phi l) q) (λ q. in-right x (all_vars bs) (phi l) (p.covers l (length bs) (jump-takes s ss phi known l bs p) x q))
+used-needed s (Halt k bs) ss phi known p x e out = e
 
 -- what is live is wanted
-pub live-wanted : (s : Setting) (t : Term) (ss : Scoped) (phi : Wants) (known : List ℕ) → Place s ss phi known t → Within (live (tree_of s.tab t)) (wants phi t)
-live-wanted s (Let y a t) ss phi known p =
+pub live-needed : (s : Setting) (t : Term) (ss : Scoped) (phi : Wants) (known : List ℕ) → Place s ss phi known t → Within (live (tree_of s.tab t)) (wants phi t)
+live-needed s (Let y a t) ss phi known p =
     within-behind_same (prim_vars a) (without (live (tree_of s.tab t)) (y ∷ [])) (without (wants phi t) (y ∷ []))
-    (within-without_same (live (tree_of s.tab t)) (wants phi t) (y ∷ []) (live-wanted s t ss phi (y ∷ known) (let-place s ss phi known y a t p)))
-live-wanted s (Read m xs a t) ss phi known p =
+    (within-without_same (live (tree_of s.tab t)) (wants phi t) (y ∷ []) (live-needed s t ss phi (y ∷ known) (let-place s ss phi known y a t p)))
+live-needed s (Read m xs a t) ss phi known p =
     within-behind_same (atom_vars a) (without (live (tree_of s.tab t)) xs) (without (wants phi t) xs)
-    (within-without_same (live (tree_of s.tab t)) (wants phi t) xs (live-wanted s t ss phi (xs ++ known) (read-place s ss phi known m xs a t p)))
-live-wanted s (Write m a bs t) ss phi known p = within-behind_same (all_vars (a ∷ bs)) (live (tree_of s.tab t)) (wants phi t) (live-wanted s t ss phi known (write-place s ss phi known m a bs t p))
-live-wanted s (If c a b t u) ss phi known p =
+    (within-without_same (live (tree_of s.tab t)) (wants phi t) xs (live-needed s t ss phi (xs ++ known) (read-place s ss phi known m xs a t p)))
+live-needed s (Write m a bs t) ss phi known p = within-behind_same (all_vars (a ∷ bs)) (live (tree_of s.tab t)) (wants phi t) (live-needed s t ss phi known (write-place s ss phi known m a bs t p))
+live-needed s (If c a b t u) ss phi known p =
     within-behind_same (all_vars (a ∷ b ∷ [])) (live (tree_of s.tab t) ++ live (tree_of s.tab u)) (wants phi t ++ wants phi u)
     (within-both (live (tree_of s.tab t)) (live (tree_of s.tab u)) (wants phi t ++ wants phi u)
-    (λ y e. in-left y (wants phi t) (wants phi u) (live-wanted s t ss phi known (first-place s ss phi known c a b t u p) y e))
-    (λ y e. in-right y (wants phi t) (wants phi u) (live-wanted s u ss phi known (second-place s ss phi known c a b t u p) y e)))
-live-wanted s (Fix ls t) ss phi known p = live-wanted s t (scoped ls ++ ss) (inside phi ls) known (rest-place s ss phi known ls t p)
-live-wanted s (Call f bs k hs) ss phi known p = absurd (false≢true p.jumps)
-live-wanted s (Return bs) ss phi known p = absurd (false≢true p.jumps)
-live-wanted s (Throw k bs) ss phi known p = absurd (false≢true p.jumps)
-live-wanted s (Jump l bs) ss phi known p =
+    (λ y e. in-left y (wants phi t) (wants phi u) (live-needed s t ss phi known (first-place s ss phi known c a b t u p) y e))
+    (λ y e. in-right y (wants phi t) (wants phi u) (live-needed s u ss phi known (second-place s ss phi known c a b t u p) y e)))
+live-needed s (Fix ls t) ss phi known p = live-needed s t (scoped ls ++ ss) (inside phi ls) known (rest-place s ss phi known ls t p)
+live-needed s (Call f bs k hs) ss phi known p = absurd (false≢true p.jumps)
+live-needed s (Return bs) ss phi known p = absurd (false≢true p.jumps)
+live-needed s (Throw k bs) ss phi known p = absurd (false≢true p.jumps)
+live-needed s (Jump l bs) ss phi known p =
     λ x e.
-    either x (all_vars bs) (wanted s.tab l) (subst (λ v. is_in x v ≡ true) (jump-vars bs (wanted s.tab l)) e) (λ q. in-left x (all_vars bs) (phi l) q)
+    either x (all_vars bs) (needed s.tab l) (subst (λ v. is_in x v ≡ true) (jump-vars bs (needed s.tab l)) e) (λ q. in-left x (all_vars bs) (phi l) q)
     (λ q. in-right x (all_vars bs) (phi l) (p.covers l (length bs) (jump-takes s ss phi known l bs p) x q))
-live-wanted s (Halt k bs) ss phi known p = λ x e. e
+live-needed s (Halt k bs) ss phi known p = λ x e. e
 
 -- what is live is known
 pub live-known : (s : Setting) (t : Term) (ss : Scoped) (phi : Wants) (known : List ℕ) → Place s ss phi known t → Within (live (tree_of s.tab t)) known
-live-known s t ss phi known p = λ x e. wants-known s.funs s.own s.results t ss phi known p.formed p.jumps p.within x (live-wanted s t ss phi known p x e)
+live-known s t ss phi known p = λ x e. wants-known s.funs s.own s.results t ss phi known p.formed p.jumps p.within x (live-needed s t ss phi known p x e)
 
 -- each label uses no more than its `Fix` wants
 mutual
@@ -134,7 +134,7 @@ mutual
       let body = body-place s ss phi alone held known l xs t ls p in (
         λ x e out.
             let split = out-both x xs (defines t) out in
-            either x (wants alone t) held (wants-more t alone phi held body.jumps p.extra x (used-wanted s t ss phi (xs ++ known) body x e split.1))
+            either x (wants alone t) held (wants-more t alone phi held body.jumps p.extra x (used-needed s t ss phi (xs ++ known) body x e split.1))
             (λ q. p.part x (in-left x (without (wants alone t) xs) (labels_want alone ls) (stays x (wants alone t) xs q split.0))) (λ q. q),
         uses-in s t ss phi (xs ++ known) body,
         uses-all s ls ss phi alone held known (other-places s ss phi alone held known l xs t ls p),
@@ -144,10 +144,10 @@ mutual
 
 -- a label that wants all that it uses
 pub record Settled (labels : List flow.Label) (tab : Table) (c : Seen) : Type 0 where
-  pub whole : (x : ℕ) → is_in x (used tab c.body) ≡ true → is_in x (bound c) ≡ false → is_in x (wanted tab c.label) ≡ true
-  pub apart : Apart (wanted tab c.label) (bound c)
-  pub single : all_different (wanted tab c.label) ≡ true
-  pub found : slice_get labels (number tab c.label) ≡ Some (with_wanted tab c (wanted tab c.label))
+  pub whole : (x : ℕ) → is_in x (used tab c.body) ≡ true → is_in x (bound c) ≡ false → is_in x (needed tab c.label) ≡ true
+  pub apart : Apart (needed tab c.label) (bound c)
+  pub single : all_different (needed tab c.label) ≡ true
+  pub found : slice_get labels (number tab c.label) ≡ Some (with_wanted tab c (needed tab c.label))
   pub counted : nat_le 1 (number tab c.label) ≡ true
 
 abbrev pub AllSettled : List flow.Label → Setting → Type 0
@@ -175,7 +175,7 @@ mutual
       let body = body-place s ss phi alone held known l xs t ls p in
       let there = label-here s ss phi alone held known l xs t ls p in
       let settled = h (record { label = l; params = xs; body = t }) there.0 there.1 in
-      let vs = wanted s.tab l in (
+      let vs = needed s.tab l in (
         record {
           inside = λ x e. p.limit x (p.least.0 x e);
           apart = λ x e. apart-turned known ((xs ++ defined t) ++ labels_defined ls) p.apart x (in-left x (xs ++ defined t) (labels_defined ls) (in-left x xs (defined t) e));

@@ -20,7 +20,7 @@ use Rattle.flow_ir.specs.Tree as flow
 use Rattle.flow_ir.specs.Wide.{live}
 use Rattle.flow_ir.specs.Meaning.{flow_meaning}
 use Rattle.flow_ir.specs.Meaning as flow_run
-use Rattle.cps_close.specs.inner.Closed.{Table, wanted, number, operands, tree_of}
+use Rattle.cps_close.specs.inner.Closed.{Table, needed, number, operands, tree_of}
 use Rattle.cps_close.proofs.Ready.{Apart, LabelReady, Ready, AllReady, Along}
 use Rattle.cps_close.proofs.Envs.{unassigned, unassigned-all, assigned-append, assigned-operands, words-append}
 
@@ -73,7 +73,7 @@ equal-kept = record { same = λ w r e. refl; later = λ m at ws p w r s h. h }
 -- the words at a label are those of its parameters, and those that it wants of where the jump was
 abbrev pub Follows : List flow.Label → Table → cps_run.Next → flow_run.Next → Type 0
 Follows labels tab f g = (l : ℕ) (ws : List ℕ) (sc : Scope) (fr : Frames) (w : World) (ss : Scoped) (known : List ℕ) (env : Env) → Along labels tab sc ss known env → takes ss l (length ws) ≡ true
-    → f (ToLabel l ws sc fr) w ≡ g (number tab l) (ws ++ atom_words env (operands (wanted tab l))) w
+    → f (ToLabel l ws sc fr) w ≡ g (number tab l) (ws ++ atom_words env (operands (needed tab l))) w
 
 module _ (labels : List flow.Label) (tab : Table) (f : cps_run.Next) (g : flow_run.Next) (h : Follows labels tab f g) where
   pub does-same : (t : cps.Term) (env env' : Env) (sc : Scope) (fr : Frames) (ss : Scoped) (known : List ℕ) (w : World) → Ready labels tab ss known t → Along labels tab sc ss known env → AgreeOn (live (tree_of tab t)) env env'
@@ -115,7 +115,7 @@ module _ (labels : List flow.Label) (tab : Table) (f : cps_run.Next) (g : flow_r
   does-same (cps.Throw e bs) env env' sc fr ss known w r along q = absurd r
   does-same (cps.Jump l bs) env env' sc fr ss known w r along q =
       h l (atom_words env bs) sc fr w ss known env along (subst (λ n. takes ss l n ≡ true) (sym (length-words env bs)) r)
-      ∙ ap (λ ws. g (number tab l) ws w) (sym (words-append env bs (operands (wanted tab l))) ∙ atoms-same env env' (bs ++ operands (wanted tab l)) q)
+      ∙ ap (λ ws. g (number tab l) ws w) (sym (words-append env bs (operands (needed tab l))) ∙ atoms-same env env' (bs ++ operands (needed tab l)) q)
   does-same (cps.Halt e bs) env env' sc fr ss known w r along q = ap (λ ws. over (ended e ws) w) (atoms-same env env' bs q)
 
   -- ---- at a label
@@ -129,27 +129,27 @@ module _ (labels : List flow.Label) (tab : Table) (f : cps_run.Next) (g : flow_r
       (within-left xs [] y (⊎_elim (λ (p : is_in y xs ≡ true). p) (λ (p : is_in y vs ≡ true). absurd (false≢true (sym i ∙ p))) (or_cases (is_in y xs) (is_in y vs) (sym (in-append y xs vs) ∙ e))))
 
   filled : (c : Seen) (ws before : List ℕ) (inner now : Env) → LabelReady labels tab before c → length c.params ≡ length ws → AgreeOn before inner now
-      → AgreeOn (live (tree_of tab c.body)) (assigned_all inner c.params ws) (assigned_all flow_run.blank (c.params ++ wanted tab c.label) (ws ++ atom_words now (operands (wanted tab c.label))))
+      → AgreeOn (live (tree_of tab c.body)) (assigned_all inner c.params ws) (assigned_all flow_run.blank (c.params ++ needed tab c.label) (ws ++ atom_words now (operands (needed tab c.label))))
   filled c ws before inner now r n q =
       λ y e.
-      let vs = wanted tab c.label in
+      let vs = needed tab c.label in
       filled-at (is_in y vs) y c.params vs ws before inner now refl r.apart r.inside q (r.whole y e)
       ∙ sym (assigned-operands vs (assigned_all cps_run.blank c.params ws) now y)
       ∙ ap (λ (k : Env). k y) (sym (assigned-append c.params ws vs (atom_words now (operands vs)) cps_run.blank n))
 
   at-label : (c : Seen) (ls : cps.Labels) (ws before : List ℕ) (inner now : Env) (sc : Scope) (fr : Frames) (ss : Scoped) (w : World) → LabelReady labels tab before c → Ready labels tab ss (c.params ++ before) c.body
       → Along labels tab (Bound ls inner sc) ss (c.params ++ before) (assigned_all inner c.params ws) → length c.params ≡ length ws → AgreeOn before inner now
-      → cps_run.does f c.body (assigned_all inner c.params ws) (Bound ls inner sc) fr w ≡ flow_run.enter g (slice_get labels (number tab c.label)) (ws ++ atom_words now (operands (wanted tab c.label))) w
+      → cps_run.does f c.body (assigned_all inner c.params ws) (Bound ls inner sc) fr w ≡ flow_run.enter g (slice_get labels (number tab c.label)) (ws ++ atom_words now (operands (needed tab c.label))) w
   at-label c ls ws before inner now sc fr ss w r body along n q =
-      does-same c.body (assigned_all inner c.params ws) (assigned_all flow_run.blank (c.params ++ wanted tab c.label) (ws ++ atom_words now (operands (wanted tab c.label)))) (Bound ls inner sc) fr ss (c.params ++ before) w body along
+      does-same c.body (assigned_all inner c.params ws) (assigned_all flow_run.blank (c.params ++ needed tab c.label) (ws ++ atom_words now (operands (needed tab c.label)))) (Bound ls inner sc) fr ss (c.params ++ before) w body along
       (filled c ws before inner now r n q)
-      ∙ ap (λ o. flow_run.enter g o (ws ++ atom_words now (operands (wanted tab c.label))) w) (sym r.found)
+      ∙ ap (λ o. flow_run.enter g o (ws ++ atom_words now (operands (needed tab c.label))) w) (sym r.found)
 
   -- at the labels of one level, if they are more at an outer one
   enter-at : (o : Option Body) (sc : Scope) (ls : cps.Labels) (inner : Env) (l : ℕ) (ws : List ℕ) (fr : Frames) (w : World) (outer : Scoped) (before : List ℕ) (now : Env) → label_in l ls ≡ o
       → AllReady labels tab (scoped ls ++ outer) before ls → Along labels tab sc outer before inner → AgreeOn before inner now → takes (scoped ls ++ outer) l (length ws) ≡ true
-      → (takes outer l (length ws) ≡ true → enter_label f l ws sc fr w ≡ flow_run.enter g (slice_get labels (number tab l)) (ws ++ atom_words now (operands (wanted tab l))) w)
-      → at_body f o inner (Bound ls inner sc) ws fr w (enter_label f l ws sc fr w) ≡ flow_run.enter g (slice_get labels (number tab l)) (ws ++ atom_words now (operands (wanted tab l))) w
+      → (takes outer l (length ws) ≡ true → enter_label f l ws sc fr w ≡ flow_run.enter g (slice_get labels (number tab l)) (ws ++ atom_words now (operands (needed tab l))) w)
+      → at_body f o inner (Bound ls inner sc) ws fr w (enter_label f l ws sc fr w) ≡ flow_run.enter g (slice_get labels (number tab l)) (ws ++ atom_words now (operands (needed tab l))) w
   enter-at (Some b) sc ls inner l ws fr w outer before now e ready along q many next =
       let both = ready-in labels tab ls l (scoped ls ++ outer) before b ready e in
       let n : length b.params ≡ length ws = as-many (length ws) b (arity l outer) (subst (λ o. takes_as_many (length ws) o ≡ true) (arity-in ls l outer (Some b) e) many) in
@@ -159,7 +159,7 @@ module _ (labels : List flow.Label) (tab : Table) (f : cps_run.Next) (g : flow_r
   enter-at None sc ls inner l ws fr w outer before now e ready along q many next = next (subst (λ o. takes_as_many (length ws) o ≡ true) (arity-in ls l outer None e) many)
 
   pub enter-same : (sc : Scope) (l : ℕ) (ws : List ℕ) (fr : Frames) (w : World) (ss : Scoped) (known : List ℕ) (env now : Env) → Along labels tab sc ss known env → AgreeOn known env now → takes ss l (length ws) ≡ true
-      → enter_label f l ws sc fr w ≡ flow_run.enter g (slice_get labels (number tab l)) (ws ++ atom_words now (operands (wanted tab l))) w
+      → enter_label f l ws sc fr w ≡ flow_run.enter g (slice_get labels (number tab l)) (ws ++ atom_words now (operands (needed tab l))) w
   enter-same Top l ws fr w ss known env now along q e = let bad : takes [] l (length ws) ≡ true = subst (λ z. takes z l (length ws) ≡ true) along e in absurd (false≢true bad)
   enter-same (Bound ls inner sc) l ws fr w ss known env now along q e =
       let level = along.2 in

@@ -7,7 +7,7 @@ use Rattle.nv_base.specs.Words.{atom_vars, prim_vars}
 use Rattle.nv_base.specs.Sets.{is_in, all_vars}
 use Rattle.cps_ir.specs.Term as cps
 use Rattle.cps_ir.specs.View.{Seen}
-use Rattle.cps_close.specs.inner.Closed.{Table, index_of, or_here, or_nothing, wanted_there, wanted, with_wanted, closed_labels, used, bound, noted_all, grown, with_list, step, step_there, none_wanted, after, IsReached, IsStill}
+use Rattle.cps_close.specs.inner.Closed.{Table, index_of, or_here, or_nothing, needed_there, needed, with_wanted, closed_labels, used, bound, noted_all, grown, with_list, step, step_there, none_wanted, after, IsReached, IsStill}
 use Rattle.cps_close.proofs.Reached.{noted-longer}
 
 -- ---- one more at the end
@@ -43,7 +43,7 @@ closed-last tab (d ∷ cs) c (w ∷ ws) = ap (λ l. with_wanted tab d w ∷ l) (
 -- ---- tables
 
 -- terms use the same where labels want the same
-pub used-same : (a b : Table) → ((l : ℕ) → wanted a l ≡ wanted b l) → (t : cps.Term) → used a t ≡ used b t
+pub used-same : (a b : Table) → ((l : ℕ) → needed a l ≡ needed b l) → (t : cps.Term) → used a t ≡ used b t
 used-same a b h (cps.Let x p t) = ap (λ l. prim_vars p ++ l) (used-same a b h t)
 used-same a b h (cps.Read m xs c t) = ap (λ l. atom_vars c ++ l) (used-same a b h t)
 used-same a b h (cps.Write m c bs t) = ap (λ l. all_vars (c ∷ bs) ++ l) (used-same a b h t)
@@ -55,8 +55,8 @@ used-same a b h (cps.Throw e bs) = refl
 used-same a b h (cps.Jump l bs) = ap (λ v. all_vars bs ++ v) (h l)
 used-same a b h (cps.Halt e bs) = refl
 
-wanted-same : (cs : List Seen) (a b : Table) → a.lists ≡ b.lists → ((l : ℕ) → a.index l ≡ b.index l) → (l : ℕ) → wanted a l ≡ wanted b l
-wanted-same cs a b e h l = ap (λ ws. wanted_there ws (a.index l)) e ∙ ap (wanted_there b.lists) (h l)
+needed-same : (cs : List Seen) (a b : Table) → a.lists ≡ b.lists → ((l : ℕ) → a.index l ≡ b.index l) → (l : ℕ) → needed a l ≡ needed b l
+needed-same cs a b e h l = ap (λ ws. needed_there ws (a.index l)) e ∙ ap (needed_there b.lists) (h l)
 
 index-there : (tab : Table) (o : Option Seen) (i l : ℕ) → (step_there tab o i).index l ≡ tab.index l
 index-there tab (Some c) i l = refl
@@ -70,9 +70,9 @@ index-after cs (i ∷ is) l = index-there (after cs is) (slice_get cs i) i l ∙
 pub reached-step : (cs : List Seen) (tab next : Table) (c : Seen) (i : ℕ) → slice_get cs i ≡ Some c → next ≡ step tab c i → IsReached cs tab → IsReached cs next
 reached-step cs tab next c i at is r =
     let last = after cs r.steps in
-    let same = wanted-same cs tab (after cs r.steps) r.lists (λ l. r.index l ∙ sym (index-after cs r.steps l)) in
+    let same = needed-same cs tab (after cs r.steps) r.lists (λ l. r.index l ∙ sym (index-after cs r.steps l)) in
     let grows : grown tab c i ≡ grown (after cs r.steps) c i =
-    ap (λ ws. noted_all (bound c) (wanted_there ws (Some i)) (used tab c.body)) r.lists ∙ ap (λ us. noted_all (bound c) (wanted_there (after cs r.steps).lists (Some i)) us) (used-same tab (after cs r.steps) same c.body) in
+    ap (λ ws. noted_all (bound c) (needed_there ws (Some i)) (used tab c.body)) r.lists ∙ ap (λ us. noted_all (bound c) (needed_there (after cs r.steps).lists (Some i)) us) (used-same tab (after cs r.steps) same c.body) in
     let here : (after cs (i ∷ r.steps)).lists ≡ slice_set (after cs r.steps).lists i (grown (after cs r.steps) c i) = ap (λ o. (step_there (after cs r.steps) o i).lists) at in
     record {
       steps = i ∷ r.steps;
@@ -97,16 +97,16 @@ set-back (w ∷ ws) (suc i) = ap (λ l. w ∷ l) (set-back ws i)
 abbrev pub relisted : Table → List (List ℕ) → Table
 relisted tab ws = record { index = tab.index; lists = ws }
 
-pub step-still : (tab : Table) (c : Seen) (i : ℕ) → length (grown tab c i) ≡ length (wanted_there tab.lists (Some i)) → step tab c i ≡ tab
+pub step-still : (tab : Table) (c : Seen) (i : ℕ) → length (grown tab c i) ≡ length (needed_there tab.lists (Some i)) → step tab c i ≡ tab
 step-still tab c i e =
-    ap (λ v. with_list tab i v) (noted-same (bound c) (used tab c.body) (wanted_there tab.lists (Some i)) e) ∙ ap (relisted tab) (set-back tab.lists i)
+    ap (λ v. with_list tab i v) (noted-same (bound c) (used tab c.body) (needed_there tab.lists (Some i)) e) ∙ ap (relisted tab) (set-back tab.lists i)
 
 -- a sweep up to an index: if all was the same, each label up to there is still
 pub record Swept (cs : List Seen) (tab : Table) (same : Bool) (i : ℕ) : Type 0 where
   pub reached : IsReached cs tab
   pub still : same ≡ true → (k : ℕ) → k < i → IsStill cs tab k
 
-still-at : (cs : List Seen) (tab : Table) (c : Seen) (i j : ℕ) → slice_get cs i ≡ Some c → length (grown tab c i) ≡ length (wanted_there tab.lists (Some i)) → j < i + 1 → ((k : ℕ) → k < i → IsStill cs tab k) → IsStill cs tab j
+still-at : (cs : List Seen) (tab : Table) (c : Seen) (i j : ℕ) → slice_get cs i ≡ Some c → length (grown tab c i) ≡ length (needed_there tab.lists (Some i)) → j < i + 1 → ((k : ℕ) → k < i → IsStill cs tab k) → IsStill cs tab j
 still-at cs tab c i j at n lt before =
     ⊎_elim (λ (h : j < i). before j h)
     (λ (h : i ≤ j).
@@ -115,15 +115,15 @@ still-at cs tab c i j at n lt before =
     (λ d there.
     let one : Some c ≡ Some d = sym at ∙ there in
     let is : c ≡ d = same_Some c d one in
-    subst (λ z. length (grown tab z i) ≡ length (wanted_there tab.lists (Some i))) is n))
+    subst (λ z. length (grown tab z i) ≡ length (needed_there tab.lists (Some i))) is n))
     (cases_lt j i)
 
-pub swept-step : (cs : List Seen) (tab next : Table) (same kept : Bool) (c : Seen) (i : ℕ) → slice_get cs i ≡ Some c → next ≡ step tab c i → kept ≡ (length (grown tab c i) == length (wanted_there tab.lists (Some i))) → Swept cs tab same i → Swept cs next (same && kept) (i + 1)
+pub swept-step : (cs : List Seen) (tab next : Table) (same kept : Bool) (c : Seen) (i : ℕ) → slice_get cs i ≡ Some c → next ≡ step tab c i → kept ≡ (length (grown tab c i) == length (needed_there tab.lists (Some i))) → Swept cs tab same i → Swept cs next (same && kept) (i + 1)
 swept-step cs tab next same kept c i at is k s = record {
   reached = reached-step cs tab next c i at is s.reached;
   still = λ e.
       let parts = and_parts same kept e in
-      let n : length (grown tab c i) ≡ length (wanted_there tab.lists (Some i)) = eqb-true (length (grown tab c i)) (length (wanted_there tab.lists (Some i))) (sym k ∙ parts.1) in
+      let n : length (grown tab c i) ≡ length (needed_there tab.lists (Some i)) = eqb-true (length (grown tab c i)) (length (needed_there tab.lists (Some i))) (sym k ∙ parts.1) in
       let back : tab ≡ next = sym (is ∙ step-still tab c i n) in
       λ j lt. subst (λ t. IsStill cs t j) back (still-at cs tab c i j at n lt (s.still parts.0));
 }

@@ -10,7 +10,7 @@ use Rattle.cps_ir.proofs.Views.{view-Cont}
 use Rattle.flow_ir.specs.declared.flow.Label.{Label as DeclaredLabel}
 use Rattle.flow_ir.specs.Tree.{Label}
 use Rattle.flow_ir.specs.View.{label_view as flow_label}
-use Rattle.cps_close.specs.inner.Closed.{Table, index_of, wanted_there, with_wanted, closed_labels, none_wanted}
+use Rattle.cps_close.specs.inner.Closed.{Table, index_of, needed_there, with_wanted, closed_labels, none_wanted}
 use Rattle.cps_close.proofs.Steps.{vars-last, index-last, none-last, closed-last}
 
 pub taken : {X : Type 0} (xs : List X) (i : ℕ) (x : X) → i < length xs → x ≡ get_or xs i x → take (i + 1) xs ≡ take i xs ++ x ∷ []
@@ -40,9 +40,9 @@ index-turn cs i c k n old q lt at is same was =
     ∙ ap (λ s. index_of 0 s q) (sym (seen-more cs i c lt at))
 
 pub closed-turn : (tab : Table) (cs : List (Bor Cont)) (i : ℕ) (c : Bor Cont) (first : Label) (old now : List DeclaredLabel) (l : DeclaredLabel) → i < length cs → c ≡ get_or cs i c → now ≡ old ++ l ∷ [] → map flow_label old ≡ first ∷ closed_labels tab (seen_before cs i) tab.lists
-    → flow_label l ≡ with_wanted tab (label_view c.now) (wanted_there tab.lists (Some i)) → map flow_label now ≡ first ∷ closed_labels tab (seen_before cs (i + 1)) tab.lists
+    → flow_label l ≡ with_wanted tab (label_view c.now) (needed_there tab.lists (Some i)) → map flow_label now ≡ first ∷ closed_labels tab (seen_before cs (i + 1)) tab.lists
 closed-turn tab cs i c first old now l lt at push was is =
-    let place : wanted_there tab.lists (Some i) ≡ wanted_there tab.lists (Some (length (seen_before cs i))) = ap (λ k. wanted_there tab.lists (Some k)) (sym (length-seen cs i lt)) in
+    let place : needed_there tab.lists (Some i) ≡ needed_there tab.lists (Some (length (seen_before cs i))) = ap (λ k. needed_there tab.lists (Some k)) (sym (length-seen cs i lt)) in
     ap (map flow_label) push ∙ map-append flow_label old (l ∷ []) ∙ ap (λ ls. ls ++ flow_label l ∷ []) was
     ∙ ap (λ z. first ∷ (closed_labels tab (seen_before cs i) tab.lists ++ z ∷ [])) (is ∙ ap (with_wanted tab (label_view c.now)) place)
     ∙ ap (λ ls. first ∷ ls) (sym (closed-last tab (seen_before cs i) (label_view c.now) tab.lists)) ∙ ap (λ s. first ∷ closed_labels tab s tab.lists) (sym (seen-more cs i c lt at))

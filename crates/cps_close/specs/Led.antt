@@ -11,7 +11,7 @@ GoesTo (If c a b t u) m = GoesTo t m ⊎ GoesTo u m
 GoesTo (Jump l bs) m = m ≡ l
 GoesTo (Halt e bs) m = ⊥
 
--- label 0 leads to a label by jumps, one behind the other
+-- label 0 leads to a label by jumps, one after the other
 pub data IsLedTo (labels : List Label) : ℕ → Type 0 where
   first : IsLedTo labels 0
   jumped : (l m : ℕ) (from : Label) → IsLedTo labels l → slice_get labels l ≡ Some from → GoesTo from.body m → IsLedTo labels m

@@ -57,7 +57,7 @@ fn expand<'a>(t: &'a Term, pending: &mut Vec<Part<'a>>) -> Result<(), NoMemory>
     Ok(())
 }
 
-// Adds labels, the first one last, and the body of each behind it.
+// Adds labels, the first one last, and the body of each after it.
 fn expand_all<'a>(conts: &'a [Cont], pending: &mut Vec<Part<'a>>) -> Result<(), NoMemory>
     ensures { OnOk result (map part_view pending.new.items ≡ map part_view pending.old.items ++ parts_of (reverse (map label_view conts.now))) }
 {

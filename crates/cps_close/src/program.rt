@@ -25,8 +25,8 @@ use nv_base::NoMemory;
 use std::alloc::Global;
 
 /// The flow of a program's main function, where no function calls, returns or throws: label 0 is the
-/// function, and each label behind it has its own parameters and then the variables of round it that it
-/// uses or hands on. Labels that label 0 doesn't lead to are left out. More labels than 32 bits can number count as want of memory.
+/// function, and each label after it has its own parameters and then the variables of round it that it
+/// uses or hands on. Labels that label 0 doesn't lead to are left out. More labels than 32 bits can number count as memory exhaustion.
 pub fn close(alloc: Global, c: Cps) -> Result<Flow, NoMemory>
     requires { All (λ f. only_jumps f.body ≡ true) (map fun_view c.funs.items) }
     ensures parameters { IfOk result (λ f. flow_params (map label_view f.labels.items) ≡ params_in (map fun_view c.funs.items) c.main) }

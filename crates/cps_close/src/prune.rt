@@ -1,4 +1,4 @@
-// Labels that nothing leads to: copies of functions that a call doesn't reach, and what stands behind an
+// Labels that nothing leads to: copies of functions that a call doesn't reach, and what stands after an
 // end. They are left out, and the others are numbered anew.
 
 ghost use Rattle.std.specs.Prelude.{◌≡◌, ◌<◌, ℕ, suc, true, false, ◌||◌, if◌then◌else◌, IfOk, OnOk, All, Some, length, map, slice_get, slice_index_or};
@@ -23,7 +23,7 @@ pub fn pruned(alloc: Global, labels: &[Label]) -> Result<Vec<Label>, NoMemory>
 }
 
 // Which labels are left out. It is tested that no other one goes on to them, which takes less to prove than that the turns are enough;
-// so the one other answer, want of memory, doesn't come of this test.
+// so the one other answer, memory exhaustion, doesn't come of this test.
 fn left_out(alloc: Global, labels: &[Label]) -> Result<Vec<bool>, NoMemory>
     ensures first { IfOk result (λ out. inner.is_out out.items 0 ≡ false) }
     ensures closed { IfOk result (λ out. inner.all_go_on out.items 0 (map label_view labels.now) ≡ true) }
@@ -159,7 +159,7 @@ fn note_all(t: &Tree, out: &mut Vec<bool>, pending: &mut Vec<u32>) -> Result<(),
     }
 }
 
-// The number behind a label.
+// The number after a label.
 fn behind(n: u32, is_out: bool) -> Result<u32, NoMemory>
     ensures { IfOk result (λ m. m ≡ (if is_out then n else suc n)) }
 {

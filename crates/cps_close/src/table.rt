@@ -22,8 +22,8 @@ pub struct Table {
 
 impl Table {
     /// What a label wants.
-    pub fn wanted(&self, label: u32) -> &[u32]
-        ensures { result.now ≡ inner.wanted (table_view self.now) label }
+    pub fn needed(&self, label: u32) -> &[u32]
+        ensures { result.now ≡ inner.needed (table_view self.now) label }
     {
         match self.indices.get(&label) {
             Some(i) => match self.lists.get(*i as usize) {
@@ -48,8 +48,8 @@ impl Table {
     }
 
     /// What the label at an index wants.
-    pub fn wanted_at(&self, i: usize) -> &[u32]
-        ensures { result.now ≡ inner.wanted_there (table_view self.now).lists (Some i) }
+    pub fn needed_at(&self, i: usize) -> &[u32]
+        ensures { result.now ≡ inner.needed_there (table_view self.now).lists (Some i) }
     {
         match self.lists.get(i) {
             Some(v) => v,
@@ -58,11 +58,11 @@ impl Table {
     }
 
     // Sets what the label at an index wants, if there is one.
-    fn set(&mut self, i: usize, wanted: Vec<u32>)
-        ensures { table_view self.new ≡ inner.with_list (table_view self.old) i wanted.items }
+    fn set(&mut self, i: usize, needed: Vec<u32>)
+        ensures { table_view self.new ≡ inner.with_list (table_view self.old) i needed.items }
     {
         if i < self.lists.len() {
-            self.lists[i] = wanted;
+            self.lists[i] = needed;
         }
     }
 }
@@ -127,13 +127,13 @@ fn sweep(alloc: Global, conts: &[&Cont], table: &mut Table) -> Result<bool, NoMe
 // Adds to what a label wants all that it uses, and says whether that was nothing.
 fn settle(alloc: Global, c: &Cont, i: usize, table: &mut Table) -> Result<bool, NoMemory>
     ensures step { IfOk result (λ s. table_view table.new ≡ inner.step (table_view table.old) (label_view c.now) i) }
-    ensures same { IfOk result (λ s. s ≡ (length (inner.grown (table_view table.old) (label_view c.now) i) == length (inner.wanted_there (table_view table.old).lists (Some i)))) }
+    ensures same { IfOk result (λ s. s ≡ (length (inner.grown (table_view table.old) (label_view c.now) i) == length (inner.needed_there (table_view table.old).lists (Some i)))) }
 {
     let gone = bound_by(alloc, c)?;
     let mut used = Vec::new(alloc);
     push_used(&mut used, &c.body, table)?;
-    let wanted = grown(alloc, &gone, table.wanted_at(i), &used)?;
-    let same = wanted.len() == table.wanted_at(i).len();
-    table.set(i, wanted);
+    let needed = grown(alloc, &gone, table.needed_at(i), &used)?;
+    let same = needed.len() == table.needed_at(i).len();
+    table.set(i, needed);
     Ok(same)
 }

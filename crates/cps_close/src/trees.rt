@@ -15,7 +15,7 @@ use flow_ir::{Label, Step, Tree, join};
 use nv_base::{Args, Atom, NoMemory, Vars};
 use std::alloc::Global;
 
-/// What was found, or want of memory, after letting go of what is held.
+/// What was found, or memory exhaustion, after letting go of what is held.
 macro_rules! read {
     ($found:expr $(, $held:expr)*) => {
         match $found {
@@ -60,21 +60,21 @@ pub fn short_numbers(alloc: Global, xs: &[u32]) -> Result<Vars, NoMemory>
 }
 
 // Operands, and then variables.
-fn operands(alloc: Global, xs: &[Atom], wanted: &[u32]) -> Result<Vec<Atom>, NoMemory>
-    ensures { IfOk result (λ v. v.items ≡ xs.now ++ inner.operands wanted.now) }
+fn operands(alloc: Global, xs: &[Atom], needed: &[u32]) -> Result<Vec<Atom>, NoMemory>
+    ensures { IfOk result (λ v. v.items ≡ xs.now ++ inner.operands needed.now) }
 {
     let mut v = Vec::new(alloc);
     for a in xs {
         v.push(*a)?;
     }
-    with_variables(v, wanted)
+    with_variables(v, needed)
 }
 
-// With variables behind them.
-fn with_variables(mut v: Vec<Atom>, wanted: &[u32]) -> Result<Vec<Atom>, NoMemory>
-    ensures { IfOk result (λ u. u.items ≡ v.items ++ inner.operands wanted.now) }
+// With variables after them.
+fn with_variables(mut v: Vec<Atom>, needed: &[u32]) -> Result<Vec<Atom>, NoMemory>
+    ensures { IfOk result (λ u. u.items ≡ v.items ++ inner.operands needed.now) }
 {
-    for x in wanted {
+    for x in needed {
         v.push(Atom::Var(*x))?;
     }
     Ok(v)
@@ -82,10 +82,10 @@ fn with_variables(mut v: Vec<Atom>, wanted: &[u32]) -> Result<Vec<Atom>, NoMemor
 
 // The jump to a label.
 fn jump(alloc: Global, l: u32, bs: &[Atom], table: &Table) -> Result<Tree, NoMemory>
-    ensures { IfOk result (λ u. tree_view u ≡ flow.Jump (inner.number (table_view table.now) l) (bs.now ++ inner.operands (inner.wanted (table_view table.now) l))) }
+    ensures { IfOk result (λ u. tree_view u ≡ flow.Jump (inner.number (table_view table.now) l) (bs.now ++ inner.operands (inner.needed (table_view table.now) l))) }
 {
     let number = table.number(l)?;
-    Ok(Tree::Jump(number, operands(alloc, bs, table.wanted(l))?))
+    Ok(Tree::Jump(number, operands(alloc, bs, table.needed(l))?))
 }
 
 /// The tree of a term.
@@ -157,23 +157,23 @@ fn ended(alloc: Global) -> Result<Tree, NoMemory>
     Ok(Tree::Halt(0, short_atoms(alloc, &[])?))
 }
 
-// A label with these behind its own parameters.
-fn label(alloc: Global, params: &[u32], wanted: &[u32], body: Tree) -> Result<Label, NoMemory>
-    ensures params { IfOk result (λ l. l.params.items ≡ params.now ++ wanted.now) }
+// A label with these after its own parameters.
+fn label(alloc: Global, params: &[u32], needed: &[u32], body: Tree) -> Result<Label, NoMemory>
+    ensures params { IfOk result (λ l. l.params.items ≡ params.now ++ needed.now) }
     ensures body { IfOk result (λ l. tree_view l.body ≡ tree_view body) }
 {
     let mut all = Vec::new(alloc);
     read!(push_all(&mut all, params), body);
-    read!(push_all(&mut all, wanted), body);
+    read!(push_all(&mut all, needed), body);
     Ok(Label { params: all, body })
 }
 
 // The label of the flow for the one at an index.
 fn label_of(alloc: Global, c: &Cont, i: usize, table: &Table) -> Result<Label, NoMemory>
-    ensures { IfOk result (λ l. flow_label l ≡ inner.with_wanted (table_view table.now) (label_view c.now) (inner.wanted_there (table_view table.now).lists (Some i))) }
+    ensures { IfOk result (λ l. flow_label l ≡ inner.with_wanted (table_view table.now) (label_view c.now) (inner.needed_there (table_view table.now).lists (Some i))) }
 {
     let body = tree_of(alloc, &c.body, table)?;
-    label(alloc, &c.params, table.wanted_at(i), body)
+    label(alloc, &c.params, table.needed_at(i), body)
 }
 
 /// The labels of the flow: where the function begins, and those of its labels.

@@ -91,7 +91,7 @@ pub fn push_used(v: &mut Vec<u32>, t: &Term, table: &Table) -> Result<(), NoMemo
             Term::Throw(_, _) => return Ok(()),
             Term::Jump(l, bs) => {
                 push_atoms(v, bs)?;
-                return push_all(v, table.wanted(*l));
+                return push_all(v, table.needed(*l));
             }
             Term::Halt(_, bs) => return push_atoms(v, bs),
         }
@@ -152,16 +152,16 @@ fn insert_all(s: &mut HashSet<u32>, xs: &[u32]) -> Result<(), NoMemory>
 pub fn grown(
     alloc: Global,
     gone: &[u32],
-    wanted: &[u32],
+    needed: &[u32],
     used: &[u32],
 ) -> Result<Vec<u32>, NoMemory>
-    ensures { IfOk result (λ v. v.items ≡ noted_all gone.now wanted.now used.now) }
+    ensures { IfOk result (λ v. v.items ≡ noted_all gone.now needed.now used.now) }
 {
     let mut seen = HashSet::with_capacity(alloc, used.len())?;
     insert_all(&mut seen, gone)?;
-    insert_all(&mut seen, wanted)?;
+    insert_all(&mut seen, needed)?;
     let mut v = Vec::new(alloc);
-    push_all(&mut v, wanted)?;
+    push_all(&mut v, needed)?;
     for x in used {
         if seen.insert(*x)? {
             v.push(*x)?;

@@ -14,17 +14,17 @@ use Rattle.cps_ir.specs.View.{Seen, labels_of, term_view, label_view, labels_vie
 use Rattle.cps_ir.specs.Spine.{put_all}
 use Rattle.cps_ir.proofs.Views.{view-Cont}
 use Rattle.std.proofs.lemmas.List.{drop_more, length-map}
-use Rattle.cps_inline.specs.declared.copying.Place as declared
-use Rattle.cps_inline.specs.inner.Inlined.{Adds, Counts, Entering, Place, moved, moved_atom, moved_atoms, is_one, is_copied, span, term_span, term_count, labels_count, copy_count, copies_count, group_count, copied, copied_labels, copies, entered, entering, counts, weight, labels_weight, weights, behind, labels_span, call_count, entered_call, moved_handlers, place_behind, place_view, copies_at, copy_at}
+use Rattle.cps_inline.specs.declared.copying.InlineContext as declared
+use Rattle.cps_inline.specs.inner.Inlined.{Adds, Counts, Entering, InlineContext, moved, moved_atom, moved_atoms, is_one, is_copied, span, term_span, term_count, labels_count, copy_count, copies_count, group_count, copied, copied_labels, copies, entered, entering, counts, weight, labels_weight, weights, behind, labels_span, call_count, entered_call, moved_handlers, context_of_call_in, context_view, copies_at, copy_at}
 use Rattle.cps_inline.proofs.Simulates.{group-less}
 
 -- the steps and the copy of cur, with m as the next number, are the old steps and the copy of t with n
-pub record On (funs : List Fun) (enter : Entering) (w : Counts) (p : Place) (b : ℕ) (t : Term) (n : ℕ) (old ss : List Step) (cur : Term) (m : ℕ) : Type 0 where
+pub record On (funs : List Fun) (enter : Entering) (w : Counts) (p : InlineContext) (b : ℕ) (t : Term) (n : ℕ) (old ss : List Step) (cur : Term) (m : ℕ) : Type 0 where
   pub term : put_all ss (copied funs enter w p b (term_view cur) m) ≡ put_all old (copied funs enter w p b (term_view t) n)
   pub count : m + term_count funs w (term_view cur) ≡ n + term_count funs w (term_view t)
   pub size : weight (term_view cur) ≤ weight (term_view t)
 
-on_step : {funs : List Fun} {enter : Entering} {w : Counts} {p : Place} {b : ℕ} {t cur : Term} {n m : ℕ} {old ss : List Step} (node : pure.Term → pure.Term) (ss' : List Step) (rest : Term) (m' : ℕ) → On funs enter w p b t n old ss cur m → Adds ss ss' node → copied funs enter w p b (term_view cur) m ≡ node (copied funs enter w p b (term_view rest) m')
+on_step : {funs : List Fun} {enter : Entering} {w : Counts} {p : InlineContext} {b : ℕ} {t cur : Term} {n m : ℕ} {old ss : List Step} (node : pure.Term → pure.Term) (ss' : List Step) (rest : Term) (m' : ℕ) → On funs enter w p b t n old ss cur m → Adds ss ss' node → copied funs enter w p b (term_view cur) m ≡ node (copied funs enter w p b (term_view rest) m')
     → m + term_count funs w (term_view cur) ≡ m' + term_count funs w (term_view rest) → weight (term_view rest) ≤ weight (term_view cur) → On funs enter w p b t n old ss' rest m'
 on_step {funs = funs} {enter = enter} {w = w} {p = p} {b = b} {ss = ss} node ss' rest m' on adds term count size = record {
   term = adds (copied funs enter w p b (term_view rest) m') ∙ ap (put_all ss) (sym term) ∙ on.term;
@@ -32,39 +32,39 @@ on_step {funs = funs} {enter = enter} {w = w} {p = p} {b = b} {ss = ss} node ss'
   size = let le = on.size in omega arith;
 }
 
-pub on_if : {funs : List Fun} {enter : Entering} {w : Counts} {p : Place} {b : ℕ} {t cur : Term} {n m : ℕ} {old ss : List Step} (c : Cmp) (a d : Atom) (part rest : Term) (m' : ℕ) (ss' : List Step) → On funs enter w p b t n old ss cur m → term_view cur ≡ If c a d (term_view part) (term_view rest) → Adds ss ss' (If c (moved_atom b a) (moved_atom b d) (copied funs enter w p b (term_view part) m))
+pub on_if : {funs : List Fun} {enter : Entering} {w : Counts} {p : InlineContext} {b : ℕ} {t cur : Term} {n m : ℕ} {old ss : List Step} (c : Cmp) (a d : Atom) (part rest : Term) (m' : ℕ) (ss' : List Step) → On funs enter w p b t n old ss cur m → term_view cur ≡ If c a d (term_view part) (term_view rest) → Adds ss ss' (If c (moved_atom b a) (moved_atom b d) (copied funs enter w p b (term_view part) m))
     → m' ≡ m + term_count funs w (term_view part) → On funs enter w p b t n old ss' rest m'
 on_if {funs = funs} {enter = enter} {w = w} {p = p} {b = b} {cur = cur} {m = m} c a d part rest m' ss' on view adds em =
     let counted : term_count funs w (term_view cur) ≡ term_count funs w (term_view part) + term_count funs w (term_view rest) = ap (term_count funs w) view in
     on_step (If c (moved_atom b a) (moved_atom b d) (copied funs enter w p b (term_view part) m)) ss' rest m' on adds
     (ap (λ v. copied funs enter w p b v m) view ∙ ap (λ k. If c (moved_atom b a) (moved_atom b d) (copied funs enter w p b (term_view part) m) (copied funs enter w p b (term_view rest) k)) (sym em)) (omega arith) (let light = ap weight view in omega arith)
 
-pub on_one : {funs : List Fun} {enter : Entering} {w : Counts} {p : Place} {b : ℕ} {t cur : Term} {n m : ℕ} {old ss : List Step} (l : ℕ) (xs : List ℕ) (part rest : Term) (m' : ℕ) (ss' : List Step) → On funs enter w p b t n old ss cur m → term_view cur ≡ Fix (label l xs (term_view rest) none) (term_view part) → Adds ss ss' (λ v. Fix (label (b + l) (moved b xs) v none) (copied funs enter w p b (term_view part) m))
+pub on_one : {funs : List Fun} {enter : Entering} {w : Counts} {p : InlineContext} {b : ℕ} {t cur : Term} {n m : ℕ} {old ss : List Step} (l : ℕ) (xs : List ℕ) (part rest : Term) (m' : ℕ) (ss' : List Step) → On funs enter w p b t n old ss cur m → term_view cur ≡ Fix (label l xs (term_view rest) none) (term_view part) → Adds ss ss' (λ v. Fix (label (b + l) (moved b xs) v none) (copied funs enter w p b (term_view part) m))
     → m' ≡ m + term_count funs w (term_view part) → On funs enter w p b t n old ss' rest m'
 on_one {funs = funs} {enter = enter} {w = w} {p = p} {b = b} {cur = cur} {m = m} l xs part rest m' ss' on view adds em =
     let counted : term_count funs w (term_view cur) ≡ term_count funs w (term_view part) + (term_count funs w (term_view rest) + 0) = ap (term_count funs w) view in
     on_step (λ v. Fix (label (b + l) (moved b xs) v none) (copied funs enter w p b (term_view part) m)) ss' rest m' on adds
     (ap (λ v. copied funs enter w p b v m) view ∙ ap (λ k. Fix (label (b + l) (moved b xs) (copied funs enter w p b (term_view rest) k) none) (copied funs enter w p b (term_view part) m)) (sym em)) (omega arith) (let light = ap weight view in omega arith)
 
-several-copied : (funs : List Fun) (enter : Entering) (w : Counts) (p : Place) (b m : ℕ) (c : Bool) → c ≡ false → (ls : Labels) (t : pure.Term)
+several-copied : (funs : List Fun) (enter : Entering) (w : Counts) (p : InlineContext) (b m : ℕ) (c : Bool) → c ≡ false → (ls : Labels) (t : pure.Term)
     → Fix (copied_labels funs enter w p b ls (if c then m + term_count funs w t else m)) (copied funs enter w p b t (if c then m else m + labels_count funs w ls)) ≡ Fix (copied_labels funs enter w p b ls m) (copied funs enter w p b t (m + labels_count funs w ls))
 several-copied funs enter w p b m false e ls t = refl
 several-copied funs enter w p b m true e ls t = cc
 
-pub on_several : {funs : List Fun} {enter : Entering} {w : Counts} {p : Place} {b : ℕ} {t cur : Term} {n m : ℕ} {old ss : List Step} (ls : Labels) (rest : Term) (m' : ℕ) (ss' : List Step) → On funs enter w p b t n old ss cur m → term_view cur ≡ Fix ls (term_view rest) → is_one ls ≡ false → Adds ss ss' (Fix (copied_labels funs enter w p b ls m))
+pub on_several : {funs : List Fun} {enter : Entering} {w : Counts} {p : InlineContext} {b : ℕ} {t cur : Term} {n m : ℕ} {old ss : List Step} (ls : Labels) (rest : Term) (m' : ℕ) (ss' : List Step) → On funs enter w p b t n old ss cur m → term_view cur ≡ Fix ls (term_view rest) → is_one ls ≡ false → Adds ss ss' (Fix (copied_labels funs enter w p b ls m))
     → m' ≡ m + labels_count funs w ls → On funs enter w p b t n old ss' rest m'
 on_several {funs = funs} {enter = enter} {w = w} {p = p} {b = b} {cur = cur} {m = m} ls rest m' ss' on view many adds em =
     let counted : term_count funs w (term_view cur) ≡ term_count funs w (term_view rest) + labels_count funs w ls = ap (term_count funs w) view in
     on_step (Fix (copied_labels funs enter w p b ls m)) ss' rest m' on adds
     (ap (λ x. copied funs enter w p b x m) view ∙ several-copied funs enter w p b m (is_one ls) many ls (term_view rest) ∙ ap (λ k. Fix (copied_labels funs enter w p b ls m) (copied funs enter w p b (term_view rest) k)) (sym em)) (omega arith) (let light = ap weight view in omega arith)
 
-pub on_end : {funs : List Fun} {enter : Entering} {w : Counts} {p : Place} {b : ℕ} {t cur : Term} {n m : ℕ} {old ss : List Step} (x : pure.Term) (u : Term) → On funs enter w p b t n old ss cur m → term_view cur ≡ x → term_view u ≡ copied funs enter w p b x m → put_all ss (term_view u) ≡ put_all old (copied funs enter w p b (term_view t) n)
+pub on_end : {funs : List Fun} {enter : Entering} {w : Counts} {p : InlineContext} {b : ℕ} {t cur : Term} {n m : ℕ} {old ss : List Step} (x : pure.Term) (u : Term) → On funs enter w p b t n old ss cur m → term_view cur ≡ x → term_view u ≡ copied funs enter w p b x m → put_all ss (term_view u) ≡ put_all old (copied funs enter w p b (term_view t) n)
 on_end {funs = funs} {enter = enter} {w = w} {p = p} {b = b} {m = m} {ss = ss} x u on is e = ap (put_all ss) (e ∙ ap (λ v. copied funs enter w p b v m) (sym is)) ∙ on.term
 
 -- ---- places
 
 -- a place whose words go to a label
-abbrev pub place_to : ℕ → ℕ → List Handler → Place
+abbrev pub place_to : ℕ → ℕ → List Handler → InlineContext
 place_to first l hs = record { first = first; to = Some l; handlers = hs }
 
 pub same_place : (first l k : ℕ) (hs gs : List Handler) → l ≡ k → hs ≡ gs → place_to first l hs ≡ place_to first k gs
@@ -72,7 +72,7 @@ same_place first l k hs gs e f = ap (λ i. place_to first i hs) e ∙ ap (place_
 
 -- ---- spans
 
--- behind all that is seen, and cur, is behind all of t
+-- after all that is seen, and cur, is after all of t
 pub record Spans (t : Term) (least : ℕ) (cur : Term) (next : ℕ) : Type 0 where
   pub span : max next (term_span (term_view cur)) ≡ max least (term_span (term_view t))
   pub size : weight (term_view cur) ≤ weight (term_view t)
@@ -112,11 +112,11 @@ map-last [] x = refl
 map-last (y ∷ xs) x = ap (λ l. label_view y ∷ l) (map-last xs x)
 
 -- the labels so far, and the copies of the rest, with m as the next number, are the copies of all with n
-pub record InLabels (funs : List Fun) (enter : Entering) (w : Counts) (p : Place) (b : ℕ) (all : List Cont) (n : ℕ) (done : List Cont) (rest : List Cont) (m : ℕ) : Type 0 where
+pub record InLabels (funs : List Fun) (enter : Entering) (w : Counts) (p : InlineContext) (b : ℕ) (all : List Cont) (n : ℕ) (done : List Cont) (rest : List Cont) (m : ℕ) : Type 0 where
   pub labels : before (map label_view done) (copied_labels funs enter w p b (labels_view rest) m) ≡ copied_labels funs enter w p b (labels_view all) n
   pub count : m + labels_count funs w (labels_view rest) ≡ n + labels_count funs w (labels_view all)
 
-pub in_next : {funs : List Fun} {enter : Entering} {w : Counts} {p : Place} {b n m : ℕ} {all done rest : List Cont} (c d : Cont) (rest' done' : List Cont) (m' : ℕ) → InLabels funs enter w p b all n done rest m → rest ≡ c ∷ rest' → done' ≡ done ++ d ∷ []
+pub in_next : {funs : List Fun} {enter : Entering} {w : Counts} {p : InlineContext} {b n m : ℕ} {all done rest : List Cont} (c d : Cont) (rest' done' : List Cont) (m' : ℕ) → InLabels funs enter w p b all n done rest m → rest ≡ c ∷ rest' → done' ≡ done ++ d ∷ []
     → m' ≡ m + term_count funs w (label_view c).body → (label_view d).label ≡ b + (label_view c).label → (label_view d).params ≡ moved b (label_view c).params → (label_view d).body ≡ copied funs enter w p b (label_view c).body m → InLabels funs enter w p b all n done' rest' m'
 in_next {funs = funs} {enter = enter} {w = w} {p = p} {b = b} {m = m} {done = done} {rest = rest} c d rest' done' m' h e push em el ep eb =
     let view : copied_labels funs enter w p b (labels_view rest) m ≡ label (b + (label_view c).label) (moved b (label_view c).params) (copied funs enter w p b (label_view c).body m) (copied_labels funs enter w p b (labels_view rest') (m + term_count funs w (label_view c).body)) =
@@ -129,27 +129,27 @@ in_next {funs = funs} {enter = enter} {w = w} {p = p} {b = b} {m = m} {done = do
       count = let k = h.count in omega arith;
     }
 
-pub in_end : {funs : List Fun} {enter : Entering} {w : Counts} {p : Place} {b n m : ℕ} {all done rest : List Cont} → InLabels funs enter w p b all n done rest m → rest ≡ [] → labels_view done ≡ copied_labels funs enter w p b (labels_view all) n
+pub in_end : {funs : List Fun} {enter : Entering} {w : Counts} {p : InlineContext} {b n m : ℕ} {all done rest : List Cont} → InLabels funs enter w p b all n done rest m → rest ≡ [] → labels_view done ≡ copied_labels funs enter w p b (labels_view all) n
 in_end {funs = funs} {enter = enter} {w = w} {p = p} {b = b} {m = m} {done = done} h e =
     sym (before-none (map label_view done)) ∙ sym (ap (λ r. before (map label_view done) (copied_labels funs enter w p b (labels_view r) m)) e) ∙ h.labels
 
 -- ---- groups
 
 -- the labels so far, and the copies of the functions from j on, are the copies of all
-pub record InCopies (funs : List Fun) (enter : Entering) (w : Counts) (p : Place) (f : Fun) (all : List CpsFun) (n : ℕ) (done : List Cont) (j : ℕ) (rest : List CpsFun) (m : ℕ) : Type 0 where
+pub record InCopies (funs : List Fun) (enter : Entering) (w : Counts) (p : InlineContext) (f : Fun) (all : List CpsFun) (n : ℕ) (done : List Cont) (j : ℕ) (rest : List CpsFun) (m : ℕ) : Type 0 where
   pub labels : before (map label_view done) (copies funs enter w f p j (map fun_view rest) m) ≡ copies funs enter w f p 0 (map fun_view all) n
   pub count : m + copies_count funs w f (map fun_view rest) ≡ n + copies_count funs w f (map fun_view all)
 
-copies-first : (funs : List Fun) (enter : Entering) (w : Counts) (f : Fun) (p : Place) (j m : ℕ) (g : Fun) (gs : List Fun) → is_copied f g ≡ true
+copies-first : (funs : List Fun) (enter : Entering) (w : Counts) (f : Fun) (p : InlineContext) (j m : ℕ) (g : Fun) (gs : List Fun) → is_copied f g ≡ true
     → copies funs enter w f p j (g ∷ gs) m ≡ label (p.first + j) (moved m g.params) (copied funs enter w p m g.body (m + span g)) (copies funs enter w f p (suc j) gs (m + copy_count funs w g))
 copies-first funs enter w f p j m g gs e =
     ap (λ c. if c then label (p.first + j) (moved m g.params) (copied funs enter w p m g.body (m + span g)) (copies funs enter w f p (suc j) gs (m + copy_count funs w g)) else copies funs enter w f p (suc j) gs m) e
 
-copies-skip : (funs : List Fun) (enter : Entering) (w : Counts) (f : Fun) (p : Place) (j m : ℕ) (g : Fun) (gs : List Fun) → is_copied f g ≡ false → copies funs enter w f p j (g ∷ gs) m ≡ copies funs enter w f p (suc j) gs m
+copies-skip : (funs : List Fun) (enter : Entering) (w : Counts) (f : Fun) (p : InlineContext) (j m : ℕ) (g : Fun) (gs : List Fun) → is_copied f g ≡ false → copies funs enter w f p j (g ∷ gs) m ≡ copies funs enter w f p (suc j) gs m
 copies-skip funs enter w f p j m g gs e =
     ap (λ c. if c then label (p.first + j) (moved m g.params) (copied funs enter w p m g.body (m + span g)) (copies funs enter w f p (suc j) gs (m + copy_count funs w g)) else copies funs enter w f p (suc j) gs m) e
 
-pub copies_take : {funs : List Fun} {enter : Entering} {w : Counts} {p : Place} {f : Fun} {all rest : List CpsFun} {n j m : ℕ} {done : List Cont} (g : CpsFun) (d : Cont) (rest' : List CpsFun) (done' : List Cont) (j' m' : ℕ) → InCopies funs enter w p f all n done j rest m → rest ≡ g ∷ rest' → is_copied f (fun_view g) ≡ true → j' ≡ j + 1 → done' ≡ done ++ d ∷ []
+pub copies_take : {funs : List Fun} {enter : Entering} {w : Counts} {p : InlineContext} {f : Fun} {all rest : List CpsFun} {n j m : ℕ} {done : List Cont} (g : CpsFun) (d : Cont) (rest' : List CpsFun) (done' : List Cont) (j' m' : ℕ) → InCopies funs enter w p f all n done j rest m → rest ≡ g ∷ rest' → is_copied f (fun_view g) ≡ true → j' ≡ j + 1 → done' ≡ done ++ d ∷ []
     → m' ≡ m + copy_count funs w (fun_view g) → (label_view d).label ≡ p.first + j → (label_view d).params ≡ moved m g.params.items → (label_view d).body ≡ copied funs enter w p m (term_view g.body) (m + span (fun_view g)) → InCopies funs enter w p f all n done' j' rest' m'
 copies_take {funs = funs} {enter = enter} {w = w} {p = p} {f = f} {rest = rest} {j = j} {m = m} {done = done} g d rest' done' j' m' h e c ej push em el ep eb =
     let view : copies funs enter w f p j (map fun_view rest) m ≡ label (p.first + j) (moved m g.params.items) (copied funs enter w p m (term_view g.body) (m + span (fun_view g))) (copies funs enter w f p (suc j) (map fun_view rest') (m + copy_count funs w (fun_view g))) =
@@ -164,7 +164,7 @@ copies_take {funs = funs} {enter = enter} {w = w} {p = p} {f = f} {rest = rest} 
       count = let k = h.count in omega arith;
     }
 
-pub copies_pass : {funs : List Fun} {enter : Entering} {w : Counts} {p : Place} {f : Fun} {all rest : List CpsFun} {n j m : ℕ} {done : List Cont} (g : CpsFun) (rest' : List CpsFun) (done' : List Cont) (j' m' : ℕ) → InCopies funs enter w p f all n done j rest m → rest ≡ g ∷ rest' → is_copied f (fun_view g) ≡ false → j' ≡ j + 1 → done' ≡ done → m' ≡ m → InCopies funs enter w p f all n done' j' rest' m'
+pub copies_pass : {funs : List Fun} {enter : Entering} {w : Counts} {p : InlineContext} {f : Fun} {all rest : List CpsFun} {n j m : ℕ} {done : List Cont} (g : CpsFun) (rest' : List CpsFun) (done' : List Cont) (j' m' : ℕ) → InCopies funs enter w p f all n done j rest m → rest ≡ g ∷ rest' → is_copied f (fun_view g) ≡ false → j' ≡ j + 1 → done' ≡ done → m' ≡ m → InCopies funs enter w p f all n done' j' rest' m'
 copies_pass {funs = funs} {enter = enter} {w = w} {p = p} {f = f} {rest = rest} {j = j} {m = m} {done = done} g rest' done' j' m' h e c ej ed em =
     let next : j' ≡ suc j = omega arith in
     let view : copies funs enter w f p j (map fun_view rest) m ≡ copies funs enter w f p j' (map fun_view rest') m =
@@ -177,7 +177,7 @@ copies_pass {funs = funs} {enter = enter} {w = w} {p = p} {f = f} {rest = rest} 
       count = let k = h.count in omega arith;
     }
 
-pub copies_end : {funs : List Fun} {enter : Entering} {w : Counts} {p : Place} {f : Fun} {all rest : List CpsFun} {n j m : ℕ} {done : List Cont} → InCopies funs enter w p f all n done j rest m → rest ≡ [] → labels_view done ≡ copies funs enter w f p 0 (map fun_view all) n
+pub copies_end : {funs : List Fun} {enter : Entering} {w : Counts} {p : InlineContext} {f : Fun} {all rest : List CpsFun} {n j m : ℕ} {done : List Cont} → InCopies funs enter w p f all n done j rest m → rest ≡ [] → labels_view done ≡ copies funs enter w f p 0 (map fun_view all) n
 copies_end {funs = funs} {enter = enter} {w = w} {p = p} {f = f} {j = j} {m = m} {done = done} h e =
     sym (before-none (map label_view done)) ∙ sym (ap (λ r. before (map label_view done) (copies funs enter w f p j (map fun_view r) m)) e) ∙ h.labels
 
@@ -212,19 +212,19 @@ call-counted funs own i k f bs to hs there is lt =
     ap (λ o. term_count (map fun_view funs) (counts (map fun_view funs) own) (Call i bs o hs)) is ∙ ap (call_count (counts (map fun_view funs) own)) (slice-view funs i f there) ∙ counts-at (map fun_view funs) own (fun_view f) lt
 
 -- what is made of it
-pub call-entered : (funs : List CpsFun) (place inner : declared.Place) (b i k : ℕ) (f : CpsFun) (bs : List Atom) (to : Option ℕ) (hs : List Handler) (words : List Atom) (n : ℕ) → slice_get funs i ≡ Some f → to ≡ Some k → f.group < place.group → inner.group ≡ f.group → place_view inner ≡ place_behind (place_view place) b k hs n → words ≡ moved_atoms b bs
+pub call-entered : (funs : List CpsFun) (place inner : declared.InlineContext) (b i k : ℕ) (f : CpsFun) (bs : List Atom) (to : Option ℕ) (hs : List Handler) (words : List Atom) (n : ℕ) → slice_get funs i ≡ Some f → to ≡ Some k → f.group < place.group → inner.group ≡ f.group → context_view inner ≡ context_of_call_in (context_view place) b k hs n → words ≡ moved_atoms b bs
     → Fix (copies_at funs inner (fun_view f) 0 (map fun_view funs) (n + length funs)) (pure.Jump (n + i) words) ≡ copy_at funs place b (Call i bs to hs) n
 call-entered funs place inner b i k f bs to hs words n there is lt group-is view words-is =
-    ap (λ g. Fix (copies (map fun_view funs) (entering (map fun_view funs) g) (counts (map fun_view funs) g) (fun_view f) (place_view inner) 0 (map fun_view funs) (n + length funs)) (pure.Jump (n + i) words)) group-is
+    ap (λ g. Fix (copies (map fun_view funs) (entering (map fun_view funs) g) (counts (map fun_view funs) g) (fun_view f) (context_view inner) 0 (map fun_view funs) (n + length funs)) (pure.Jump (n + i) words)) group-is
     ∙ ap (λ p. Fix (copies (map fun_view funs) (entering (map fun_view funs) f.group) (counts (map fun_view funs) f.group) (fun_view f) p 0 (map fun_view funs) (n + length funs)) (pure.Jump (n + i) words)) view
-    ∙ ap (λ l. Fix (copies (map fun_view funs) (entering (map fun_view funs) f.group) (counts (map fun_view funs) f.group) (fun_view f) (place_behind (place_view place) b k hs n) 0 (map fun_view funs) (n + l)) (pure.Jump (n + i) words)) (sym (length-map funs fun_view))
-    ∙ ap (λ ws. Fix (copies (map fun_view funs) (entering (map fun_view funs) f.group) (counts (map fun_view funs) f.group) (fun_view f) (place_behind (place_view place) b k hs n) 0 (map fun_view funs) (n + length (map fun_view funs))) (pure.Jump (n + i) ws)) words-is
+    ∙ ap (λ l. Fix (copies (map fun_view funs) (entering (map fun_view funs) f.group) (counts (map fun_view funs) f.group) (fun_view f) (context_of_call_in (context_view place) b k hs n) 0 (map fun_view funs) (n + l)) (pure.Jump (n + i) words)) (sym (length-map funs fun_view))
+    ∙ ap (λ ws. Fix (copies (map fun_view funs) (entering (map fun_view funs) f.group) (counts (map fun_view funs) f.group) (fun_view f) (context_of_call_in (context_view place) b k hs n) 0 (map fun_view funs) (n + length (map fun_view funs))) (pure.Jump (n + i) ws)) words-is
     ∙ sym (entering-at (map fun_view funs) place.group i (fun_view f) (moved_atoms b bs) (Some (b + k)) (moved_handlers b hs ++ place.handlers.items) n lt)
     ∙ sym (ap (λ o. entered_call (entering (map fun_view funs) place.group) i o (moved_atoms b bs) (Some (b + k)) (moved_handlers b hs ++ place.handlers.items) n) (slice-view funs i f there))
     ∙ sym (ap (λ o. copy_at funs place b (Call i bs o hs) n) is)
 
 -- a function's body under the next numbers
-pub body-at : (funs : List CpsFun) (place : declared.Place) (g : CpsFun) (body : Term) (n base m s : ℕ) → term_view body ≡ copy_at funs place base (term_view g.body) m → base ≡ n → m ≡ n + s → s ≡ span (fun_view g) → term_view body ≡ copy_at funs place n (term_view g.body) (n + span (fun_view g))
+pub body-at : (funs : List CpsFun) (place : declared.InlineContext) (g : CpsFun) (body : Term) (n base m s : ℕ) → term_view body ≡ copy_at funs place base (term_view g.body) m → base ≡ n → m ≡ n + s → s ≡ span (fun_view g) → term_view body ≡ copy_at funs place n (term_view g.body) (n + span (fun_view g))
 body-at funs place g body n base m s h e em es =
     h ∙ ap (λ k. copy_at funs place k (term_view g.body) m) e ∙ ap (copy_at funs place n (term_view g.body)) em ∙ ap (λ k. copy_at funs place n (term_view g.body) (n + k)) es
 

@@ -9,7 +9,7 @@ use Rattle.cps_ir.specs.Bulk.{call_bulk, term_bulk, labels_bulk, function_bulk, 
 use Rattle.cps_ir.specs.Meaning.{handler_of}
 use Rattle.cps_ir.specs.Term.{Handler, Term, Let, Read, Write, If, Fix, Call, Return, Throw, Jump, Halt, Labels, none, label, Fun}
 use Rattle.std.proofs.lemmas.List.{length-map}
-use Rattle.cps_inline.specs.inner.Inlined.{Counts, Entering, Place, lands, moved, moved_atom, moved_atoms, moved_handlers, is_copied, is_one, span, term_count, labels_count, copy_count, copied, copied_labels, copies, entered, entered_call, entering, counts, operands, behind, inlined_main}
+use Rattle.cps_inline.specs.inner.Inlined.{Counts, Entering, InlineContext, return_term, moved, moved_atom, moved_atoms, moved_handlers, is_copied, is_one, span, term_count, labels_count, copy_count, copied, copied_labels, copies, entered, entered_call, entering, counts, operands, behind, inlined_main}
 
 -- what a call counts for its callee
 abbrev pub callee_bulk : Bulks → ℕ → Fun → Bulk
@@ -25,15 +25,15 @@ most-equal a b e = subst (IsAtMost a) e (most-refl a)
 jump-most : (a : Bulk) → IsAtMost a_jump (both a_jump a)
 jump-most a = record { labels = omega arith; jumps = omega arith; nodes = omega arith; defined = omega arith; used = omega arith }
 
-lands-bulk : (top : List Fun) (v : Bulks) (g : ℕ) (o : Option ℕ) (e : ℕ) (bs : List Atom) → IsAtMost (term_bulk top v g (lands o e bs)) a_jump
-lands-bulk top v g (Some l) e bs = most-refl a_jump
-lands-bulk top v g None e bs = most-refl a_jump
+return_term-bulk : (top : List Fun) (v : Bulks) (g : ℕ) (o : Option ℕ) (e : ℕ) (bs : List Atom) → IsAtMost (term_bulk top v g (return_term o e bs)) a_jump
+return_term-bulk top v g (Some l) e bs = most-refl a_jump
+return_term-bulk top v g None e bs = most-refl a_jump
 
 call-most : (funs top : List Fun) (v : Bulks) (g : ℕ) (w : Bulks) (own : ℕ) (enter : Entering) → Bounded top v g w own enter → (i : ℕ) (o : Option Fun) (bs : List Atom) (to : Option ℕ) (hs : List Handler) (n : ℕ) → IsAtMost (term_bulk top v g (entered_call enter i o bs to hs n)) (both a_jump (call_bulk w own o))
 call-most funs top v g w own enter h i (Some f) bs to hs n = h.by i f bs to hs n
 call-most funs top v g w own enter h i None bs to hs n = jump-most nothing
 
-module _ (funs top : List Fun) (v : Bulks) (g : ℕ) (w : Bulks) (own : ℕ) (enter : Entering) (h : Bounded top v g w own enter) (c : Counts) (p : Place) where
+module _ (funs top : List Fun) (v : Bulks) (g : ℕ) (w : Bulks) (own : ℕ) (enter : Entering) (h : Bounded top v g w own enter) (c : Counts) (p : InlineContext) where
   mutual
     copied-bulk : (b : ℕ) (t : Term) (n : ℕ) → IsAtMost (term_bulk top v g (copied funs enter c p b t n)) (term_bulk funs w own t)
     copied-bulk b (Let x a t) n = most-behind (a_node 1 2) _ _ (copied-bulk b t n)
@@ -43,8 +43,8 @@ module _ (funs top : List Fun) (v : Bulks) (g : ℕ) (w : Bulks) (own : ℕ) (en
     copied-bulk b (Fix ls t) n = most-both _ _ _ _ (labels-most b ls (if is_one ls then n + term_count funs c t else n)) (copied-bulk b t (if is_one ls then n else n + labels_count funs c ls))
     copied-bulk b (Call i bs (Some k) hs) n = call-most funs top v g w own enter h i (slice_get funs i) (moved_atoms b bs) (Some (b + k)) (moved_handlers b hs ++ p.handlers) n
     copied-bulk b (Call i bs None hs) n = jump-most (call_bulk w own (slice_get funs i))
-    copied-bulk b (Return bs) n = lands-bulk top v g p.to 0 (moved_atoms b bs)
-    copied-bulk b (Throw e bs) n = lands-bulk top v g (handler_of e p.handlers) e (moved_atoms b bs)
+    copied-bulk b (Return bs) n = return_term-bulk top v g p.to 0 (moved_atoms b bs)
+    copied-bulk b (Throw e bs) n = return_term-bulk top v g (handler_of e p.handlers) e (moved_atoms b bs)
     copied-bulk b (Jump l bs) n = most-refl a_jump
     copied-bulk b (Halt e bs) n = most-refl a_jump
 

@@ -16,7 +16,7 @@ use Rattle.nv_base.specs.Sets.{is_in, all_different}
 use Rattle.cps_ir.specs.Formed.{Scoped, scoped, arity, takes_as_many, takes, is_there, are_handlers, can_call, can_go, is_call, is_formed, are_formed, handled_words, handled, raised, labels_raised, is_function, all_raised, defined, made}
 use Rattle.cps_ir.specs.Meaning.{handler_of}
 use Rattle.cps_ir.specs.Term.{Handler, Term, Let, Read, Write, If, Fix, Call, Return, Throw, Jump, Halt, Labels, none, label, Fun}
-use Rattle.cps_inline.specs.inner.Inlined.{Counts, Entering, Place, lands, moved, moved_atom, moved_atoms, moved_primitive, moved_handlers, behind_handlers, term_span, labels_span, span, is_copied, is_one, term_count, labels_count, copy_count, copied, copied_labels, copies, entered, entered_call, entering, counts}
+use Rattle.cps_inline.specs.inner.Inlined.{Counts, Entering, InlineContext, return_term, moved, moved_atom, moved_atoms, moved_primitive, moved_handlers, after_handlers, term_span, labels_span, span, is_copied, is_one, term_count, labels_count, copy_count, copied, copied_labels, copies, entered, entered_call, entering, counts}
 use Rattle.cps_inline.proofs.Moved.{eq-moved}
 use Rattle.cps_inline.proofs.Simulates.{IsBelow, below-more, Below, start-far, start-far-other, handlers-below, to-below, earlier-group, class-from, group-less}
 use Rattle.cps_inline.proofs.Told.{Told, told-left, told-right}
@@ -73,7 +73,7 @@ fits-if false false i i' k o o' e s h g = h g
 fits-if true false i i' k o o' e s h g = absurd (false≢true e)
 fits-if false true i i' k o o' e s h g = absurd (false≢true (sym e))
 
-module _ (funs : List Fun) (enter : Entering) (w : Counts) (p : Place) (b : ℕ) where
+module _ (funs : List Fun) (enter : Entering) (w : Counts) (p : InlineContext) (b : ℕ) where
   labels-fit : (ls : Labels) (n : ℕ) (ss ss' : Scoped) → LabelsFit b ss ss' → LabelsFit b (scoped ls ++ ss) (scoped (copied_labels funs enter w p b ls n) ++ ss')
   labels-fit none n ss ss' h = h
   labels-fit (label m xs t ls) n ss ss' h = λ l k i.
@@ -87,7 +87,7 @@ module _ (funs : List Fun) (enter : Entering) (w : Counts) (p : Place) (b : ℕ)
 
 -- ---- places
 
--- a label takes so many words, or an end takes at most 8
+-- a label takes N words, or an end takes at most 8
 abbrev pub Gives : Option ℕ → ℕ → Scoped → Type 0
 Gives (Some l) n ss = takes ss l n ≡ true
 Gives None n ss = n ≤ 8
@@ -96,7 +96,7 @@ abbrev pub Catches : Option ℕ → ℕ → Scoped → Type 0
 Catches (Some l) n ss = takes ss l n ≡ true
 Catches None n ss = Unit {0}
 
-pub record Stands (funs : List Fun) (words : ℕ → ℕ) (group n : ℕ) (p : Place) (ss : Scoped) : Type 0 where
+pub record Stands (funs : List Fun) (words : ℕ → ℕ) (group n : ℕ) (p : InlineContext) (ss : Scoped) : Type 0 where
   pub to : Gives p.to n ss
   pub handlers : (e : ℕ) → Catches (handler_of e p.handlers) (words e) ss
   pub own : (i : ℕ) (g : Fun) → slice_get funs i ≡ Some g → g.group ≡ group → g.results ≡ n → takes ss (p.first + i) (length g.params) ≡ true
@@ -113,7 +113,7 @@ catches-more : (b : ℕ) (o : Option ℕ) (n : ℕ) (ss ss' : Scoped) → Keeps 
 catches-more b (Some l) n ss ss' h lt g = ap (takes_as_many n) (h l lt) ∙ g
 catches-more b None n ss ss' h lt g = tt
 
-stands-more : (funs : List Fun) (words : ℕ → ℕ) (own n b : ℕ) (p : Place) (ss ss' : Scoped) → Below funs b p → Keeps b ss ss' → Stands funs words own n p ss → Stands funs words own n p ss'
+stands-more : (funs : List Fun) (words : ℕ → ℕ) (own n b : ℕ) (p : InlineContext) (ss ss' : Scoped) → Below funs b p → Keeps b ss ss' → Stands funs words own n p ss → Stands funs words own n p ss'
 stands-more funs words own n b p ss ss' below h s = record {
   to = gives-more b p.to n ss ss' h below.to s.to;
   handlers = λ e. catches-more b (handler_of e p.handlers) (words e) ss ss' h (below.handlers e) (s.handlers e);
@@ -129,9 +129,9 @@ pub record EntersFormed (funs top : List Fun) (r : ℕ) (words : ℕ → ℕ) (o
   pub by : (i : ℕ) (f : Fun) → slice_get funs i ≡ Some f → f.group < own → (n : ℕ) (bs : List Atom) (to : Option ℕ) (hs : List Handler) (ss' : Scoped) (known' : List ℕ) → all_known known' bs ≡ true → length bs ≡ length f.params → IsBelow n to → ((e : ℕ) → IsBelow n (handler_of e hs))
       → Gives to f.results ss' → ((e : ℕ) → Catches (handler_of e hs) (words e) ss') → is_formed top 0 r ss' known' (enter i f bs to hs n) ≡ true
 
-lands-formed : (top : List Fun) (r k : ℕ) (ss' : Scoped) (known' : List ℕ) (o : Option ℕ) (e : ℕ) (bs : List Atom) → all_known known' bs ≡ true → length bs ≡ k → Catches o k ss' → (o ≡ None → k ≤ 8) → is_formed top 0 r ss' known' (lands o e bs) ≡ true
-lands-formed top r k ss' known' (Some l) e bs known long c small = and_from (all_known known' bs) (takes ss' l (length bs)) known (ap (λ x. takes ss' l x) long ∙ c)
-lands-formed top r k ss' known' None e bs known long c small =
+return_term-formed : (top : List Fun) (r k : ℕ) (ss' : Scoped) (known' : List ℕ) (o : Option ℕ) (e : ℕ) (bs : List Atom) → all_known known' bs ≡ true → length bs ≡ k → Catches o k ss' → (o ≡ None → k ≤ 8) → is_formed top 0 r ss' known' (return_term o e bs) ≡ true
+return_term-formed top r k ss' known' (Some l) e bs known long c small = and_from (all_known known' bs) (takes ss' l (length bs)) known (ap (λ x. takes ss' l x) long ∙ c)
+return_term-formed top r k ss' known' None e bs known long c small =
     let le : k ≤ 8 = small refl in
     let test : nat_le (length bs) 8 ≡ true = grind (arith, nat_tests) in
     and_from (all_known known' bs) (nat_le (length bs) 8) known test
@@ -167,8 +167,8 @@ call-tells own given ss k g h =
     let parts = and_parts (length g.params == given) (takes ss k g.results && nat_lt g.group own) h in
     (eqb-true (length g.params) given parts.0, (and_parts (takes ss k g.results) (nat_lt g.group own) parts.1).0)
 
-call-formed : (funs top : List Fun) (r : ℕ) (words : ℕ → ℕ) (own n : ℕ) (enter : Entering) → EntersFormed funs top r words own enter → (b s next i k : ℕ) (bs : List Atom) (hs : List Handler) (p : Place) (ss ss' : Scoped) (known' : List ℕ) (o : Option Fun) → slice_get funs i ≡ o → can_call own (length bs) ss k o ≡ true
-    → k + 1 ≤ s → behind_handlers hs ≤ s → b + s ≤ next → Below funs b p → Stands funs words own n p ss' → LabelsFit b ss ss' → are_handlers ss hs ≡ true → Told words (handled ss hs) → all_known known' (moved_atoms b bs) ≡ true
+call-formed : (funs top : List Fun) (r : ℕ) (words : ℕ → ℕ) (own n : ℕ) (enter : Entering) → EntersFormed funs top r words own enter → (b s next i k : ℕ) (bs : List Atom) (hs : List Handler) (p : InlineContext) (ss ss' : Scoped) (known' : List ℕ) (o : Option Fun) → slice_get funs i ≡ o → can_call own (length bs) ss k o ≡ true
+    → k + 1 ≤ s → after_handlers hs ≤ s → b + s ≤ next → Below funs b p → Stands funs words own n p ss' → LabelsFit b ss ss' → are_handlers ss hs ≡ true → Told words (handled ss hs) → all_known known' (moved_atoms b bs) ≡ true
     → is_formed top 0 r ss' known' (entered_call enter i o (moved_atoms b bs) (Some (b + k)) (moved_handlers b hs ++ p.handlers) next) ≡ true
 call-formed funs top r words own n enter h b s next i k bs hs p ss ss' known' None there can lk lh far below stands fit ok told known = absurd (false≢true can)
 call-formed funs top r words own n enter h b s next i k bs hs p ss ss' known' (Some g) there can lk lh far below stands fit ok told known =
@@ -177,7 +177,7 @@ call-formed funs top r words own n enter h b s next i k bs hs p ss ss' known' (S
     (to-below b s next k lk far) (λ e. handlers-below b s next e hs p.handlers lh far (below-more b next (handler_of e p.handlers) (omega arith) (below.handlers e)))
     (fit k g.results tells.1) (call-catches words b hs p.handlers ss ss' fit ok told stands.handlers)
 
-own-formed : (funs : List Fun) (words : ℕ → ℕ) (own n : ℕ) (b i : ℕ) (bs : List Atom) (p : Place) (ss' : Scoped) (o : Option Fun) → slice_get funs i ≡ o → can_go own (length bs) n o ≡ true → Stands funs words own n p ss' → takes ss' (p.first + i) (length (moved_atoms b bs)) ≡ true
+own-formed : (funs : List Fun) (words : ℕ → ℕ) (own n : ℕ) (b i : ℕ) (bs : List Atom) (p : InlineContext) (ss' : Scoped) (o : Option Fun) → slice_get funs i ≡ o → can_go own (length bs) n o ≡ true → Stands funs words own n p ss' → takes ss' (p.first + i) (length (moved_atoms b bs)) ≡ true
 own-formed funs words own n b i bs p ss' None there can stands = absurd (false≢true can)
 own-formed funs words own n b i bs p ss' (Some g) there can stands =
     let parts = and_parts (length g.params == length bs) ((g.results == n) && (g.group == own)) can in
@@ -186,7 +186,7 @@ own-formed funs words own n b i bs p ss' (Some g) there can stands =
 
 -- ---- terms
 
-module _ (funs top : List Fun) (r : ℕ) (words : ℕ → ℕ) (own n : ℕ) (enter : Entering) (enters : EntersFormed funs top r words own enter) (wc : Counts) (p : Place) (b s : ℕ) (below : Below funs b p) where
+module _ (funs top : List Fun) (r : ℕ) (words : ℕ → ℕ) (own n : ℕ) (enter : Entering) (enters : EntersFormed funs top r words own enter) (wc : Counts) (p : InlineContext) (b s : ℕ) (below : Below funs b p) where
   mutual
     pub term-formed : (t : Term) (ss : Scoped) (known : List ℕ) → is_formed funs own n ss known t ≡ true → Told words (raised ss t) → term_span t ≤ s → (next : ℕ) → b + s ≤ next → (ss' : Scoped) (known' : List ℕ) → LabelsFit b ss ss' → KnownFit b known known' → Stands funs words own n p ss'
         → is_formed top 0 r ss' known' (copied funs enter wc p b t next) ≡ true
@@ -248,13 +248,13 @@ module _ (funs top : List Fun) (r : ℕ) (words : ℕ → ℕ) (own n : ℕ) (en
     term-formed (Call i bs None (x ∷ hs)) ss known f told le next far ss' known' fit kf st = absurd (false≢true (and_parts (all_known known bs) false f).1)
     term-formed (Return bs) ss known f told le next far ss' known' fit kf st =
         let p1 = and_parts (all_known known bs) (length bs == n) f in
-        lands-formed top r n ss' known' p.to 0 (moved_atoms b bs) (atoms-fit b known known' kf bs p1.0) (length-map bs (moved_atom b) ∙ eqb-true (length bs) n p1.1) (gives-catches p.to n ss' st.to) (gives-small p.to n ss' st.to)
+        return_term-formed top r n ss' known' p.to 0 (moved_atoms b bs) (atoms-fit b known known' kf bs p1.0) (length-map bs (moved_atom b) ∙ eqb-true (length bs) n p1.1) (gives-catches p.to n ss' st.to) (gives-small p.to n ss' st.to)
     term-formed (Throw e bs) ss known f told le next far ss' known' fit kf st =
         let p1 = and_parts (all_known known bs) (nat_le 1 e && nat_le (length bs) 8) f in
         let small : nat_le (length bs) 8 ≡ true = (and_parts (nat_le 1 e) (nat_le (length bs) 8) p1.1).1 in
         let few : length bs ≤ 8 = grind (arith, nat_tests) in
         let many : length bs ≡ words e = told.0 in
-        lands-formed top r (words e) ss' known' (handler_of e p.handlers) e (moved_atoms b bs) (atoms-fit b known known' kf bs p1.0) (length-map bs (moved_atom b) ∙ many) (st.handlers e) (λ x. omega arith)
+        return_term-formed top r (words e) ss' known' (handler_of e p.handlers) e (moved_atoms b bs) (atoms-fit b known known' kf bs p1.0) (length-map bs (moved_atom b) ∙ many) (st.handlers e) (λ x. omega arith)
     term-formed (Jump l bs) ss known f told le next far ss' known' fit kf st =
         let p1 = and_parts (all_known known bs) (takes ss l (length bs)) f in
         and_from (all_known known' (moved_atoms b bs)) (takes ss' (b + l) (length (moved_atoms b bs))) (atoms-fit b known known' kf bs p1.0) (ap (λ x. takes ss' (b + l) x) (length-map bs (moved_atom b)) ∙ fit l (length bs) p1.1)
@@ -277,7 +277,7 @@ scoped-either : (t : Bool) (ls ks : Labels) (ss : Scoped) (o : Option ℕ) (l : 
 scoped-either true ls ks ss o l h g = h
 scoped-either false ls ks ss o l h g = g
 
-module _ (funs : List Fun) (enter : Entering) (w : Counts) (f : Fun) (p : Place) (ss : Scoped) where
+module _ (funs : List Fun) (enter : Entering) (w : Counts) (f : Fun) (p : InlineContext) (ss : Scoped) where
   group-keeps : (j : ℕ) (gs : List Fun) (n : ℕ) → Keeps p.first ss (scoped (copies funs enter w f p j gs n) ++ ss)
   group-keeps j [] n l lt = refl
   group-keeps j (g ∷ gs) n l lt =
@@ -323,7 +323,7 @@ formed-either top r ss known false ls ks h g = g
 nothing-fits : (b : ℕ) (ss : Scoped) → LabelsFit b [] ss
 nothing-fits b ss l k h = absurd (false≢true h)
 
-module _ (funs top : List Fun) (r : ℕ) (words : ℕ → ℕ) (enter : Entering) (wc : Counts) (f : Fun) (enters : EntersFormed funs top r words f.group enter) (p : Place) (least : ℕ) (below : Below funs least p) (ss : Scoped) (known : List ℕ) (stands : Stands funs words f.group f.results p ss) where
+module _ (funs top : List Fun) (r : ℕ) (words : ℕ → ℕ) (enter : Entering) (wc : Counts) (f : Fun) (enters : EntersFormed funs top r words f.group enter) (p : InlineContext) (least : ℕ) (below : Below funs least p) (ss : Scoped) (known : List ℕ) (stands : Stands funs words f.group f.results p ss) where
   copies-formed : (j : ℕ) (gs : List Fun) (n : ℕ) → least ≤ n → FunctionsFormed funs words gs → are_formed top 0 r ss known (copies funs enter wc f p j gs n) ≡ true
   copies-formed j [] n le h = refl
   copies-formed j (g ∷ gs) n le h =
@@ -339,7 +339,7 @@ module _ (funs top : List Fun) (r : ℕ) (words : ℕ → ℕ) (enter : Entering
 pub entered-formed : (funs top : List Fun) (r : ℕ) (words : ℕ → ℕ) → FunctionsFormed funs words funs → (enter : Entering) (wc : Counts) (i : ℕ) (f : Fun) → EntersFormed funs top r words f.group enter → slice_get funs i ≡ Some f → (n : ℕ) (bs : List Atom) (to : Option ℕ) (hs : List Handler) (ss : Scoped) (known : List ℕ)
     → all_known known bs ≡ true → length bs ≡ length f.params → IsBelow n to → ((e : ℕ) → IsBelow n (handler_of e hs)) → Gives to f.results ss → ((e : ℕ) → Catches (handler_of e hs) (words e) ss) → is_formed top 0 r ss known (entered funs enter wc i f bs to hs n) ≡ true
 entered-formed funs top r words functions enter wc i f enters there n bs to hs ss known ok long lt lts gives catches =
-    let p : Place = record { first = n; to = to; handlers = hs } in
+    let p : InlineContext = record { first = n; to = to; handlers = hs } in
     let ss2 = scoped (copies funs enter wc f (record { first = n; to = to; handlers = hs }) 0 funs (n + length funs)) ++ ss in
     let keeps = group-keeps funs enter wc f (record { first = n; to = to; handlers = hs }) ss 0 funs (n + length funs) in
     let below : Below funs (n + length funs) (record { first = n; to = to; handlers = hs }) = record { first = omega arith; to = below-more n (n + length funs) to (omega arith) lt; handlers = λ e. below-more n (n + length funs) (handler_of e hs) (omega arith) (lts e) } in

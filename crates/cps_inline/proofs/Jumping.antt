@@ -5,20 +5,20 @@ use Rattle.nv_base.specs.declared.term.Atom.{Atom}
 use Rattle.cps_ir.specs.Meaning.{handler_of}
 use Rattle.cps_ir.specs.Term.{Handler, Term, Let, Read, Write, If, Fix, Call, Return, Throw, Jump, Halt, Labels, none, label, Fun}
 use Rattle.cps_ir.specs.Callless.{only_jumps, labels_only_jump}
-use Rattle.cps_inline.specs.inner.Inlined.{Counts, Entering, Place, lands, moved_atoms, moved_handlers, is_copied, is_one, span, term_count, labels_count, copy_count, copied, copied_labels, copies, entered, entered_call, entering, counts}
+use Rattle.cps_inline.specs.inner.Inlined.{Counts, Entering, InlineContext, return_term, moved_atoms, moved_handlers, is_copied, is_one, span, term_count, labels_count, copy_count, copied, copied_labels, copies, entered, entered_call, entering, counts}
 
 pub record Jumps (enter : Entering) : Type 0 where
   pub by : (i : ℕ) (f : Fun) (bs : List Atom) (to : Option ℕ) (hs : List Handler) (n : ℕ) → only_jumps (enter i f bs to hs n) ≡ true
 
-lands-jump : (o : Option ℕ) (e : ℕ) (bs : List Atom) → only_jumps (lands o e bs) ≡ true
-lands-jump (Some l) e bs = refl
-lands-jump None e bs = refl
+return_term-jump : (o : Option ℕ) (e : ℕ) (bs : List Atom) → only_jumps (return_term o e bs) ≡ true
+return_term-jump (Some l) e bs = refl
+return_term-jump None e bs = refl
 
 call-jumps : (enter : Entering) → Jumps enter → (i : ℕ) (o : Option Fun) (bs : List Atom) (to : Option ℕ) (hs : List Handler) (n : ℕ) → only_jumps (entered_call enter i o bs to hs n) ≡ true
 call-jumps enter h i (Some f) bs to hs n = h.by i f bs to hs n
 call-jumps enter h i None bs to hs n = refl
 
-module _ (funs : List Fun) (enter : Entering) (h : Jumps enter) (w : Counts) (p : Place) where
+module _ (funs : List Fun) (enter : Entering) (h : Jumps enter) (w : Counts) (p : InlineContext) where
   mutual
     copied-jumps : (b : ℕ) (t : Term) (n : ℕ) → only_jumps (copied funs enter w p b t n) ≡ true
     copied-jumps b (Let x a t) n = copied-jumps b t n
@@ -30,8 +30,8 @@ module _ (funs : List Fun) (enter : Entering) (h : Jumps enter) (w : Counts) (p 
         (labels-jump b ls (if is_one ls then n + term_count funs w t else n)) (copied-jumps b t (if is_one ls then n else n + labels_count funs w ls))
     copied-jumps b (Call i bs (Some k) hs) n = call-jumps enter h i (slice_get funs i) (moved_atoms b bs) (Some (b + k)) (moved_handlers b hs ++ p.handlers) n
     copied-jumps b (Call i bs None hs) n = refl
-    copied-jumps b (Return bs) n = lands-jump p.to 0 (moved_atoms b bs)
-    copied-jumps b (Throw e bs) n = lands-jump (handler_of e p.handlers) e (moved_atoms b bs)
+    copied-jumps b (Return bs) n = return_term-jump p.to 0 (moved_atoms b bs)
+    copied-jumps b (Throw e bs) n = return_term-jump (handler_of e p.handlers) e (moved_atoms b bs)
     copied-jumps b (Jump l bs) n = refl
     copied-jumps b (Halt e bs) n = refl
 

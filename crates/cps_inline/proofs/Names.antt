@@ -7,7 +7,7 @@ use Rattle.nv_base.proofs.Sets.{in-append, within-left, within-right}
 use Rattle.cps_ir.specs.Formed.{defined, labels_defined, made, labels_made}
 use Rattle.cps_ir.specs.Meaning.{handler_of}
 use Rattle.cps_ir.specs.Term.{Handler, Term, Let, Read, Write, If, Fix, Call, Return, Throw, Jump, Halt, Labels, none, label, Fun}
-use Rattle.cps_inline.specs.inner.Inlined.{Counts, Entering, Place, lands, moved, moved_atoms, moved_handlers, behind, term_span, labels_span, span, is_copied, is_one, call_count, term_count, labels_count, copy_count, copies_count, group_count, copied, copied_labels, copies, entered, entered_call, entering, counts}
+use Rattle.cps_inline.specs.inner.Inlined.{Counts, Entering, InlineContext, return_term, moved, moved_atoms, moved_handlers, behind, term_span, labels_span, span, is_copied, is_one, call_count, term_count, labels_count, copy_count, copies_count, group_count, copied, copied_labels, copies, entered, entered_call, entering, counts}
 use Rattle.cps_inline.proofs.Moved.{eq-moved}
 
 -- ---- lists whose members differ
@@ -259,9 +259,9 @@ call-named : (v : Bool) (w : Counts) (enter : Entering) → Named v w enter → 
 call-named v w enter h i (Some f) bs to hs n = h.by i f bs to hs n
 call-named v w enter h i None bs to hs n = fresh-none n (n + 0) (omega arith)
 
-lands-named : (v : Bool) (o : Option ℕ) (e : ℕ) (bs : List Atom) → names v (lands o e bs) ≡ []
-lands-named v (Some l) e bs = refl
-lands-named v None e bs = refl
+return_term-named : (v : Bool) (o : Option ℕ) (e : ℕ) (bs : List Atom) → names v (return_term o e bs) ≡ []
+return_term-named v (Some l) e bs = refl
+return_term-named v None e bs = refl
 
 spread-end : (b n m : ℕ) (xs : List ℕ) → m ≡ n → xs ≡ [] → Spread b [] n m xs
 spread-end b n m xs e is = record { up = omega arith; each = λ x h. absurd (false≢true (sym (ap (is_in x) is) ∙ h)); differ = λ d. ap all_different is }
@@ -287,7 +287,7 @@ fix-high-other : (one : Bool) (n t l : ℕ) → (if one then n else n + l) + t �
 fix-high-other true n t l = omega arith
 fix-high-other false n t l = omega arith
 
-module _ (v : Bool) (funs : List Fun) (w : Counts) (enter : Entering) (named : Named v w enter) (p : Place) (b s : ℕ) where
+module _ (v : Bool) (funs : List Fun) (w : Counts) (enter : Entering) (named : Named v w enter) (p : InlineContext) (b s : ℕ) where
   mutual
     pub names-spread : (t : Term) → term_span t ≤ s → (n : ℕ) → b + s ≤ n → Spread b (names v t) n (n + term_count funs w t) (names v (copied funs enter w p b t n))
     names-spread (Let x a t) le n far =
@@ -308,8 +308,8 @@ module _ (v : Bool) (funs : List Fun) (w : Counts) (enter : Entering) (named : N
         (names-spread t (omega arith) (if is_one ls then n else n + labels_count funs w ls) (omega arith)) (labels-spread ls (omega arith) (if is_one ls then n + term_count funs w t else n) (omega arith))
     names-spread (Call i bs (Some k) hs) le n far = fresh-spread b n _ _ (call-named v w enter named i (slice_get funs i) (moved_atoms b bs) (Some (b + k)) (moved_handlers b hs ++ p.handlers) n)
     names-spread (Call i bs None hs) le n far = spread-end b n (n + 0) _ (omega arith) refl
-    names-spread (Return bs) le n far = spread-end b n (n + 0) _ (omega arith) (lands-named v p.to 0 (moved_atoms b bs))
-    names-spread (Throw e bs) le n far = spread-end b n (n + 0) _ (omega arith) (lands-named v (handler_of e p.handlers) e (moved_atoms b bs))
+    names-spread (Return bs) le n far = spread-end b n (n + 0) _ (omega arith) (return_term-named v p.to 0 (moved_atoms b bs))
+    names-spread (Throw e bs) le n far = spread-end b n (n + 0) _ (omega arith) (return_term-named v (handler_of e p.handlers) e (moved_atoms b bs))
     names-spread (Jump l bs) le n far = spread-end b n (n + 0) _ (omega arith) refl
     names-spread (Halt e bs) le n far = spread-end b n (n + 0) _ (omega arith) refl
 
@@ -340,7 +340,7 @@ pick-params : (v : Bool) (x : ℕ) (g : Fun) → is_in x (pick v g.params ++ nam
 pick-params v x g h =
     ⊎_elim (λ (i : is_in x (pick v g.params) ≡ true). pick-all v x g.params (span g) (omega arith) i) (λ (i : is_in x (names v g.body) ≡ true). names-below v g.body x (span g) (omega arith) i) (in-parts x (pick v g.params) (names v g.body) h)
 
-function-fresh : (v : Bool) (funs : List Fun) (w : Counts) (enter : Entering) → Named v w enter → (p : Place) (g : Fun) (n : ℕ) → NamesDiffer v g → Fresh n (n + copy_count funs w g) (pick v (moved n g.params) ++ names v (copied funs enter w p n g.body (n + span g)))
+function-fresh : (v : Bool) (funs : List Fun) (w : Counts) (enter : Entering) → Named v w enter → (p : InlineContext) (g : Fun) (n : ℕ) → NamesDiffer v g → Fresh n (n + copy_count funs w g) (pick v (moved n g.params) ++ names v (copied funs enter w p n g.body (n + span g)))
 function-fresh v funs w enter named p g n d =
     let body = names-spread v funs w enter named p n (span g) g.body (omega arith) (n + span g) (omega arith) in
     let whole = spread-both n (span g) (pick v g.params) (names v g.body) (n + span g) (n + span g) (n + span g) (n + span g + term_count funs w g.body) (n + span g) (n + copy_count funs w g) _ _
@@ -419,7 +419,7 @@ abbrev pub AllDiffer : Bool → List Fun → Type 0
 AllDiffer v [] = Unit {0}
 AllDiffer v (g ∷ gs) = NamesDiffer v g × AllDiffer v gs
 
-copies-between : (v : Bool) (funs : List Fun) (w : Counts) (enter : Entering) → Named v w enter → (f : Fun) (p : Place) (j : ℕ) (gs : List Fun) (n : ℕ) → AllDiffer v gs → p.first + j + length gs ≤ n
+copies-between : (v : Bool) (funs : List Fun) (w : Counts) (enter : Entering) → Named v w enter → (f : Fun) (p : InlineContext) (j : ℕ) (gs : List Fun) (n : ℕ) → AllDiffer v gs → p.first + j + length gs ≤ n
     → Between (p.first + j) (p.first + j + length gs) n (n + copies_count funs w f gs) (labels_names v (copies funs enter w f p j gs n))
 copies-between v funs w enter named f p j [] n d le = between-less _ _ _ n n (n + 0) [] (omega arith) (omega arith) (between-none (p.first + j) (p.first + j + 0) n)
 copies-between v funs w enter named f p j (g ∷ gs) n d le =

@@ -56,8 +56,8 @@ given-words (x ∷ xs) (w ∷ ws) env d e =
 
 -- ---- the program
 
-bottom-lands : (funs top : List Fun) (N : ℕ) → Lands funs top N Bottom None [] Top
-bottom-lands funs top N = record { words = λ m le ws w. refl; exceptions = λ m le e ws w. refl }
+bottom-return_term : (funs top : List Fun) (N : ℕ) → Lands funs top N Bottom None [] Top
+bottom-return_term funs top N = record { words = λ m le ws w. refl; exceptions = λ m le e ws w. refl }
 
 blank-zeros : (n : ℕ) → Zeros blank n
 blank-zeros n = λ x le. refl
@@ -68,7 +68,7 @@ program-runs funs main f program there args p long N =
     let env = assigned_all blank f.params args in
     let words : atom_words env (operands f.params) ≡ args = given-words f.params args blank (differ-first f.params (defined f.body) (vars-differ funs main main f program there)) long in
     sym (group-enters funs top (are-formed funs main program) (entering funs f.group) (counts funs f.group) f (entering-alike funs top (are-formed funs main program) f.group) (suc N) (behind f.params) None [] Bottom env Top
-    (bottom-lands funs top (suc N)) tt (λ e. tt) (misses-top top (behind f.params)) (all-zeros f.params args blank (behind f.params) (omega arith) (blank-zeros (behind f.params))) main there (operands f.params) (begun p))
+    (bottom-return_term funs top (suc N)) tt (λ e. tt) (misses-top top (behind f.params)) (all-zeros f.params args blank (behind f.params) (omega arith) (blank-zeros (behind f.params))) main there (operands f.params) (begun p))
     ∙ ap (λ ws. enter_fun (run funs N) (slice_get funs main) ws Bottom (begun p)) words
 
 pub outcomes-kept : (funs : List Fun) (main : ℕ) (f : Fun) → is_program funs main ≡ true → slice_get funs main ≡ Some f → (top : List Fun) → top ≡ inlined_main funs main f ∷ [] → KeepsOutcomes (params_in funs main) (params_in top 0) (cps_meaning funs main) (cps_meaning top 0)

@@ -14,7 +14,7 @@ use Rattle.nv_base.specs.World.{World, over, ended, after_read, after_write, rea
 use Rattle.cps_ir.specs.Formed.{Scoped, scoped, is_formed, are_formed, is_call, can_call, can_go, are_handlers, takes}
 use Rattle.cps_ir.specs.Meaning.{handler_of, Body, label_in, Scope, Top, Bound, Frames, Bottom, Frame, ToLabel, ToFun, Next, returned, or_label, thrown, does, at_body, enter_label, enter_fun, blank, run}
 use Rattle.cps_ir.specs.Term.{Handler, Term, Let, Read, Write, If, Fix, Call, Return, Throw, Jump, Halt, Labels, none, label, Fun}
-use Rattle.cps_inline.specs.inner.Inlined.{Counts, Entering, Place, lands, moved, moved_atom, moved_atoms, moved_handlers, behind, behind_handlers, term_span, labels_span, span, is_copied, is_one, term_count, labels_count, copied, copied_labels, copies, entered, entered_call, entering, counts}
+use Rattle.cps_inline.specs.inner.Inlined.{Counts, Entering, InlineContext, return_term, moved, moved_atom, moved_atoms, moved_handlers, behind, after_handlers, term_span, labels_span, span, is_copied, is_one, term_count, labels_count, copied, copied_labels, copies, entered, entered_call, entering, counts}
 use Rattle.cps_inline.proofs.Moved.{Agrees, Zeros, eq-moved, behind-moved, assigned-agrees, all-agree, assigned-zeros, all-zeros, atom-moved, atoms-moved, prim-moved}
 use Rattle.cps_inline.proofs.Lookup.{Lie, lie-moved, lie-copies, IsCopy, copy-at}
 
@@ -24,9 +24,9 @@ abbrev pub landing : Next → Option ℕ → ℕ → List ℕ → Scope → Worl
 landing next (Some l) e ws sc w = next (ToLabel l ws sc Bottom) w
 landing next None e ws sc w = over (ended e ws) w
 
-lands-runs : (next : Next) (o : Option ℕ) (e : ℕ) (bs : List Atom) (env : Env) (sc : Scope) (w : World) → does next (lands o e bs) env sc Bottom w ≡ landing next o e (atom_words env bs) sc w
-lands-runs next (Some l) e bs env sc w = refl
-lands-runs next None e bs env sc w = refl
+return_term-runs : (next : Next) (o : Option ℕ) (e : ℕ) (bs : List Atom) (env : Env) (sc : Scope) (w : World) → does next (return_term o e bs) env sc Bottom w ≡ landing next o e (atom_words env bs) sc w
+return_term-runs next (Some l) e bs env sc w = refl
+return_term-runs next None e bs env sc w = refl
 
 abbrev pub IsBelow : ℕ → Option ℕ → Type 0
 IsBelow n (Some l) = l < n
@@ -84,24 +84,24 @@ LabelsAlike funs top m b sc fr sc' = (l : ℕ) (ws : List ℕ) (w : World) → r
 abbrev pub OwnAlike : List Fun → List Fun → ℕ → ℕ → ℕ → ℕ → Frames → Scope → Type 0
 OwnAlike funs top m own n first fr sc' = (i : ℕ) (g : Fun) → slice_get funs i ≡ Some g → g.group ≡ own → g.results ≡ n → (ws : List ℕ) (w : World) → run funs m (ToFun i ws fr) w ≡ run top m (ToLabel (first + i) ws sc' Bottom) w
 
-pub record Alike (funs top : List Fun) (N group n b s : ℕ) (p : Place) (sc : Scope) (fr : Frames) (sc' : Scope) : Type 0 where
+pub record Alike (funs top : List Fun) (N group n b s : ℕ) (p : InlineContext) (sc : Scope) (fr : Frames) (sc' : Scope) : Type 0 where
   pub labels : (m : ℕ) → m ≤ N → LabelsAlike funs top m b sc fr sc'
   pub outer : Lands funs top N fr p.to p.handlers sc'
   pub own : (m : ℕ) → m ≤ N → OwnAlike funs top m group n p.first fr sc'
   pub misses : Misses top sc' (b + s)
 
 -- the labels of a place are below the base
-pub record Below (funs : List Fun) (b : ℕ) (p : Place) : Type 0 where
+pub record Below (funs : List Fun) (b : ℕ) (p : InlineContext) : Type 0 where
   pub first : p.first + length funs ≤ b
   pub to : IsBelow b p.to
   pub handlers : (e : ℕ) → IsBelow b (handler_of e p.handlers)
 
-lands-less : (funs top : List Fun) (N M : ℕ) (fr : Frames) (to : Option ℕ) (hs : List Handler) (sc' : Scope) → M ≤ N → Lands funs top N fr to hs sc' → Lands funs top M fr to hs sc'
-lands-less funs top N M fr to hs sc' le h = record { words = λ m lm. h.words m (omega arith); exceptions = λ m lm. h.exceptions m (omega arith) }
+return_term-less : (funs top : List Fun) (N M : ℕ) (fr : Frames) (to : Option ℕ) (hs : List Handler) (sc' : Scope) → M ≤ N → Lands funs top N fr to hs sc' → Lands funs top M fr to hs sc'
+return_term-less funs top N M fr to hs sc' le h = record { words = λ m lm. h.words m (omega arith); exceptions = λ m lm. h.exceptions m (omega arith) }
 
 -- new labels hide none of a place
-lands-bound : (funs top : List Fun) (N n : ℕ) (fr : Frames) (to : Option ℕ) (hs : List Handler) (ls : Labels) (env' : Env) (sc' : Scope) → IsBelow n to → ((e : ℕ) → IsBelow n (handler_of e hs)) → ((l : ℕ) → l < n → label_in l ls ≡ None) → Lands funs top N fr to hs sc' → Lands funs top N fr to hs (Bound ls env' sc')
-lands-bound funs top N n fr to hs ls env' sc' lt lts out h = record {
+return_term-bound : (funs top : List Fun) (N n : ℕ) (fr : Frames) (to : Option ℕ) (hs : List Handler) (ls : Labels) (env' : Env) (sc' : Scope) → IsBelow n to → ((e : ℕ) → IsBelow n (handler_of e hs)) → ((l : ℕ) → l < n → label_in l ls ≡ None) → Lands funs top N fr to hs sc' → Lands funs top N fr to hs (Bound ls env' sc')
+return_term-bound funs top N n fr to hs ls env' sc' lt lts out h = record {
   words = λ m le ws w. h.words m le ws w ∙ sym (landing-passes top m n to ls lt out 0 ws env' sc' w);
   exceptions = λ m le e ws w. h.exceptions m le e ws w ∙ sym (landing-passes top m n (handler_of (suc e) hs) ls (lts (suc e)) out (suc e) ws env' sc' w);
 }
@@ -109,34 +109,34 @@ lands-bound funs top N n fr to hs ls env' sc' lt lts out h = record {
 -- ---- labels of a term
 
 -- a label's body and its copy
-abbrev pub Bodies : List Fun → List Fun → ℕ → ℕ → ℕ → ℕ → Place → Env → Scope → Frames → Env → Scope → Option Body → Option Body → Type 0
+abbrev pub Bodies : List Fun → List Fun → ℕ → ℕ → ℕ → ℕ → InlineContext → Env → Scope → Frames → Env → Scope → Option Body → Option Body → Type 0
 Bodies funs top own n b s p env sc fr env' sc' None None = Unit {0}
 Bodies funs top own n b s p env sc fr env' sc' None (Some d) = ⊥
 Bodies funs top own n b s p env sc fr env' sc' (Some c) None = ⊥
 Bodies funs top own n b s p env sc fr env' sc' (Some c) (Some d) =
     (m : ℕ) → Alike funs top m own n b s p sc fr sc' → (ws : List ℕ) (w : World) → does (run funs m) c.term (assigned_all env c.params ws) sc fr w ≡ does (run top m) d.term (assigned_all env' d.params ws) sc' Bottom w
 
-bodies-if : (funs top : List Fun) (own n b s : ℕ) (p : Place) (env : Env) (sc : Scope) (fr : Frames) (env' : Env) (sc' : Scope) (c : Body) (o : Option Body) (d : Body) (o' : Option Body) (t t' : Bool) → t' ≡ t
+bodies-if : (funs top : List Fun) (own n b s : ℕ) (p : InlineContext) (env : Env) (sc : Scope) (fr : Frames) (env' : Env) (sc' : Scope) (c : Body) (o : Option Body) (d : Body) (o' : Option Body) (t t' : Bool) → t' ≡ t
     → Bodies funs top own n b s p env sc fr env' sc' (Some c) (Some d) → Bodies funs top own n b s p env sc fr env' sc' o o' → Bodies funs top own n b s p env sc fr env' sc' (if t then Some c else o) (if t' then Some d else o')
 bodies-if funs top own n b s p env sc fr env' sc' c o d o' true true e h k = h
 bodies-if funs top own n b s p env sc fr env' sc' c o d o' false false e h k = k
 bodies-if funs top own n b s p env sc fr env' sc' c o d o' true false e h k = absurd (false≢true e)
 bodies-if funs top own n b s p env sc fr env' sc' c o d o' false true e h k = absurd (false≢true (sym e))
 
-body-step : (funs top : List Fun) (m own n b s : ℕ) (p : Place) (env : Env) (sc : Scope) (fr : Frames) (env' : Env) (sc' : Scope) (o o' : Option Body) → Bodies funs top own n b s p env sc fr env' sc' o o' → Alike funs top m own n b s p sc fr sc' → (ws : List ℕ) (w : World) (r r' : FullOutcome) → r ≡ r'
+body-step : (funs top : List Fun) (m own n b s : ℕ) (p : InlineContext) (env : Env) (sc : Scope) (fr : Frames) (env' : Env) (sc' : Scope) (o o' : Option Body) → Bodies funs top own n b s p env sc fr env' sc' o o' → Alike funs top m own n b s p sc fr sc' → (ws : List ℕ) (w : World) (r r' : FullOutcome) → r ≡ r'
     → at_body (run funs m) o env sc ws fr w r ≡ at_body (run top m) o' env' sc' ws Bottom w r'
 body-step funs top m own n b s p env sc fr env' sc' None None h a ws w r r' e = e
 body-step funs top m own n b s p env sc fr env' sc' (Some c) (Some d) h a ws w r r' e = h m a ws w
 body-step funs top m own n b s p env sc fr env' sc' None (Some d) h a ws w r r' e = absurd h
 body-step funs top m own n b s p env sc fr env' sc' (Some c) None h a ws w r r' e = absurd h
 
-module _ (funs top : List Fun) (N own n b s : ℕ) (p : Place) (below : Below funs b p) (sc : Scope) (fr : Frames) (sc' : Scope) (alike : Alike funs top N own n b s p sc fr sc') (ls ls' : Labels) (env env' : Env) (lie : Lie ls' b (b + s))
+module _ (funs top : List Fun) (N own n b s : ℕ) (p : InlineContext) (below : Below funs b p) (sc : Scope) (fr : Frames) (sc' : Scope) (alike : Alike funs top N own n b s p sc fr sc') (ls ls' : Labels) (env env' : Env) (lie : Lie ls' b (b + s))
     (bodies : (l : ℕ) → Bodies funs top own n b s p env (Bound ls env sc) fr env' (Bound ls' env' sc') (label_in l ls) (label_in (b + l) ls')) where
   -- inside of a Fix, from its labels
   fix-from : (m : ℕ) → m ≤ N → ((k : ℕ) → k ≤ m → LabelsAlike funs top k b (Bound ls env sc) fr (Bound ls' env' sc')) → Alike funs top m own n b s p (Bound ls env sc) fr (Bound ls' env' sc')
   fix-from m le h = record {
     labels = h;
-    outer = lands-bound funs top m b fr p.to p.handlers ls' env' sc' below.to below.handlers (λ l lt. (lie l).0 lt) (lands-less funs top N m fr p.to p.handlers sc' le alike.outer);
+    outer = return_term-bound funs top m b fr p.to p.handlers ls' env' sc' below.to below.handlers (λ l lt. (lie l).0 lt) (return_term-less funs top N m fr p.to p.handlers sc' le alike.outer);
     own = λ k lk i g there eg en ws w.
         let lt : i < length funs = slice_get_within funs i g there in
         let first : p.first + length funs ≤ b = below.first in
@@ -183,7 +183,7 @@ pub record Enters (funs top : List Fun) (own : ℕ) (enter : Entering) : Type 0 
   pub by : (i : ℕ) (f : Fun) → slice_get funs i ≡ Some f → f.group < own → (N n : ℕ) (bs : List Atom) (to : Option ℕ) (hs : List Handler) (fr : Frames) (env' : Env) (sc' : Scope) → Lands funs top N fr to hs sc' → IsBelow n to → ((e : ℕ) → IsBelow n (handler_of e hs)) → Misses top sc' n → Zeros env' n
       → (w : World) → run funs N (ToFun i (atom_words env' bs) fr) w ≡ does (run top N) (enter i f bs to hs n) env' sc' Bottom w
 
-pub handlers-below : (b s n e : ℕ) (hs ks : List Handler) → behind_handlers hs ≤ s → b + s ≤ n → IsBelow n (handler_of e ks) → IsBelow n (handler_of e (moved_handlers b hs ++ ks))
+pub handlers-below : (b s n e : ℕ) (hs ks : List Handler) → after_handlers hs ≤ s → b + s ≤ n → IsBelow n (handler_of e ks) → IsBelow n (handler_of e (moved_handlers b hs ++ ks))
 handlers-below b s n e [] ks le far h = h
 handlers-below b s n e (x ∷ hs) ks le far h = below-if n (nat_eq x.0 e) (Some (b + x.1)) (handler_of e (moved_handlers b hs ++ ks)) (omega arith) (handlers-below b s n e hs ks (omega arith) far h)
 
@@ -202,8 +202,8 @@ thrown-alike funs top m b e (x ∷ hs) ks ws sc sc' fr w r h g =
     thrown-if funs top m b e (nat_eq x.0 e) x.1 (handler_of e hs) (handler_of e (moved_handlers b hs ++ ks)) ws sc sc' fr w r (h x.1 ws w) (thrown-alike funs top m b e hs ks ws sc sc' fr w r h g)
 
 -- what a call waits for
-frame-lands : (funs top : List Fun) (N own n b s : ℕ) (p : Place) (sc : Scope) (fr : Frames) (sc' : Scope) (k : ℕ) (hs : List Handler) → Alike funs top N own n b s p sc fr sc' → Lands funs top N (Frame k hs sc fr) (Some (b + k)) (moved_handlers b hs ++ p.handlers) sc'
-frame-lands funs top N own n b s p sc fr sc' k hs a = record {
+frame-return_term : (funs top : List Fun) (N own n b s : ℕ) (p : InlineContext) (sc : Scope) (fr : Frames) (sc' : Scope) (k : ℕ) (hs : List Handler) → Alike funs top N own n b s p sc fr sc' → Lands funs top N (Frame k hs sc fr) (Some (b + k)) (moved_handlers b hs ++ p.handlers) sc'
+frame-return_term funs top N own n b s p sc fr sc' k hs a = record {
   words = λ m le ws w. a.labels m le k ws w;
   exceptions = λ m le e ws w. thrown-alike funs top m b (suc e) hs p.handlers ws sc sc' fr w (thrown (run funs m) (suc e) ws fr w) (a.labels m le) (a.outer.exceptions m le e ws w);
 }
@@ -214,15 +214,15 @@ earlier-group own given ss k g h =
     let lt : nat_lt g.group own ≡ true = parts.1 in
     grind (arith, nat_tests)
 
-call-alike : (funs top : List Fun) (own n : ℕ) (ss : Scoped) (enter : Entering) → Enters funs top own enter → (b s next N i given k : ℕ) (hs : List Handler) (p : Place) (sc : Scope) (fr : Frames) (sc' : Scope) (env' : Env) (bs : List Atom) (o : Option Fun) → slice_get funs i ≡ o → can_call own given ss k o ≡ true
-    → k + 1 ≤ s → behind_handlers hs ≤ s → b + s ≤ next → Below funs b p → Alike funs top N own n b s p sc fr sc' → Zeros env' (b + s) → (w : World)
+call-alike : (funs top : List Fun) (own n : ℕ) (ss : Scoped) (enter : Entering) → Enters funs top own enter → (b s next N i given k : ℕ) (hs : List Handler) (p : InlineContext) (sc : Scope) (fr : Frames) (sc' : Scope) (env' : Env) (bs : List Atom) (o : Option Fun) → slice_get funs i ≡ o → can_call own given ss k o ≡ true
+    → k + 1 ≤ s → after_handlers hs ≤ s → b + s ≤ next → Below funs b p → Alike funs top N own n b s p sc fr sc' → Zeros env' (b + s) → (w : World)
     → run funs N (ToFun i (atom_words env' bs) (Frame k hs sc fr)) w ≡ does (run top N) (entered_call enter i o bs (Some (b + k)) (moved_handlers b hs ++ p.handlers) next) env' sc' Bottom w
 call-alike funs top own n ss enter enters b s next N i given k hs p sc fr sc' env' bs None there can lk lh far below a zeros w = absurd (false≢true can)
 call-alike funs top own n ss enter enters b s next N i given k hs p sc fr sc' env' bs (Some g) there can lk lh far below a zeros w =
-    enters.by i g there (earlier-group own given ss k g can) N next bs (Some (b + k)) (moved_handlers b hs ++ p.handlers) (Frame k hs sc fr) env' sc' (frame-lands funs top N own n b s p sc fr sc' k hs a)
+    enters.by i g there (earlier-group own given ss k g can) N next bs (Some (b + k)) (moved_handlers b hs ++ p.handlers) (Frame k hs sc fr) env' sc' (frame-return_term funs top N own n b s p sc fr sc' k hs a)
     (to-below b s next k lk far) (λ e. handlers-below b s next e hs p.handlers lh far (below-more b next (handler_of e p.handlers) (omega arith) (below.handlers e))) (misses-more top sc' (b + s) next far a.misses) (λ x le. zeros x (omega arith)) w
 
-own-alike : (funs top : List Fun) (N own n given b s : ℕ) (p : Place) (sc : Scope) (fr : Frames) (sc' : Scope) (i : ℕ) (o : Option Fun) → slice_get funs i ≡ o → can_go own given n o ≡ true → Alike funs top N own n b s p sc fr sc' → (ws : List ℕ) (w : World) → run funs N (ToFun i ws fr) w ≡ run top N (ToLabel (p.first + i) ws sc' Bottom) w
+own-alike : (funs top : List Fun) (N own n given b s : ℕ) (p : InlineContext) (sc : Scope) (fr : Frames) (sc' : Scope) (i : ℕ) (o : Option Fun) → slice_get funs i ≡ o → can_go own given n o ≡ true → Alike funs top N own n b s p sc fr sc' → (ws : List ℕ) (w : World) → run funs N (ToFun i ws fr) w ≡ run top N (ToLabel (p.first + i) ws sc' Bottom) w
 own-alike funs top N own n given b s p sc fr sc' i None there can a ws w = absurd (false≢true can)
 own-alike funs top N own n given b s p sc fr sc' i (Some g) there can a ws w =
     let parts = and_parts (g.results == n) (g.group == own) (and_parts (length g.params == given) ((g.results == n) && (g.group == own)) can).1 in
@@ -238,7 +238,7 @@ start-far-other b s false next k le = omega arith
 
 -- ---- terms
 
-module _ (funs top : List Fun) (own n : ℕ) (enter : Entering) (enters : Enters funs top own enter) (wc : Counts) (p : Place) (b s : ℕ) (below : Below funs b p) where
+module _ (funs top : List Fun) (own n : ℕ) (enter : Entering) (enters : Enters funs top own enter) (wc : Counts) (p : InlineContext) (b s : ℕ) (below : Below funs b p) where
   mutual
     pub sim : (t : Term) (ss : Scoped) (known : List ℕ) → is_formed funs own n ss known t ≡ true → term_span t ≤ s → (next : ℕ) → b + s ≤ next → (N : ℕ) (sc : Scope) (fr : Frames) (sc' : Scope) → Alike funs top N own n b s p sc fr sc' → (env env' : Env) → Agrees b env env' → Zeros env' (b + s) → (w : World)
         → does (run funs N) t env sc fr w ≡ does (run top N) (copied funs enter wc p b t next) env' sc' Bottom w
@@ -287,10 +287,10 @@ module _ (funs top : List Fun) (own n : ℕ) (enter : Entering) (enters : Enters
         ∙ ap (λ ws. run top N (ToLabel (p.first + i) ws sc' Bottom) w) (sym (atoms-moved b env env' h bs))
     sim (Call i bs None (x ∷ hs)) ss known f le next far N sc fr sc' al env env' h z w = absurd (false≢true (and_parts (all_known known bs) false f).1)
     sim (Return bs) ss known f le next far N sc fr sc' al env env' h z w =
-        al.outer.words N (omega arith) (atom_words env bs) w ∙ ap (λ ws. landing (run top N) p.to 0 ws sc' w) (sym (atoms-moved b env env' h bs)) ∙ sym (lands-runs (run top N) p.to 0 (moved_atoms b bs) env' sc' w)
+        al.outer.words N (omega arith) (atom_words env bs) w ∙ ap (λ ws. landing (run top N) p.to 0 ws sc' w) (sym (atoms-moved b env env' h bs)) ∙ sym (return_term-runs (run top N) p.to 0 (moved_atoms b bs) env' sc' w)
     sim (Throw zero bs) ss known f le next far N sc fr sc' al env env' h z w = absurd (false≢true (and_parts (nat_le 1 0) (nat_le (length bs) 8) (and_parts (all_known known bs) (nat_le 1 0 && nat_le (length bs) 8) f).1).0)
     sim (Throw (suc e) bs) ss known f le next far N sc fr sc' al env env' h z w =
-        al.outer.exceptions N (omega arith) e (atom_words env bs) w ∙ ap (λ ws. landing (run top N) (handler_of (suc e) p.handlers) (suc e) ws sc' w) (sym (atoms-moved b env env' h bs)) ∙ sym (lands-runs (run top N) (handler_of (suc e) p.handlers) (suc e) (moved_atoms b bs) env' sc' w)
+        al.outer.exceptions N (omega arith) e (atom_words env bs) w ∙ ap (λ ws. landing (run top N) (handler_of (suc e) p.handlers) (suc e) ws sc' w) (sym (atoms-moved b env env' h bs)) ∙ sym (return_term-runs (run top N) (handler_of (suc e) p.handlers) (suc e) (moved_atoms b bs) env' sc' w)
     sim (Jump l bs) ss known f le next far N sc fr sc' al env env' h z w =
         al.labels N (omega arith) l (atom_words env bs) w ∙ ap (λ ws. run top N (ToLabel (b + l) ws sc' Bottom) w) (sym (atoms-moved b env env' h bs))
     sim (Halt e bs) ss known f le next far N sc fr sc' al env env' h z w = ap (λ ws. over (ended e ws) w) (sym (atoms-moved b env env' h bs))
@@ -317,7 +317,7 @@ class-from f g eg en = and_from (g.group == f.group) (g.results == f.results) (e
 blank-agrees : (b n : ℕ) (env' : Env) → n ≤ b → Zeros env' n → Agrees b blank env'
 blank-agrees b n env' le z x = z (b + x) (omega arith)
 
-abbrev pub place_at : ℕ → Option ℕ → List Handler → Place
+abbrev pub place_at : ℕ → Option ℕ → List Handler → InlineContext
 place_at n to hs = record { first = n; to = to; handlers = hs }
 
 abbrev pub group_at : List Fun → Entering → Counts → Fun → ℕ → Option ℕ → List Handler → Labels
@@ -330,14 +330,14 @@ body-formed : (funs : List Fun) (f g : Fun) → g.group ≡ f.group → g.result
 body-formed funs f g eg en h = ap (λ x. is_formed funs x f.results [] g.params g.body) (sym eg) ∙ ap (λ x. is_formed funs g.group x [] g.params g.body) (sym en) ∙ h
 
 module _ (funs top : List Fun) (formed : AreFormed funs) (enter : Entering) (wc : Counts) (f : Fun) (enters : Enters funs top f.group enter) (N n : ℕ) (to : Option ℕ) (hs : List Handler) (fr : Frames) (env' : Env) (sc' : Scope)
-    (land : Lands funs top N fr to hs sc') (lt : IsBelow n to) (lts : (e : ℕ) → IsBelow n (handler_of e hs)) (misses : Misses top sc' n) (zeros : Zeros env' n) where
+    (return_to : Lands funs top N fr to hs sc') (lt : IsBelow n to) (lts : (e : ℕ) → IsBelow n (handler_of e hs)) (misses : Misses top sc' n) (zeros : Zeros env' n) where
   -- at the beginning of a copied function
   begun-alike : (m : ℕ) → m ≤ N → ((k : ℕ) → k ≤ m → OwnAlike funs top k f.group f.results n fr (Bound (group_at funs enter wc f n to hs) env' sc')) → (b s : ℕ) → n + length funs ≤ b → Alike funs top m f.group f.results b s (place_at n to hs) Top fr (Bound (group_at funs enter wc f n to hs) env' sc')
   begun-alike m le own b s far =
       let outside : Misses top (Bound (group_at funs enter wc f n to hs) env' sc') (n + length funs) = misses-bound top (group_at funs enter wc f n to hs) env' sc' (n + length funs) (λ l lf. (lie-group funs enter wc f n to hs l).1 lf) (misses-more top sc' n (n + length funs) (omega arith) misses) in
       record {
         labels = λ k lk l ws w. going-top funs k l ws fr w ∙ sym (outside.by (b + l) (omega arith) k ws w);
-        outer = lands-bound funs top m n fr to hs (group_at funs enter wc f n to hs) env' sc' lt lts (λ l ll. (lie-group funs enter wc f n to hs l).0 ll) (lands-less funs top N m fr to hs sc' le land);
+        outer = return_term-bound funs top m n fr to hs (group_at funs enter wc f n to hs) env' sc' lt lts (λ l ll. (lie-group funs enter wc f n to hs l).0 ll) (return_term-less funs top N m fr to hs sc' le return_to);
         own = own;
         misses = misses-more top (Bound (group_at funs enter wc f n to hs) env' sc') (n + length funs) (b + s) (omega arith) outside;
       }
@@ -387,8 +387,8 @@ enters-same funs top g own e h = subst (λ x. Enters funs top x (entering funs o
 pub entering-alike : (funs top : List Fun) → AreFormed funs → (own : ℕ) → Enters funs top own (entering funs own)
 entering-alike funs top formed zero = record { by = λ i f there lt. absurd (omega arith) }
 entering-alike funs top formed (suc own) = record {
-  by = λ i f there lt N n bs to hs fr env' sc' land lto lhs misses zeros w.
+  by = λ i f there lt N n bs to hs fr env' sc' return_to lto lhs misses zeros w.
       enter-if funs top N (f.group == own) (entered funs (entering funs own) (counts funs own) i f bs to hs n) (entering funs own i f bs to hs n) env' sc' w (run funs N (ToFun i (atom_words env' bs) fr) w)
-      (λ e. group-enters funs top formed (entering funs own) (counts funs own) f (enters-same funs top f.group own (eqb-true f.group own e) (entering-alike funs top formed own)) N n to hs fr env' sc' land lto lhs misses zeros i there bs w)
-      (λ e. (entering-alike funs top formed own).by i f there (group-less f.group own lt e) N n bs to hs fr env' sc' land lto lhs misses zeros w);
+      (λ e. group-enters funs top formed (entering funs own) (counts funs own) f (enters-same funs top f.group own (eqb-true f.group own e) (entering-alike funs top formed own)) N n to hs fr env' sc' return_to lto lhs misses zeros i there bs w)
+      (λ e. (entering-alike funs top formed own).by i f there (group-less f.group own lt e) N n bs to hs fr env' sc' return_to lto lhs misses zeros w);
 }

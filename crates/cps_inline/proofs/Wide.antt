@@ -14,7 +14,7 @@ use Rattle.cps_ir.specs.Formed.{is_function}
 use Rattle.cps_ir.specs.Meaning.{handler_of}
 use Rattle.cps_ir.specs.Term.{Handler, Term, Labels, label, Fun}
 use Rattle.cps_ir.specs.Wide.{Wants, with_wants, to_wants, wants, labels_want, inside, nowhere, term_wide, labels_wide, function_wide, widths_within, group_wide, AreWidths}
-use Rattle.cps_inline.specs.inner.Inlined.{Counts, Entering, Place, moved, behind, span, is_copied, copy_count, copied, copies, entered, entering, counts, operands, inlined_main}
+use Rattle.cps_inline.specs.inner.Inlined.{Counts, Entering, InlineContext, moved, behind, span, is_copied, copy_count, copied, copies, entered, entering, counts, operands, inlined_main}
 use Rattle.cps_inline.proofs.Names.{came-moved}
 use Rattle.cps_inline.proofs.Formed.{function-body}
 use Rattle.cps_inline.proofs.Simulates.{IsBelow, below-more, Below, class-from, group-less}
@@ -27,7 +27,7 @@ with-either : (t : Bool) (phi : Wants) (ls ks : Labels) (vs us : List ℕ) (l : 
 with-either true phi ls ks vs us l h g = h
 with-either false phi ls ks vs us l h g = g
 
-module _ (funs : List Fun) (enter : Entering) (wc : Counts) (f : Fun) (p : Place) (phi : Wants) (vs : List ℕ) where
+module _ (funs : List Fun) (enter : Entering) (wc : Counts) (f : Fun) (p : InlineContext) (phi : Wants) (vs : List ℕ) where
   group-low : (j : ℕ) (gs : List Fun) (n l : ℕ) → l < p.first → with_wants phi (copies funs enter wc f p j gs n) vs l ≡ phi l
   group-low j [] n l lt = refl
   group-low j (g ∷ gs) n l lt =
@@ -82,7 +82,7 @@ abbrev pub AllWide : List Fun → Widths → List Fun → Type 0
 AllWide funs w [] = Unit {0}
 AllWide funs w (g ∷ gs) = (function_wide funs w g ≤ w g.group) × AllWide funs w gs
 
-module _ (funs top : List Fun) (v : Widths) (gr : ℕ) (w : Widths) (enter : Entering) (wc : Counts) (f : Fun) (enters : EntersWide funs top v gr w f.group enter) (p : Place) (phi : Wants) (held : List ℕ)
+module _ (funs top : List Fun) (v : Widths) (gr : ℕ) (w : Widths) (enter : Entering) (wc : Counts) (f : Fun) (enters : EntersWide funs top v gr w f.group enter) (p : InlineContext) (phi : Wants) (held : List ℕ)
     (lt : IsBelow p.first p.to) (lts : (e : ℕ) → IsBelow p.first (handler_of e p.handlers)) (to : Within (to_wants phi p.to) held) (handlers : (e : ℕ) → Within (to_wants phi (handler_of e p.handlers)) held) (later : (l : ℕ) → p.first ≤ l → phi l ≡ []) where
   -- in a copy, where the group's labels want these
   group-wanting : (vs : List ℕ) → Within vs held → (b s : ℕ) → p.first + length funs ≤ b → Wanting funs f.group f.results b s p nowhere (with_wants phi (copies funs enter wc f p 0 funs (p.first + length funs)) vs) held

@@ -14,7 +14,7 @@ use Rattle.cps_ir.specs.Formed.{Scoped, scoped, is_formed, are_formed, is_call, 
 use Rattle.cps_ir.specs.Meaning.{handler_of}
 use Rattle.cps_ir.specs.Term.{Handler, Term, Let, Read, Write, If, Fix, Call, Return, Throw, Jump, Halt, Labels, none, label, Fun}
 use Rattle.cps_ir.specs.Wide.{Wants, with_wants, to_wants, handlers_want, kept, wants, labels_want, inside, call_wide, term_wide, labels_wide}
-use Rattle.cps_inline.specs.inner.Inlined.{Counts, Entering, Place, lands, moved, moved_atom, moved_atoms, moved_primitive, moved_handlers, behind_handlers, term_span, labels_span, is_one, term_count, labels_count, copied, copied_labels, entered_call}
+use Rattle.cps_inline.specs.inner.Inlined.{Counts, Entering, InlineContext, return_term, moved, moved_atom, moved_atoms, moved_primitive, moved_handlers, after_handlers, term_span, labels_span, is_one, term_count, labels_count, copied, copied_labels, entered_call}
 use Rattle.cps_inline.proofs.Moved.{eq-moved}
 use Rattle.cps_inline.proofs.Wants.{Fits, fits-none, fits-within, fits-both, fits-moved, fits-in-held, fits-without, fits-different, fits-let, fits-entry, fits-operands, atom-vars-moved, all-vars-moved, prim-vars-moved, let-rest, read-rest, write-rest, if-arms}
 use Rattle.cps_inline.proofs.Simulates.{IsBelow, below-more, Below, start-far, start-far-other, handlers-below, to-below, earlier-group}
@@ -22,7 +22,7 @@ use Rattle.cps_inline.proofs.Simulates.{IsBelow, below-more, Below, start-far, s
 -- ---- what labels want, in the source and in the copies
 
 -- labels of the copy want what those of the source want, moved, and what is held; those of the place want what is held; later ones nothing
-pub record Wanting (funs : List Fun) (group n b s : ℕ) (p : Place) (phi phi' : Wants) (held : List ℕ) : Type 0 where
+pub record Wanting (funs : List Fun) (group n b s : ℕ) (p : InlineContext) (phi phi' : Wants) (held : List ℕ) : Type 0 where
   pub labels : (l : ℕ) → Fits b held (phi' (b + l)) (phi l)
   pub to : Within (to_wants phi' p.to) held
   pub handlers : (e : ℕ) → Within (to_wants phi' (handler_of e p.handlers)) held
@@ -30,12 +30,12 @@ pub record Wanting (funs : List Fun) (group n b s : ℕ) (p : Place) (phi phi' :
   pub later : (l : ℕ) → b + s ≤ l → phi' l ≡ []
 
 -- what wants of labels become where some labels get theirs
-with-at : (phi : Wants) (ls : Labels) (vs : List ℕ) (b : ℕ) (funs : List Fun) (enter : Entering) (w : Counts) (p : Place) (k l : ℕ) → l < b → with_wants phi (copied_labels funs enter w p b ls k) vs l ≡ phi l
+with-at : (phi : Wants) (ls : Labels) (vs : List ℕ) (b : ℕ) (funs : List Fun) (enter : Entering) (w : Counts) (p : InlineContext) (k l : ℕ) → l < b → with_wants phi (copied_labels funs enter w p b ls k) vs l ≡ phi l
 with-at phi none vs b funs enter w p k l lt = refl
 with-at phi (label m xs t ls) vs b funs enter w p k l lt =
     ap (λ c. if c then vs else with_wants phi (copied_labels funs enter w p b ls (k + term_count funs w t)) vs l) (ne_eqb (b + m) l (λ (e : b + m ≡ l). omega arith)) ∙ with-at phi ls vs b funs enter w p (k + term_count funs w t) l lt
 
-with-far : (phi : Wants) (ls : Labels) (vs : List ℕ) (b s : ℕ) (funs : List Fun) (enter : Entering) (w : Counts) (p : Place) (k l : ℕ) → labels_span ls ≤ s → b + s ≤ l → with_wants phi (copied_labels funs enter w p b ls k) vs l ≡ phi l
+with-far : (phi : Wants) (ls : Labels) (vs : List ℕ) (b s : ℕ) (funs : List Fun) (enter : Entering) (w : Counts) (p : InlineContext) (k l : ℕ) → labels_span ls ≤ s → b + s ≤ l → with_wants phi (copied_labels funs enter w p b ls k) vs l ≡ phi l
 with-far phi none vs b s funs enter w p k l le far = refl
 with-far phi (label m xs t ls) vs b s funs enter w p k l le far =
     ap (λ c. if c then vs else with_wants phi (copied_labels funs enter w p b ls (k + term_count funs w t)) vs l) (ne_eqb (b + m) l (λ (e : b + m ≡ l). omega arith)) ∙ with-far phi ls vs b s funs enter w p (k + term_count funs w t) l (omega arith) far
@@ -46,7 +46,7 @@ fits-if b held vs' vs a' a false false e h g = g
 fits-if b held vs' vs a' a true false e h g = absurd (false≢true e)
 fits-if b held vs' vs a' a false true e h g = absurd (false≢true (sym e))
 
-with-labels : (phi phi' : Wants) (held : List ℕ) (ls : Labels) (vs vs' : List ℕ) (b : ℕ) (funs : List Fun) (enter : Entering) (w : Counts) (p : Place) (k : ℕ) → Fits b held vs' vs → ((l : ℕ) → Fits b held (phi' (b + l)) (phi l))
+with-labels : (phi phi' : Wants) (held : List ℕ) (ls : Labels) (vs vs' : List ℕ) (b : ℕ) (funs : List Fun) (enter : Entering) (w : Counts) (p : InlineContext) (k : ℕ) → Fits b held vs' vs → ((l : ℕ) → Fits b held (phi' (b + l)) (phi l))
     → (l : ℕ) → Fits b held (with_wants phi' (copied_labels funs enter w p b ls k) vs' (b + l)) (with_wants phi ls vs l)
 with-labels phi phi' held none vs vs' b funs enter w p k fit h l = h l
 with-labels phi phi' held (label m xs t ls) vs vs' b funs enter w p k fit h l =
@@ -57,7 +57,7 @@ to-same phi psi b (Some l) held h lt w = subst (λ v. Within v held) (sym (h l l
 to-same phi psi b None held h lt w = w
 
 -- inside of a Fix
-wanting-with : (funs : List Fun) (own n b s : ℕ) (p : Place) → Below funs b p → (phi phi' : Wants) (held : List ℕ) (ls : Labels) (vs vs' : List ℕ) (enter : Entering) (w : Counts) (k : ℕ) → labels_span ls ≤ s → Fits b held vs' vs → Wanting funs own n b s p phi phi' held
+wanting-with : (funs : List Fun) (own n b s : ℕ) (p : InlineContext) → Below funs b p → (phi phi' : Wants) (held : List ℕ) (ls : Labels) (vs vs' : List ℕ) (enter : Entering) (w : Counts) (k : ℕ) → labels_span ls ≤ s → Fits b held vs' vs → Wanting funs own n b s p phi phi' held
     → Wanting funs own n b s p (with_wants phi ls vs) (with_wants phi' (copied_labels funs enter w p b ls k) vs') held
 wanting-with funs own n b s p below phi phi' held ls vs vs' enter w k le fit h =
     let old = λ (l : ℕ) (lt : l < b). with-at phi' ls vs' b funs enter w p k l lt in
@@ -104,7 +104,7 @@ call_held b phi k hs held = moved b (kept phi (Some k) hs) ++ held
 fits-self : (b : ℕ) (held a : List ℕ) → Fits b held (moved b a ++ held) a
 fits-self b held a = record { by = λ x i. i }
 
-module _ (funs top : List Fun) (v : Widths) (gr : ℕ) (w : Widths) (own n : ℕ) (enter : Entering) (enters : EntersWide funs top v gr w own enter) (wc : Counts) (p : Place) (b s : ℕ) (below : Below funs b p) where
+module _ (funs top : List Fun) (v : Widths) (gr : ℕ) (w : Widths) (own n : ℕ) (enter : Entering) (enters : EntersWide funs top v gr w own enter) (wc : Counts) (p : InlineContext) (b s : ℕ) (below : Below funs b p) where
   -- a call's premises
   to-held : (phi phi' : Wants) (held : List ℕ) (k : ℕ) (hs : List Handler) → Wanting funs own n b s p phi phi' held → Within (to_wants phi' (Some (b + k))) (call_held b phi k hs held)
   to-held phi phi' held k hs h x i = (fits-within b held (phi' (b + k)) (phi k) (kept phi (Some k) hs) (within-left (phi k) (handlers_want phi hs)) (h.labels k)).by x i
@@ -112,7 +112,7 @@ module _ (funs top : List Fun) (v : Widths) (gr : ℕ) (w : Widths) (own n : ℕ
   handlers-held : (phi phi' : Wants) (held : List ℕ) (k : ℕ) (hs : List Handler) → Wanting funs own n b s p phi phi' held → (e : ℕ) → Within (to_wants phi' (handler_of e (moved_handlers b hs ++ p.handlers))) (call_held b phi k hs held)
   handlers-held phi phi' held k hs h e = call-handlers b e hs p.handlers phi phi' held (call_held b phi k hs held) h.labels (h.handlers e) (held-more b (phi k) (handlers_want phi hs) held)
 
-  call-want : (phi phi' : Wants) (held : List ℕ) (i k next given : ℕ) (ss : Scoped) (bs : List Atom) (hs : List Handler) (o : Option Fun) → slice_get funs i ≡ o → can_call own given ss k o ≡ true → k + 1 ≤ s → behind_handlers hs ≤ s → b + s ≤ next → Wanting funs own n b s p phi phi' held
+  call-want : (phi phi' : Wants) (held : List ℕ) (i k next given : ℕ) (ss : Scoped) (bs : List Atom) (hs : List Handler) (o : Option Fun) → slice_get funs i ≡ o → can_call own given ss k o ≡ true → k + 1 ≤ s → after_handlers hs ≤ s → b + s ≤ next → Wanting funs own n b s p phi phi' held
       → Fits b held (wants phi' (entered_call enter i o (moved_atoms b bs) (Some (b + k)) (moved_handlers b hs ++ p.handlers) next)) (all_vars bs ++ kept phi (Some k) hs)
   call-want phi phi' held i k next given ss bs hs None there can lk lh far h = absurd (false≢true can)
   call-want phi phi' held i k next given ss bs hs (Some g) there can lk lh far h =
@@ -122,7 +122,7 @@ module _ (funs top : List Fun) (v : Widths) (gr : ℕ) (w : Widths) (own n : ℕ
       fits-both b held (all_vars (moved_atoms b bs)) (all_vars bs) (call_held b phi k hs held) (kept phi (Some k) hs) (subst (λ l. Fits b held l (all_vars bs)) (sym (all-vars-moved b bs)) (fits-moved b held (all_vars bs))) (fits-self b held (kept phi (Some k) hs)) in
       record { by = λ x j. parts.by x (within x j) }
 
-  call-width : (phi phi' : Wants) (held : List ℕ) (i k next given : ℕ) (ss : Scoped) (bs : List Atom) (hs : List Handler) (o : Option Fun) → slice_get funs i ≡ o → can_call own given ss k o ≡ true → k + 1 ≤ s → behind_handlers hs ≤ s → b + s ≤ next → Wanting funs own n b s p phi phi' held
+  call-width : (phi phi' : Wants) (held : List ℕ) (i k next given : ℕ) (ss : Scoped) (bs : List Atom) (hs : List Handler) (o : Option Fun) → slice_get funs i ≡ o → can_call own given ss k o ≡ true → k + 1 ≤ s → after_handlers hs ≤ s → b + s ≤ next → Wanting funs own n b s p phi phi' held
       → term_wide top v gr phi' (entered_call enter i o (moved_atoms b bs) (Some (b + k)) (moved_handlers b hs ++ p.handlers) next) ≤ different held + max (operands_wide (kept phi (Some k) hs) bs) (call_wide w own (different (kept phi (Some k) hs)) o)
   call-width phi phi' held i k next given ss bs hs None there can lk lh far h = absurd (false≢true can)
   call-width phi phi' held i k next given ss bs hs (Some g) there can lk lh far h =
@@ -141,14 +141,14 @@ module _ (funs top : List Fun) (v : Widths) (gr : ℕ) (w : Widths) (own n : ℕ
       let parts = and_parts (g.results == n) (g.group == own) (and_parts (length g.params == given) ((g.results == n) && (g.group == own)) can).1 in
       h.own i g there (eqb-true g.group own parts.1) (eqb-true g.results n parts.0)
 
-  lands-want : (phi' : Wants) (held : List ℕ) (o : Option ℕ) (e : ℕ) (bs : List Atom) → Within (to_wants phi' o) held → Fits b held (wants phi' (lands o e (moved_atoms b bs))) (all_vars bs)
-  lands-want phi' held (Some l) e bs h =
+  return_term-want : (phi' : Wants) (held : List ℕ) (o : Option ℕ) (e : ℕ) (bs : List Atom) → Within (to_wants phi' o) held → Fits b held (wants phi' (return_term o e (moved_atoms b bs))) (all_vars bs)
+  return_term-want phi' held (Some l) e bs h =
       record { by = λ x i. ⊎_elim (λ (j : is_in x (all_vars (moved_atoms b bs)) ≡ true). (subst (λ k. Fits b held k (all_vars bs)) (sym (all-vars-moved b bs)) (fits-moved b held (all_vars bs))).by x j) (λ (j : is_in x (phi' l) ≡ true). (fits-in-held b held (phi' l) (all_vars bs) h).by x j) (or_cases (is_in x (all_vars (moved_atoms b bs))) (is_in x (phi' l)) (sym (in-append x (all_vars (moved_atoms b bs)) (phi' l)) ∙ i)) }
-  lands-want phi' held None e bs h = subst (λ k. Fits b held k (all_vars bs)) (sym (all-vars-moved b bs)) (fits-moved b held (all_vars bs))
+  return_term-want phi' held None e bs h = subst (λ k. Fits b held k (all_vars bs)) (sym (all-vars-moved b bs)) (fits-moved b held (all_vars bs))
 
-  lands-wide : (phi' : Wants) (held : List ℕ) (o : Option ℕ) (e : ℕ) (bs : List Atom) → Within (to_wants phi' o) held → term_wide top v gr phi' (lands o e (moved_atoms b bs)) ≤ different held + operands_wide [] bs
-  lands-wide phi' held (Some l) e bs h = fits-operands b held (phi' l) [] bs (fits-in-held b held (phi' l) [] h)
-  lands-wide phi' held None e bs h = fits-operands b held [] [] bs (fits-none b held [])
+  return_term-wide : (phi' : Wants) (held : List ℕ) (o : Option ℕ) (e : ℕ) (bs : List Atom) → Within (to_wants phi' o) held → term_wide top v gr phi' (return_term o e (moved_atoms b bs)) ≤ different held + operands_wide [] bs
+  return_term-wide phi' held (Some l) e bs h = fits-operands b held (phi' l) [] bs (fits-in-held b held (phi' l) [] h)
+  return_term-wide phi' held None e bs h = fits-operands b held [] [] bs (fits-none b held [])
 
   atoms-fit : (held : List ℕ) (bs : List Atom) → Fits b held (all_vars (moved_atoms b bs)) (all_vars bs)
   atoms-fit held bs = subst (λ k. Fits b held k (all_vars bs)) (sym (all-vars-moved b bs)) (fits-moved b held (all_vars bs))
@@ -194,8 +194,8 @@ module _ (funs top : List Fun) (v : Widths) (gr : ℕ) (w : Widths) (own n : ℕ
     term-wants (Call i bs None []) ss known f le next far phi phi' held h =
         fits-both b held (all_vars (moved_atoms b bs)) (all_vars bs) (phi' (p.first + i)) [] (atoms-fit held bs) (fits-in-held b held (phi' (p.first + i)) [] (own-want phi phi' held i (length bs) (slice_get funs i) refl (and_parts (all_known known bs) (is_call funs own n ss i (length bs) None []) f).1 h))
     term-wants (Call i bs None (x ∷ hs)) ss known f le next far phi phi' held h = absurd (false≢true (and_parts (all_known known bs) false f).1)
-    term-wants (Return bs) ss known f le next far phi phi' held h = lands-want phi' held p.to 0 bs h.to
-    term-wants (Throw e bs) ss known f le next far phi phi' held h = lands-want phi' held (handler_of e p.handlers) e bs (h.handlers e)
+    term-wants (Return bs) ss known f le next far phi phi' held h = return_term-want phi' held p.to 0 bs h.to
+    term-wants (Throw e bs) ss known f le next far phi phi' held h = return_term-want phi' held (handler_of e p.handlers) e bs (h.handlers e)
     term-wants (Jump l bs) ss known f le next far phi phi' held h = fits-both b held (all_vars (moved_atoms b bs)) (all_vars bs) (phi' (b + l)) (phi l) (atoms-fit held bs) (h.labels l)
     term-wants (Halt e bs) ss known f le next far phi phi' held h = atoms-fit held bs
 
@@ -250,8 +250,8 @@ module _ (funs top : List Fun) (v : Widths) (gr : ℕ) (w : Widths) (own n : ℕ
         fits-operands b held (phi' (p.first + i)) [] bs (fits-in-held b held (phi' (p.first + i)) [] (own-want phi phi' held i (length bs) (slice_get funs i) refl (and_parts (all_known known bs) (is_call funs own n ss i (length bs) None []) f).1 h)) in
         omega arith
     term-width (Call i bs None (x ∷ hs)) ss known f le next far phi phi' held h = absurd (false≢true (and_parts (all_known known bs) false f).1)
-    term-width (Return bs) ss known f le next far phi phi' held h = lands-wide phi' held p.to 0 bs h.to
-    term-width (Throw e bs) ss known f le next far phi phi' held h = lands-wide phi' held (handler_of e p.handlers) e bs (h.handlers e)
+    term-width (Return bs) ss known f le next far phi phi' held h = return_term-wide phi' held p.to 0 bs h.to
+    term-width (Throw e bs) ss known f le next far phi phi' held h = return_term-wide phi' held (handler_of e p.handlers) e bs (h.handlers e)
     term-width (Jump l bs) ss known f le next far phi phi' held h = fits-operands b held (phi' (b + l)) (phi l) bs (h.labels l)
     term-width (Halt e bs) ss known f le next far phi phi' held h = fits-operands b held [] [] bs (fits-none b held [])
 

@@ -7,10 +7,10 @@ ghost use Rattle.cps_ir.specs.Term as cps;
 ghost use Rattle.cps_ir.specs.View.{term_view, label_view, labels_view, fun_view};
 ghost use Rattle.cps_inline.specs.inner.Inlined as inner;
 
-use crate::moving::{handlers_behind, moved, moved_atoms, moved_handlers, moved_numbers};
+use crate::moving::{handlers_after, moved, moved_atoms, moved_handlers, moved_numbers};
 use crate::span::span;
 use crate::stepping::{
-    joined, land, push_if, push_label, push_labels, push_let, push_read, push_write, read,
+    joined, push_if, push_label, push_labels, push_let, push_read, push_write, read, return_to,
     round_jump,
 };
 use cps_ir::{Cont, CpsFun, Step, Term};
@@ -20,7 +20,7 @@ use std::alloc::Global;
 /// A copied group: its number, the label of the program's first function in it, where its words go (else
 /// they end the run), and the handlers round it.
 #[derive(Drop)]
-pub struct Place {
+pub struct InlineContext {
     pub group: u32,
     pub first: u32,
     pub to: Option<u32>,
@@ -32,11 +32,11 @@ pub struct Place {
 #[derive(Clone, Copy)]
 struct Site<'a> {
     funs: &'a [CpsFun],
-    place: &'a Place,
+    place: &'a InlineContext,
     base: u32,
 }
 
-// The number that is so many behind the next, which it becomes.
+// The number that is so many after the next, which it becomes.
 fn take(fresh: &mut u32, count: u32) -> Result<u32, NoMemory>
     ensures first { IfOk result (λ n. n ≡ fresh.old) }
     ensures next { IfOk result (λ n. fresh.new ≡ fresh.old + count) }
@@ -70,25 +70,25 @@ fn find_handler(e: u16, hs: &[(u16, u32)]) -> Option<u32>
 
 // Where the words and exceptions of a call go.
 #[inline(never)]
-fn place_of_call(
+fn context_of_call(
     alloc: Global,
-    place: &Place,
+    place: &InlineContext,
     base: u32,
     group: u32,
     k: u32,
     hs: &[(u16, u32)],
     first: u32,
-) -> Result<Place, NoMemory>
+) -> Result<InlineContext, NoMemory>
     ensures group { IfOk result (λ p. p.group ≡ group) }
-    ensures view { IfOk result (λ p. inner.place_view p ≡ inner.place_behind (inner.place_view place.now) base k hs.now first) }
+    ensures view { IfOk result (λ p. inner.context_view p ≡ inner.context_of_call_in (inner.context_view place.now) base k hs.now first) }
 {
     let to = moved(base, k)?;
     let own = moved_handlers(alloc, base, hs)?;
-    Ok(Place {
+    Ok(InlineContext {
         group,
         first,
         to: Some(to),
-        handlers: handlers_behind(own, &place.handlers)?,
+        handlers: handlers_after(own, &place.handlers)?,
     })
 }
 
@@ -167,21 +167,21 @@ fn copy_steps(
                 return Ok(end);
             }
             Term::Return(bs) => {
-                let end = land(alloc, site.place.to, 0, site.base, bs)?;
+                let end = return_to(alloc, site.place.to, 0, site.base, bs)?;
                 return Ok(end);
             }
             Term::Throw(e, bs) => {
                 let to = find_handler(*e, &site.place.handlers);
-                let end = land(alloc, to, *e, site.base, bs)?;
+                let end = return_to(alloc, to, *e, site.base, bs)?;
                 return Ok(end);
             }
             Term::Jump(l, bs) => {
                 let to = Some(moved(site.base, *l)?);
-                let end = land(alloc, to, 0, site.base, bs)?;
+                let end = return_to(alloc, to, 0, site.base, bs)?;
                 return Ok(end);
             }
             Term::Halt(e, bs) => {
-                let end = land(alloc, None, *e, site.base, bs)?;
+                let end = return_to(alloc, None, *e, site.base, bs)?;
                 return Ok(end);
             }
         }
@@ -306,14 +306,14 @@ fn copy_call(
 {
     let k = match to {
         Some(k) => k,
-        None => return land(alloc, Some(moved(site.place.first, i)?), 0, site.base, bs),
+        None => return return_to(alloc, Some(moved(site.place.first, i)?), 0, site.base, bs),
     };
     match site.funs.get(i as usize) {
         Some(f) => {
             if f.group >= site.place.group {
                 return Err(NoMemory);
             }
-            let inner = place_of_call(alloc, site.place, site.base, f.group, k, hs, *fresh)?;
+            let inner = context_of_call(alloc, site.place, site.base, f.group, k, hs, *fresh)?;
             let words = moved_atoms(alloc, site.base, bs)?;
             enter(alloc, site.funs, i, f, words, &inner, fresh)
         }
@@ -329,7 +329,7 @@ pub fn enter(
     i: u32,
     f: &CpsFun,
     words: Vec<Atom>,
-    place: &Place,
+    place: &InlineContext,
     fresh: &mut u32,
 ) -> Result<Term, NoMemory>
     requires first { place.now.first ≡ fresh.old }
@@ -348,7 +348,7 @@ fn copy_group(
     alloc: Global,
     funs: &[CpsFun],
     f: &CpsFun,
-    place: &Place,
+    place: &InlineContext,
     fresh: &mut u32,
 ) -> Result<Vec<Cont>, NoMemory>
     ensures count { IfOk result (λ v. fresh.new ≡ fresh.old + inner.copies_count_at funs.now place.now (fun_view f.now) (map fun_view funs.now)) }
@@ -368,7 +368,7 @@ fn copy_group(
 fn copy_function(
     alloc: Global,
     funs: &[CpsFun],
-    place: &Place,
+    place: &InlineContext,
     j: u32,
     g: &CpsFun,
     fresh: &mut u32,

@@ -90,8 +90,8 @@ pub fn moved_handlers(
     Ok(v)
 }
 
-/// Some handlers, and the others behind them.
-pub fn handlers_behind(
+/// Some handlers, and the others after them.
+pub fn handlers_after(
     mut v: Vec<(u16, u32)>,
     hs: &[(u16, u32)],
 ) -> Result<Vec<(u16, u32)>, NoMemory>

@@ -10,14 +10,14 @@ ghost use Rattle.cps_ir.specs.Wide.{wide};
 ghost use Rattle.cps_ir.specs.Callless.{only_jumps};
 ghost use Rattle.cps_inline.specs.inner.Inlined as inner;
 
-use crate::copying::{Place, enter};
-use crate::span::behind_all;
+use crate::copying::{InlineContext, enter};
+use crate::span::after_all;
 use cps_ir::{Cps, CpsFun};
 use nv_base::{Atom, NoMemory};
 use std::alloc::Global;
 
 /// The program in one function, without calls, returns and throws, which has its outcomes, is at most as
-/// wide, and has at most as much code. Want of memory is also the answer where a variable or a label would
+/// wide, and has at most as much code. Memory exhaustion is also the answer where a variable or a label would
 /// have no number below 2^32: a copy takes as many numbers as the greatest of its function.
 pub fn inline(alloc: Global, c: Cps) -> Result<Cps, NoMemory>
     ensures kept { IfOk result (λ d. KeepsOutcomes (params_in (map fun_view c.funs.items) c.main) (params_in (map fun_view d.funs.items) d.main) (cps_meaning (map fun_view c.funs.items) c.main) (cps_meaning (map fun_view d.funs.items) d.main)) }
@@ -47,8 +47,8 @@ fn operands(alloc: Global, xs: &[u32]) -> Result<Vec<Atom>, NoMemory>
 fn inline_main(alloc: Global, funs: &[CpsFun], i: u32, f: &CpsFun) -> Result<CpsFun, NoMemory>
     ensures { IfOk result (λ g. fun_view g ≡ inner.inlined_main (map fun_view funs.now) i (fun_view f.now)) }
 {
-    let mut fresh = behind_all(0, &f.params)?;
-    let place = Place {
+    let mut fresh = after_all(0, &f.params)?;
+    let place = InlineContext {
         group: f.group,
         first: fresh,
         to: None,

@@ -1,4 +1,4 @@
-// Nodes of a copy, behind the steps so far. These calls stay out of line: so the frames of the recursion
+// Nodes of a copy, after the steps so far. These calls stay out of line: so the frames of the recursion
 // over callees stay small, which goes as deep as a program has groups.
 
 ghost use Rattle.std.specs.Prelude.{◌≡◌, ◌+◌, ◌++◌, ◌∷◌, [], IfOk};
@@ -14,7 +14,7 @@ use cps_ir::{Cont, Step, Term, join};
 use nv_base::{Atom, Cmp, Mem, NoMemory, Prim};
 use std::alloc::Global;
 
-// What was found, or want of memory, after letting go of what is held.
+// What was found, or memory exhaustion, after letting go of what is held.
 macro_rules! read {
     ($found:expr $(, $held:expr)*) => {
         match $found {
@@ -150,14 +150,14 @@ pub fn joined(alloc: Global, steps: Vec<Step>, end: Term) -> Result<Term, NoMemo
 
 /// Words to a label, or to the end of the run under a number.
 #[inline(never)]
-pub fn land(
+pub fn return_to(
     alloc: Global,
     to: Option<u32>,
     e: u16,
     base: u32,
     bs: &[Atom],
 ) -> Result<Term, NoMemory>
-    ensures { IfOk result (λ u. term_view u ≡ inner.lands to e (inner.moved_atoms base bs.now)) }
+    ensures { IfOk result (λ u. term_view u ≡ inner.return_term to e (inner.moved_atoms base bs.now)) }
 {
     match to {
         Some(l) => Ok(Term::Jump(l, moved_atoms(alloc, base, bs)?)),

@@ -2,7 +2,7 @@
 use Rattle.std.proofs.Common.{◌≡◌, ℕ, zero, suc, ◌≤◌, List, Option, Some, None, refl, arith, slice_get, length}
 use Rattle.nv_base.specs.Memories.{Memories}
 use Rattle.nv_base.specs.Meanings.{FullOutcome, IsPrefix}
-use Rattle.nv_base.specs.Progress.{Grows}
+use Rattle.nv_base.specs.Progress.{IsMonotone}
 use Rattle.nv_base.specs.Words.{Env, assigned, assigned_all, atom_word, atom_words, prim_word, compares}
 use Rattle.nv_base.specs.World.{World, begun, over, ended}
 use Rattle.nv_base.proofs.Same.{prefix-refl}
@@ -63,5 +63,5 @@ run-grows funs zero n le task w = gets-going w (run funs n task w) (run-adds fun
 run-grows funs (suc m) zero le task w = absurd (omega arith)
 run-grows funs (suc m) (suc n) le task w = kept-enter Gets gets-kept (run funs m) (run funs n) (run-grows funs m n (omega arith)) funs task w
 
-pub meaning-grows : (funs : List Fun) (main : ℕ) (args : List ℕ) (p : Memories) → Grows (cps_meaning funs main args p)
+pub meaning-grows : (funs : List Fun) (main : ℕ) (args : List ℕ) (p : Memories) → IsMonotone (cps_meaning funs main args p)
 meaning-grows funs main args p m n le = kept-fun Gets gets-kept (run funs m) (run funs n) (run-grows funs m n le) (slice_get funs main) args Bottom (begun p)

@@ -36,7 +36,7 @@ abbrev pub sum_bulk : List Fun → Bulks → ℕ → List Fun → Bulk
 sum_bulk funs w group [] = nothing
 sum_bulk funs w group (f ∷ fs) = both (if f.group == group then function_bulk funs w f else nothing) (sum_bulk funs w group fs)
 
--- the bulks of groups by a recursion of so many steps, each of which is a call of an earlier group
+-- the bulks of groups by a recursion of N steps, each of which is a call of an earlier group
 abbrev pub bulks_within : List Fun → ℕ → Bulks
 bulks_within funs zero group = nothing
 bulks_within funs (suc n) group = sum_bulk funs (bulks_within funs n) group funs

@@ -57,7 +57,7 @@ abbrev pub arity : ℕ → Scoped → Option ℕ
 arity l [] = None
 arity l (s ∷ ss) = if s.0 == l then Some s.1 else arity l ss
 
--- a label of so many words is in scope
+-- a label of N words is in scope
 abbrev pub takes_as_many : ℕ → Option ℕ → Bool
 takes_as_many n (Some m) = m == n
 takes_as_many n None = false

@@ -99,7 +99,7 @@ abbrev pub greatest_wide : List Fun → Widths → ℕ → List Fun → ℕ
 greatest_wide funs w group [] = 0
 greatest_wide funs w group (f ∷ fs) = max (if f.group == group then function_wide funs w f else 0) (greatest_wide funs w group fs)
 
--- the widths of groups by a recursion of so many steps, each of which is a call of an earlier group
+-- the widths of groups by a recursion of N steps, each of which is a call of an earlier group
 abbrev pub widths_within : List Fun → ℕ → Widths
 widths_within funs zero group = 0
 widths_within funs (suc n) group = greatest_wide funs (widths_within funs n) group funs

@@ -2,7 +2,7 @@
 ghost use Rattle.std.specs.Prelude.{◌≡◌, ◌≤◌, ℕ, List, Some, slice_get};
 ghost use Rattle.nv_base.specs.Measures.{Widths, Bulks, a_label, a_jump, both, IsAtMost};
 ghost use Rattle.nv_base.specs.Memories.{Memories};
-ghost use Rattle.nv_base.specs.Progress.{Grows};
+ghost use Rattle.nv_base.specs.Progress.{IsMonotone};
 ghost use Rattle.cps_ir.specs.Bulk.{group_bulk, bulk, AreBulks};
 ghost use Rattle.cps_ir.specs.Meaning.{cps_meaning};
 ghost use Rattle.cps_ir.specs.Term.{Fun};
@@ -11,7 +11,7 @@ ghost use Rattle.cps_ir.specs.Wide.{group_wide, wide, AreWidths};
 /// With more jumps a run only goes on: an outcome stays, and the writes before are the first ones of
 /// those after.
 pub fn more_jumps_go_on()
-    ensures { (funs : List Fun) (main : ℕ) (args : List ℕ) (p : Memories) → Grows (cps_meaning funs main args p) }
+    ensures { (funs : List Fun) (main : ℕ) (args : List ℕ) (p : Memories) → IsMonotone (cps_meaning funs main args p) }
 {}
 
 /// The widths of groups are the least numbers such that each function is at most as wide as its

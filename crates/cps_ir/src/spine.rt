@@ -8,7 +8,7 @@ use crate::term::{Cont, Term};
 use nv_base::{Args, Atom, Cmp, Mem, Prim, Vars};
 use std::alloc::{AllocError, Global};
 
-/// A node without the term behind it.
+/// A node without the term after it.
 #[derive(Drop)]
 pub enum Step {
     Let(u32, Prim),

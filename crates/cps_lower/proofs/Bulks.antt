@@ -77,7 +77,7 @@ module _ (funs : List FlatFun) (w : Bulks) (own : ℕ) where
       (lowered-bulk t last (n + 1) k ((e, n) ∷ hs)) (lowered-bulk u last (n + 1 + labels t) k hs)
   lowered-bulk (Give bs) last n k hs = give-bulk k bs.items
 
-  -- the flat code also pays for the label behind its last calls, if there are any of an earlier group
+  -- the flat code also pays for the label after its last calls, if there are any of an earlier group
   lowered-pays : (t : Flat) (n : ℕ) (k : Option ℕ) (hs : List Handler) → hands_on funs own t ≡ true
       → IsAtMost (both (both a_label a_jump) (term_bulk (lowered_all funs) w own (lowered funs own t n k hs))) (code_bulk funs w own true t)
   lowered-pays (Let' x a q t) n k hs h = paid-behind (both a_label a_jump) (a_node 1 2) (term_bulk (lowered_all funs) w own (lowered funs own t n k hs)) (code_bulk funs w own true t) (lowered-pays t n k hs h)

@@ -69,7 +69,7 @@ pub paid-call : (b : Bool) (c : Bulk) → b ≡ true → IsAtMost (both (both a_
 paid-call true c e = record { labels = omega arith; jumps = omega arith; nodes = omega arith; defined = omega arith; used = omega arith }
 paid-call false c e = absurd (false≢true e)
 
--- the same without the empty labels behind the first
+-- the same without the empty labels after the first
 pub returned : (t b : Bulk) → IsAtMost (both (both a_label a_jump) t) b → IsAtMost (both (both (both a_label a_jump) nothing) t) b
 returned t b p = record {
   labels = omega (arith, p.labels);

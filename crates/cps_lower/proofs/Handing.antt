@@ -1,4 +1,4 @@
--- The body of a function behind the label that returns the words of its last calls.
+-- The body of a function after the label that returns the words of its last calls.
 use Rattle.std.proofs.Common.{◌≡◌, ℕ, suc, ◌+◌, max, List, [], ◌∷◌, ◌++◌, refl, sym, ap, ◌∙◌, Vec, Box, arith, rules, Option}
 use Rattle.std.specs.declared.alloc.Global.{Global}
 use Rattle.nv_base.specs.declared.term.Atom.{Atom}

@@ -85,7 +85,7 @@ from_both n i m a b le ge p q = record {
   below = λ x e. ⊎_elim (λ (f : is_in x a ≡ true). let l : x < i = p.below x f in (let r : x < m = omega arith in r)) (λ (f : is_in x b ≡ true). q.below x f) (in-parts x a b e);
 }
 
--- the first number, and those of two stretches behind it: the label of a Fix stands between the term round which it is made and its body
+-- the first number, and those of two stretches after it: the label of a Fix stands between the term round which it is made and its body
 from_fix : (n i m : ℕ) (a b : List ℕ) → n + 1 ≤ i → i ≤ m → AreFrom (n + 1) i a → AreFrom i m b → AreFrom n m (a ++ ((n ∷ b) ++ []))
 from_fix n i m a b le ge p q =
     let fresh : is_in n b ≡ false = false_from_ne_true (is_in n b) (λ e. let l : i ≤ n = q.least n e in absurd (omega arith)) in

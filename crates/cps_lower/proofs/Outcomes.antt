@@ -6,13 +6,13 @@ use Rattle.nv_base.specs.Memories.{Memories}
 use Rattle.nv_base.specs.Meanings.{KeepsOutcomes}
 use Rattle.nv_base.specs.Running.{Running}
 use Rattle.nv_base.specs.Words.{assigned_all}
-use Rattle.nv_base.specs.Progress.{Lands}
+use Rattle.nv_base.specs.Progress.{IsMatchedBy}
 use Rattle.nv_base.proofs.Same.{same_lands, lands_at}
 use Rattle.flat_ir.specs.declared.flat.FlatFun.{FlatFun}
 use Rattle.flat_ir.specs.Formed.{defined, is_program}
 use Rattle.flat_ir.specs.Meaning as source
 use Rattle.flat_ir.specs.Reached as reached
-use Rattle.flat_ir.specs.Running.{Result, Gives, Raises, Stops, taken, closed}
+use Rattle.flat_ir.specs.Running.{Result, Gives, Raises, Halts, taken, closed}
 use Rattle.flat_ir.proofs.Counted.{body-formed}
 use Rattle.cps_ir.specs.Meaning.{Top, Bound, Frames, Bottom, ToFun, Next, does, blank, enter_fun, run, cps_meaning, params_of, params_in}
 use Rattle.cps_ir.specs.Term.{Fun}
@@ -72,9 +72,9 @@ module _ (flats : List FlatFun) (main : ℕ) (program : is_program flats main �
   closed_goes : (next : Next) (r : Result) → goes_on next None [] Top Bottom r ≡ closed r
   closed_goes next (Gives ws now) = refl
   closed_goes next (Raises e ws now) = refl
-  closed_goes next (Stops how now) = refl
+  closed_goes next (Halts how now) = refl
 
-  pub program_lands : (args : List ℕ) (p : Memories) → Lands (source.flat_meaning flats main args p) (cps_meaning (lowered_all flats) main args p)
+  pub program_lands : (args : List ℕ) (p : Memories) → IsMatchedBy (source.flat_meaning flats main args p) (cps_meaning (lowered_all flats) main args p)
   program_lands args p =
       lands_at (source.flat_meaning flats main args p) (cps_meaning (lowered_all flats) main args p)
       (λ n.

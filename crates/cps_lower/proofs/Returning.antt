@@ -67,7 +67,7 @@ variables-different i (suc m) =
     (not_from_false (is_in i (variables (i + 1) m)) (false_from_ne_true (is_in i (variables (i + 1) m)) (λ p. let le : i + 1 ≤ i = variables-from (i + 1) m i p in absurd (omega arith))))
     (variables-different (i + 1) m)
 
--- each is below the first one behind all
+-- each is below the first one after all
 pub next-above : (xs : List ℕ) (x : ℕ) → is_in x xs ≡ true → x < next_variable xs
 next-above [] x e = absurd (false≢true e)
 next-above (y ∷ xs) x e =

@@ -56,7 +56,7 @@ pub found_try : {funs : List FlatFun} {own : ℕ} {t cur : Flat} (x : ℕ) (xs :
 found_try {funs = funs} {own = own} x xs q q' f r part l is e some =
     sym (l.hands ∙ ap (hands_on funs own) is ∙ ap (λ v. hands_on funs own v || hands_on funs own r) (sym e) ∙ ap (λ v. v || hands_on funs own r) some)
 
--- ---- the first variable behind all
+-- ---- the first variable after all
 
 max-assoc : (a b c : ℕ) → max a (max b c) ≡ max (max a b) c
 max-assoc a b c = omega arith
@@ -65,7 +65,7 @@ pub next-append : (xs ys : List ℕ) → next_variable (xs ++ ys) ≡ max (next_
 next-append [] ys = omega arith
 next-append (x ∷ xs) ys = ap (λ n. max (x + 1) n) (next-append xs ys) ∙ max-assoc (x + 1) (next_variable xs) (next_variable ys)
 
--- the first one behind the number so far and the rest is the one behind the least and all of the code
+-- the first one after the number so far and the rest is the one after the least and all of the code
 pub record Behind (least : ℕ) (t : Flat) (next : ℕ) (cur : Flat) : Type 0 where
   pub value : max next (next_variable (defined cur)) ≡ max least (next_variable (defined t))
   pub size : size-Flat cur ≤ size-Flat t
@@ -124,7 +124,7 @@ behind_try {next = next} {cur = cur} x xs q q' f r part rest new wide next' h is
     ∙ ap (λ v. max (next_variable (defined part)) (max (next_variable xs.items) (next_variable (defined v)))) (sym e') ∙ ap (λ n. max (next_variable (defined part)) (max n (next_variable (defined rest)))) (sym ew)) eg en)
     (omega (arith, ap size-Flat is, ap size-Flat e', deep-Try' q f x xs q' r))
 
--- ---- variables behind one another
+-- ---- variables one after another
 
 pub variables-push : (i m : ℕ) → variables i (suc m) ≡ variables i m ++ (i + m) ∷ []
 variables-push i zero = let e : i ≡ i + 0 = omega arith in ap (λ n. n ∷ []) e

@@ -15,7 +15,7 @@ use Rattle.flat_ir.specs.declared.flat.FlatFun.{FlatFun}
 use Rattle.flat_ir.specs.Counts.{GivesMany}
 use Rattle.flat_ir.specs.Formed as flat
 use Rattle.flat_ir.specs.Meaning as source
-use Rattle.flat_ir.specs.Running.{Result, Gives, Raises, Stops, and_then, handled, after_fetch, after_store}
+use Rattle.flat_ir.specs.Running.{Result, Gives, Raises, Halts, and_then, handled, after_fetch, after_store}
 use Rattle.flat_ir.proofs.Counted.{code-many}
 use Rattle.flat_ir.proofs.FormedParts.{let-parts, fetch-parts, store-parts, if-parts, bind-parts, call-parts, try-parts}
 use Rattle.cps_ir.specs.Meaning.{handler_of, Scope, Top, Bound, Frames, Frame, ToLabel, ToFun, Next, returned, or_label, thrown, does, at_body, enter_label, run}
@@ -39,12 +39,12 @@ raised_to next None e ws sc fr w = thrown next e ws fr w
 abbrev pub goes_on : Next → Option ℕ → List Handler → Scope → Frames → Result → FullOutcome
 goes_on next k hs sc fr (Gives ws now) = given next k ws sc fr (world_of now)
 goes_on next k hs sc fr (Raises e ws now) = raised_to next (handler_of e hs) e ws sc fr (world_of now)
-goes_on next k hs sc fr (Stops how now) = over how (world_of now)
+goes_on next k hs sc fr (Halts how now) = over how (world_of now)
 
 abbrev pub left_of : Result → ℕ
 left_of (Gives ws now) = now.calls
 left_of (Raises e ws now) = now.calls
-left_of (Stops how now) = 0
+left_of (Halts how now) = 0
 
 -- of c calls no more are left at the end; and however many jumps j are to be left there, at least as many as calls,
 -- there are some to begin with, at least c, with which the target comes to the same
@@ -135,7 +135,7 @@ raised_passes funs j n None lt e ws xs t env sc fr w = refl
 goes_passes : (funs : List Fun) (j n : ℕ) (k : Option ℕ) (hs : List Handler) → AreBelow n k hs → (xs : List ℕ) (t : Term) (env : Env) (sc : Scope) (fr : Frames) (r : Result) → goes_on (run funs j) k hs (Bound (one_label n xs t) env sc) fr r ≡ goes_on (run funs j) k hs sc fr r
 goes_passes funs j n k hs below xs t env sc fr (Gives ws now) = given_passes funs j n k below.to ws xs t env sc fr (world_of now)
 goes_passes funs j n k hs below xs t env sc fr (Raises e ws now) = raised_passes funs j n (handler_of e hs) (below.handlers e) e ws xs t env sc fr (world_of now)
-goes_passes funs j n k hs below xs t env sc fr (Stops how now) = refl
+goes_passes funs j n k hs below xs t env sc fr (Halts how now) = refl
 
 lands : (funs : List Fun) (j n : ℕ) (ws xs : List ℕ) (t : Term) (env : Env) (sc : Scope) (fr : Frames) (w : World) → run funs (suc j) (ToLabel n ws (Bound (one_label n xs t) env sc) fr) w ≡ does (run funs j) t (assigned_all env xs ws) (Bound (one_label n xs t) env sc) fr w
 lands funs j n ws xs t env sc fr w =
@@ -193,7 +193,7 @@ bind_follows funs k hs sc fr c n xs t env below (Raises e ws now) go target h ne
   spent = h.spent;
   by = λ j le. let a = h.by j le in (a.0, a.1, a.2 ∙ raised_passes funs j n (handler_of e hs) (below.handlers e) e ws xs t env sc fr (world_of now));
 }
-bind_follows funs k hs sc fr c n xs t env below (Stops how now) go target h next = record { spent = h.spent; by = λ j le. h.by j le }
+bind_follows funs k hs sc fr c n xs t env below (Halts how now) go target h next = record { spent = h.spent; by = λ j le. h.by j le }
 
 -- an exception in the body of a Try, by whether it is the handler's
 caught_follows : (funs : List Fun) (k : Option ℕ) (hs : List Handler) (sc : Scope) (fr : Frames) (c n x : ℕ) (b b' : Bool) → b' ≡ b → (xs ws : List ℕ) (t : Term) (env : Env) → AreBelow n k hs → (now : Running) (r : Result) (target : ℕ → FullOutcome) → now.calls ≤ c → ((j : ℕ) → now.calls ≤ j → (i : ℕ) × (c ≤ i) × (target i ≡ raised_to (run funs j) (if b' then Some n else handler_of x hs) x ws (Bound (one_label n xs t) env sc) fr (world_of now)))
@@ -221,7 +221,7 @@ try_follows funs k hs sc fr c n e xs t env below (Gives ws now) go target h next
 }
 try_follows funs k hs sc fr c n e xs t env below (Raises x ws now) go target h next =
     caught_follows funs k hs sc fr c n x (x == e) (nat_eq e x) (number-sym e x) xs ws t env below now (go ws now) target h.spent h.by (next ws now h.spent)
-try_follows funs k hs sc fr c n e xs t env below (Stops how now) go target h next = record { spent = h.spent; by = λ j le. h.by j le }
+try_follows funs k hs sc fr c n e xs t env below (Halts how now) go target h next = record { spent = h.spent; by = λ j le. h.by j le }
 
 -- ---- calls
 
@@ -233,13 +233,13 @@ label_goes next None e ws sc fr w = refl
 framed_goes : (next : Next) (l : ℕ) (hs : List Handler) (sc : Scope) (fr : Frames) (r : Result) → goes_on next None [] Top (Frame l hs sc fr) r ≡ goes_on next (Some l) hs sc fr r
 framed_goes next l hs sc fr (Gives ws now) = refl
 framed_goes next l hs sc fr (Raises e ws now) = label_goes next (handler_of e hs) e ws sc fr (world_of now)
-framed_goes next l hs sc fr (Stops how now) = refl
+framed_goes next l hs sc fr (Halts how now) = refl
 
 -- without: it is the caller's
 pub same_goes : (next : Next) (sc : Scope) (fr : Frames) (r : Result) → goes_on next None [] Top fr r ≡ goes_on next None [] sc fr r
 same_goes next sc fr (Gives ws now) = refl
 same_goes next sc fr (Raises e ws now) = refl
-same_goes next sc fr (Stops how now) = refl
+same_goes next sc fr (Halts how now) = refl
 
 -- an ending that comes to the same
 pub follows_same : {funs : List Fun} {k k' : Option ℕ} {hs hs' : List Handler} {sc sc' : Scope} {fr fr' : Frames} {c : ℕ} {r : Result} {target : ℕ → FullOutcome} → ((j : ℕ) → goes_on (run funs j) k hs sc fr r ≡ goes_on (run funs j) k' hs' sc' fr' r) → Follows funs k hs sc fr c r target → Follows funs k' hs' sc' fr' c r target
@@ -252,7 +252,7 @@ handed_follows funs hs sc fr c m back (Gives ws now) target many h = record {
   by = λ j le. let most : now.calls ≤ j = le in let a = h.by (suc j) (omega arith) in (a.0, a.1, a.2 ∙ back.by ws many j fr (world_of now));
 }
 handed_follows funs hs sc fr c m back (Raises e ws now) target many h = record { spent = h.spent; by = λ j le. h.by j le }
-handed_follows funs hs sc fr c m back (Stops how now) target many h = record { spent = h.spent; by = λ j le. h.by j le }
+handed_follows funs hs sc fr c m back (Halts how now) target many h = record { spent = h.spent; by = λ j le. h.by j le }
 
 call_follows : (funs : List Fun) (earlier : Bool) (f : ℕ) (bs : List Atom) (env : Env) (k : Option ℕ) (hs : List Handler) (sc : Scope) (fr : Frames) (c n m : ℕ) (w : World) (r : Result) → (k ≡ None → earlier ≡ false → hs ≡ []) → Backs funs k earlier n sc m → GivesMany m r → ((fr' : Frames) → Follows funs None [] Top fr' c r (λ i. run funs i (ToFun f (atom_words env bs) fr') w))
     → Follows funs k hs sc fr c r (λ i. does (run funs i) (call_term earlier f bs k hs) env sc fr w)

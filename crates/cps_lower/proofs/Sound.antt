@@ -140,7 +140,7 @@ place_more {w = w} {ss = ss} {r = r} {m = m} {n = n} {k = k} {hs = hs} {b = b} n
   back = back_more ss r n n' k b le p.back;
 }
 
--- behind a new label
+-- after a new label
 place_bound : {w : ℕ → ℕ} {ss : Scoped} {r m n : ℕ} {k : Option ℕ} {hs : List Handler} {tail b : Bool} (j n' : ℕ) → n ≤ n' → Place w ss r m n k hs tail b → Place w ((n, j) ∷ ss) r m n' k hs tail b
 place_bound {w = w} {ss = ss} {r = r} {m = m} {n = n} {k = k} {hs = hs} {b = b} j n' le p = record {
   to = receives_bound ss r m n n' j k le p.to;

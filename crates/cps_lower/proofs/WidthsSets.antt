@@ -44,7 +44,7 @@ without-both a b gone = record {
       (or_cases (is_in x a) (is_in x b) (sym (sets.in-append x a b) ∙ parts.0));
 }
 
--- behind a definition nothing more is wanted outside
+-- after a definition nothing more is wanted outside
 pub within-behind : {a : List ℕ} (out live gone : List ℕ) → IsWithin a (out ++ live) → IsWithin (without a gone) (out ++ without live gone)
 within-behind out live gone h =
     within-trans (within-gone gone h) (within-trans (without-both out live gone) (within-both (within-left (without live gone) (within-less out gone)) (within-second out (without live gone))))

@@ -7,7 +7,7 @@ ghost use Rattle.cps_lower.specs.inner.Lowered.{lowered_fun, lowered_body, varia
 ghost use Rattle.cps_lower.specs.inner.Lowered as inner;
 
 use crate::lowering::{lower_code, numbers};
-use crate::scan::{hands_on, variable_above, variable_behind};
+use crate::scan::{hands_on, variable_above, variable_after};
 use cps_ir::{Cont, CpsFun, Term};
 use flat_ir::FlatFun;
 use nv_base::{Atom, NoMemory};
@@ -27,7 +27,7 @@ pub fn lower_fun(alloc: Global, funs: &[FlatFun], f: &FlatFun) -> Result<CpsFun,
     })
 }
 
-// What a function does, behind the label that returns the words of its last calls where it has some.
+// What a function does, after the label that returns the words of its last calls where it has some.
 fn body_of(alloc: Global, funs: &[FlatFun], f: &FlatFun) -> Result<Term, NoMemory>
     ensures { IfOk result (λ t. term_view t ≡ lowered_body funs.now f.now (inner.hands_on funs.now f.now.group f.now.body)) }
 {
@@ -38,11 +38,11 @@ fn body_of(alloc: Global, funs: &[FlatFun], f: &FlatFun) -> Result<Term, NoMemor
     }
 }
 
-// What a function does behind a label that returns the words of its last calls.
+// What a function does after a label that returns the words of its last calls.
 fn handing_on(alloc: Global, funs: &[FlatFun], f: &FlatFun) -> Result<Term, NoMemory>
     ensures { IfOk result (λ t. term_view t ≡ lowered_body funs.now f.now true) }
 {
-    let first = variable_behind(&f.body, variable_above(&f.params)?)?;
+    let first = variable_after(&f.body, variable_above(&f.params)?)?;
     let label = returning(alloc, first, f.results)?;
     let mut conts = Vec::new(alloc);
     conts.push(label)?;

@@ -45,8 +45,8 @@ fn short_numbers(alloc: Global, xs: &[u32]) -> Result<Vars, NoMemory>
     Ok(Vars::from_slice(alloc, xs)?)
 }
 
-// Some handlers, and the others behind them.
-fn handlers_behind(mut v: Vec<(u16, u32)>, hs: &[(u16, u32)]) -> Result<Vec<(u16, u32)>, NoMemory>
+// Some handlers, and the others after them.
+fn handlers_after(mut v: Vec<(u16, u32)>, hs: &[(u16, u32)]) -> Result<Vec<(u16, u32)>, NoMemory>
     ensures { IfOk result (λ u. u.items ≡ v.items ++ hs.now) }
 {
     for h in hs {
@@ -66,7 +66,7 @@ fn handler_before(
 {
     let mut v = Vec::new(alloc);
     v.push((e, label))?;
-    handlers_behind(v, hs)
+    handlers_after(v, hs)
 }
 
 // The label that takes an exception.
@@ -114,7 +114,7 @@ fn call(
     ensures { IfOk result (λ u. term_view u ≡ call_term earlier f bs.now to hs.now) }
 {
     let words = atoms(alloc, bs)?;
-    let handlers = handlers_behind(Vec::new(alloc), hs)?;
+    let handlers = handlers_after(Vec::new(alloc), hs)?;
     match to {
         Some(l) => Ok(Term::Call(f, words, Some(l), handlers)),
         None => Ok(last_call(earlier, f, words, handlers)),

@@ -20,7 +20,7 @@ use nv_base::NoMemory;
 use std::alloc::Global;
 
 /// The continuation form of a flat program, which has its outcomes, is at most as wide, and has at most
-/// as much code. Want of memory is also the answer where a function would need 2^32 labels or variables.
+/// as much code. Memory exhaustion is also the answer where a function would need 2^32 labels or variables.
 pub fn lower(alloc: Global, f: &FlatProgram) -> Result<Cps, NoMemory>
     ensures kept { IfOk result (λ c. KeepsOutcomes (flat_params f.now.funs.items f.now.main) (params_in (map fun_view c.funs.items) c.main) (flat_meaning f.now.funs.items f.now.main) (cps_meaning (map fun_view c.funs.items) c.main)) }
     ensures wide { IfOk result (λ c. wide (map fun_view c.funs.items) c.main ≤ flat_wide f.now.funs.items f.now.main) }

@@ -47,7 +47,7 @@ pub fn hands_on(funs: &[FlatFun], own: u32, t: &Flat) -> bool
     }
 }
 
-/// The first variable behind all of these.
+/// The first variable after all of these.
 pub fn variable_above(xs: &[u32]) -> Result<u32, NoMemory>
     ensures { IfOk result (λ n. n ≡ inner.next_variable xs.now) }
 {
@@ -58,7 +58,7 @@ pub fn variable_above(xs: &[u32]) -> Result<u32, NoMemory>
     Ok(next)
 }
 
-// The greater of a number and the one behind another.
+// The greater of a number and the one after another.
 fn behind(next: u32, x: u32) -> Result<u32, NoMemory>
     ensures { IfOk result (λ n. n ≡ max next (x + 1)) }
 {
@@ -68,8 +68,8 @@ fn behind(next: u32, x: u32) -> Result<u32, NoMemory>
     }
 }
 
-/// The first variable behind a number and all that code defines.
-pub fn variable_behind(t: &Flat, least: u32) -> Result<u32, NoMemory>
+/// The first variable after a number and all that code defines.
+pub fn variable_after(t: &Flat, least: u32) -> Result<u32, NoMemory>
     ensures { IfOk result (λ n. n ≡ max least (inner.next_variable (defined t.now))) }
 {
     let mut next = least;
@@ -86,15 +86,15 @@ pub fn variable_behind(t: &Flat, least: u32) -> Result<u32, NoMemory>
             }
             Flat::Store(_, _, _, rest) => cur = rest,
             Flat::If(_, _, _, first, second) => {
-                next = variable_behind(first, next)?;
+                next = variable_after(first, next)?;
                 cur = second;
             }
             Flat::Bind(xs, first, rest) => {
-                next = variable_behind(first, greater(next, variable_above(xs)?))?;
+                next = variable_after(first, greater(next, variable_above(xs)?))?;
                 cur = rest;
             }
             Flat::Try(first, _, xs, handler) => {
-                next = variable_behind(first, greater(next, variable_above(xs)?))?;
+                next = variable_after(first, greater(next, variable_above(xs)?))?;
                 cur = handler;
             }
             Flat::Call(_, _) => return Ok(next),

@@ -109,7 +109,7 @@ let_scoped {σ} {τ} {M} {x} {p} {rest} a scoped named vars = record {
   unmarked = λ y i. scoped.unmarked y (in-rest y x (defined rest) i);
 }
 
--- what a tree behind a `Let` doesn't change
+-- what a tree after a `Let` doesn't change
 let_alike : {σ τ : Names} {M : Set} {x : ℕ} {p : Primitive} {rest : Tree} (a : Atom) (scoped : IsScoped σ M (Let x p rest)) → IsNamed σ x a τ → (ρ : Names) → Outside rest τ ρ → prim_renamed σ p ≡ prim_renamed ρ p
 let_alike {σ} {τ} {M} {x} {p} {rest} a scoped named ρ o =
     sym (prim_alike σ ρ p

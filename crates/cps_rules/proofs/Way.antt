@@ -99,7 +99,7 @@ still_different A σ t u (halt n bs) d = refl
 
 -- ---- what is live
 
--- a variable behind a definition comes from another one, if it isn't the defined one
+-- a variable after a definition comes from another one, if it isn't the defined one
 pub behind_let : (σ : Names) (x : ℕ) (a b : List ℕ) → (known : List ℕ) → Within a (image σ b) → (is_in x a ≡ true → ⊥) → (Within (atom_vars (σ x)) (x ∷ [])) → Within a (image σ (known ++ without b (x ∷ [])))
 behind_let σ x a b known h unused own =
     λ y e.

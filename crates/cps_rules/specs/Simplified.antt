@@ -50,7 +50,7 @@ is_same (Same a) = true
 is_same (UnaOf op a) = false
 is_same (BinOf op a b) = false
 
--- each variable that a `Let` defines is used behind it, and none is just another operand
+-- each variable that a `Let` defines is used after it, and none is just another operand
 abbrev pub IsTidy : Tree → Type 0
 IsTidy t = EachLet (λ x p rest. (is_in x (live rest) ≡ true) × (is_same p ≡ false)) t
 

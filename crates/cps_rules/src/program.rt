@@ -22,7 +22,7 @@ use std::alloc::Global;
 
 /// The flow with operands in the place of the variables that are the same as these, with the rule's answers,
 /// and without the definitions that nothing uses. Its outcomes within each number of jumps are equal, its
-/// accesses are kept, and it is neither wider nor larger. Want of memory is also the answer where it has 2^32
+/// accesses are kept, and it is neither wider nor larger. Memory exhaustion is also the answer where it has 2^32
 /// labels.
 pub fn simplify<R: Rewrite>(alloc: Global, f: Flow, r: &R) -> Result<Flow, NoMemory>
     requires ready { R.ready r.now }

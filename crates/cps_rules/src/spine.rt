@@ -12,7 +12,7 @@ use nv_base::NoMemory;
 use std::alloc::Global;
 
 /// The tree of these steps and then `last`, without each `Let` whose variable isn't marked and that nothing
-/// behind it uses. What the first parts of steps and `last` use is marked, and so is then all that the tree uses.
+/// after it uses. What the first parts of steps and `last` use is marked, and so is then all that the tree uses.
 pub fn joined(
     alloc: Global,
     marks: &mut Marks,

@@ -5,7 +5,7 @@ use Rattle.nv_base.specs.declared.term.Cmp.{Cmp}
 use Rattle.nv_base.specs.Memories.{Memories, fetched, stored}
 use Rattle.nv_base.specs.Words.{compares}
 use Rattle.nv_base.specs.Running.{Running}
-use Rattle.flat_ir.specs.Running.{Result, Gives, Raises, Stops, and_then, handled, fetch, after_fetch, store, after_store}
+use Rattle.flat_ir.specs.Running.{Result, Gives, Raises, Halts, and_then, handled, fetch, after_fetch, store, after_store}
 
 -- ---- what follows is the same
 
@@ -15,7 +15,7 @@ then-same q r next next' e h = at q ∙ ap (λ x. and_then x next') e
     at : (q : Result) → and_then q next ≡ and_then q next'
     at (Gives ws last) = h ws last
     at (Raises k ws last) = refl
-    at (Stops how last) = refl
+    at (Halts how last) = refl
 
 pub if-same : (b : Bool) (q q' r r' : Result) → q ≡ r → q' ≡ r' → (if b then q else q') ≡ (if b then r else r')
 if-same true q q' r r' g h = g
@@ -27,7 +27,7 @@ handled-same k next next' q r e h = at q ∙ ap (handled k next') e
     at : (q : Result) → handled k next q ≡ handled k next' q
     at (Gives ws last) = refl
     at (Raises j ws last) = if-same (j == k) (next ws last) (Raises j ws last) (next' ws last) (Raises j ws last) (h ws last) refl
-    at (Stops how last) = refl
+    at (Halts how last) = refl
 
 pub fetch-same : (m : Mem) (n at at' : ℕ) (now : Running) (next next' : List ℕ → Result) → at ≡ at' → ((ws : List ℕ) → next ws ≡ next' ws) → fetch m n at now next ≡ fetch m n at' now next'
 fetch-same m n at at' now next next' e h = after (fetched m at n now.packet) ∙ ap (λ x. fetch m n x now next') e

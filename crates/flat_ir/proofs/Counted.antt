@@ -10,7 +10,7 @@ use Rattle.flat_ir.specs.declared.flat.Flat.{Flat}
 use Rattle.flat_ir.specs.declared.flat.Flat.TheVariants.{Let', Fetch', Store', If', Bind', Call, Raise, Try', Give}
 use Rattle.flat_ir.specs.declared.flat.FlatFun.{FlatFun}
 use Rattle.nv_base.specs.Running.{Running}
-use Rattle.flat_ir.specs.Running.{Result, Gives, Raises, Stops, and_then, handled, after_fetch, after_store, taken}
+use Rattle.flat_ir.specs.Running.{Result, Gives, Raises, Halts, and_then, handled, after_fetch, after_store, taken}
 use Rattle.flat_ir.specs.Meaning.{Calls, does, blank, enter, calls_within}
 use Rattle.nv_base.specs.Access.{is_known, all_known, can_move, is_address, is_primitive}
 use Rattle.nv_base.specs.Sets.{all_different}
@@ -24,7 +24,7 @@ CallsMany funs call = (f : ℕ) (g : FlatFun) (ws : List ℕ) (now : Running) �
 then-many : (n : ℕ) (q : Result) (next : List ℕ → Running → Result) → ((ws : List ℕ) (last : Running) → GivesMany n (next ws last)) → GivesMany n (and_then q next)
 then-many n (Gives ws last) next h = h ws last
 then-many n (Raises k ws last) next h = tt
-then-many n (Stops how last) next h = tt
+then-many n (Halts how last) next h = tt
 
 if-many : (b : Bool) (n : ℕ) (q r : Result) → GivesMany n q → GivesMany n r → GivesMany n (if b then q else r)
 if-many true n q r g h = g
@@ -33,7 +33,7 @@ if-many false n q r g h = h
 handled-many : (k n : ℕ) (handler : List ℕ → Running → Result) (q : Result) → GivesMany n q → ((ws : List ℕ) (last : Running) → GivesMany n (handler ws last)) → GivesMany n (handled k handler q)
 handled-many k n handler (Gives ws last) g h = g
 handled-many k n handler (Raises j ws last) g h = if-many (j == k) n (handler ws last) (Raises j ws last) (h ws last) tt
-handled-many k n handler (Stops how last) g h = tt
+handled-many k n handler (Halts how last) g h = tt
 
 fetch-many : (m : Mem) (at n : ℕ) (found : Option (List ℕ)) (now : Running) (next : List ℕ → Result) → ((ws : List ℕ) → GivesMany n (next ws)) → GivesMany n (after_fetch m at found now next)
 fetch-many m at n (Some ws) now next h = h ws

@@ -8,7 +8,7 @@ use Rattle.flat_ir.specs.declared.flat.Flat.{Flat}
 use Rattle.flat_ir.specs.declared.flat.Flat.TheVariants.{Let', Fetch', Store', If', Bind', Call, Raise, Try', Give}
 use Rattle.flat_ir.specs.declared.flat.FlatFun.{FlatFun}
 use Rattle.nv_base.specs.Running.{Running}
-use Rattle.flat_ir.specs.Running.{Result, Gives, Raises, Stops, and_then, handled, after_fetch, after_store, taken}
+use Rattle.flat_ir.specs.Running.{Result, Gives, Raises, Halts, and_then, handled, after_fetch, after_store, taken}
 use Rattle.flat_ir.specs.Meaning.{Calls, does, blank, enter, calls_within}
 use Rattle.flat_ir.proofs.Growth.{now_of}
 use Rattle.flat_ir.proofs.Agreement.{if-same}
@@ -23,7 +23,7 @@ Using call = (n f : ℕ) (ws : List ℕ) (now : Running) → now.calls ≤ n →
 left-then : (n : ℕ) (q : Result) (next : List ℕ → Running → Result) → Left n q → ((ws : List ℕ) (last : Running) → last.calls ≤ n → Left n (next ws last)) → Left n (and_then q next)
 left-then n (Gives ws last) next g h = h ws last g
 left-then n (Raises k ws last) next g h = g
-left-then n (Stops how last) next g h = g
+left-then n (Halts how last) next g h = g
 
 left-if : (b : Bool) (n : ℕ) (q r : Result) → Left n q → Left n r → Left n (if b then q else r)
 left-if true n q r g h = g
@@ -32,7 +32,7 @@ left-if false n q r g h = h
 left-handled : (k n : ℕ) (handler : List ℕ → Running → Result) (q : Result) → Left n q → ((ws : List ℕ) (last : Running) → last.calls ≤ n → Left n (handler ws last)) → Left n (handled k handler q)
 left-handled k n handler (Gives ws last) g h = g
 left-handled k n handler (Raises j ws last) g h = left-if (j == k) n (handler ws last) (Raises j ws last) (h ws last g) g
-left-handled k n handler (Stops how last) g h = g
+left-handled k n handler (Halts how last) g h = g
 
 left-fetch : (m : Mem) (at n : ℕ) (found : Option (List ℕ)) (now : Running) (next : List ℕ → Result) → now.calls ≤ n → ((ws : List ℕ) → Left n (next ws)) → Left n (after_fetch m at found now next)
 left-fetch m at n (Some ws) now next le h = h ws
@@ -82,7 +82,7 @@ then-deep n q r next next' e le h = here q le ∙ ap (λ x. and_then x next') e
     here : (q : Result) → Left n q → and_then q next ≡ and_then q next'
     here (Gives ws last) le = h ws last le
     here (Raises k ws last) le = refl
-    here (Stops how last) le = refl
+    here (Halts how last) le = refl
 
 handled-deep : (k n : ℕ) (next next' : List ℕ → Running → Result) (q r : Result) → q ≡ r → Left n q → ((ws : List ℕ) (last : Running) → last.calls ≤ n → next ws last ≡ next' ws last) → handled k next q ≡ handled k next' r
 handled-deep k n next next' q r e le h = here q le ∙ ap (handled k next') e
@@ -90,7 +90,7 @@ handled-deep k n next next' q r e le h = here q le ∙ ap (handled k next') e
     here : (q : Result) → Left n q → handled k next q ≡ handled k next' q
     here (Gives ws last) le = refl
     here (Raises j ws last) le = if-same (j == k) (next ws last) (Raises j ws last) (next' ws last) (Raises j ws last) (h ws last le) refl
-    here (Stops how last) le = refl
+    here (Halts how last) le = refl
 
 fetch-deep : (m : Mem) (at : ℕ) (found : Option (List ℕ)) (now : Running) (next next' : List ℕ → Result) → ((ws : List ℕ) → next ws ≡ next' ws) → after_fetch m at found now next ≡ after_fetch m at found now next'
 fetch-deep m at (Some ws) now next next' h = h ws
@@ -129,7 +129,7 @@ taken-deep : (left d e : ℕ) (now : Running) (next next' : Running → Result) 
 taken-deep zero d e now next next' p q h = refl
 taken-deep (suc left) d e now next next' p q h = h (record { calls = left; packet = now.packet; writes = now.writes }) (omega arith) (omega arith)
 
-none-left : (left : ℕ) (now : Running) (next : Running → Result) → left ≤ 0 → taken left now next ≡ Stops Going now
+none-left : (left : ℕ) (now : Running) (next : Running → Result) → left ≤ 0 → taken left now next ≡ Halts Going now
 none-left zero now next le = refl
 none-left (suc left) now next le = absurd (omega arith)
 

@@ -10,7 +10,7 @@ use Rattle.nv_base.proofs.Accesses.{with_store, store-follows}
 use Rattle.flat_ir.specs.declared.flat.Flat.{Flat}
 use Rattle.flat_ir.specs.declared.flat.Flat.TheVariants.{Let', Fetch', Store', If', Bind', Call, Raise, Try', Give}
 use Rattle.flat_ir.specs.declared.flat.FlatFun.{FlatFun}
-use Rattle.flat_ir.specs.Running.{Result, Gives, Raises, Stops, and_then, handled, after_fetch, after_store, taken, closed}
+use Rattle.flat_ir.specs.Running.{Result, Gives, Raises, Halts, and_then, handled, after_fetch, after_store, taken, closed}
 use Rattle.flat_ir.specs.Meaning.{Calls, does, blank, enter, calls_within, flat_meaning}
 use Rattle.flat_ir.proofs.Growth.{now_of}
 
@@ -27,7 +27,7 @@ Following p call = (f : ℕ) (ws : List ℕ) (now : Running) → Follows p now �
 follow-then : (p : Memories) (q : Result) (next : List ℕ → Running → Result) → FollowsIn p q → ((ws : List ℕ) (last : Running) → Follows p last → FollowsIn p (next ws last)) → FollowsIn p (and_then q next)
 follow-then p (Gives ws last) next g h = h ws last g
 follow-then p (Raises k ws last) next g h = g
-follow-then p (Stops how last) next g h = g
+follow-then p (Halts how last) next g h = g
 
 follow-if : (b : Bool) (p : Memories) (q r : Result) → FollowsIn p q → FollowsIn p r → FollowsIn p (if b then q else r)
 follow-if true p q r g h = g
@@ -36,7 +36,7 @@ follow-if false p q r g h = h
 follow-handled : (k : ℕ) (p : Memories) (handler : List ℕ → Running → Result) (q : Result) → FollowsIn p q → ((ws : List ℕ) (last : Running) → Follows p last → FollowsIn p (handler ws last)) → FollowsIn p (handled k handler q)
 follow-handled k p handler (Gives ws last) g h = g
 follow-handled k p handler (Raises j ws last) g h = follow-if (j == k) p (handler ws last) (Raises j ws last) (h ws last g) g
-follow-handled k p handler (Stops how last) g h = g
+follow-handled k p handler (Halts how last) g h = g
 
 follow-fetch : (m : Mem) (at : ℕ) (p : Memories) (found : Option (List ℕ)) (now : Running) (next : List ℕ → Result) → Follows p now → ((ws : List ℕ) → FollowsIn p (next ws)) → FollowsIn p (after_fetch m at found now next)
 follow-fetch m at p (Some ws) now next g h = h ws
@@ -80,7 +80,7 @@ calls-follow p (suc depth) funs f ws now h =
 follow-closed : (p : Memories) (r : Result) → FollowsIn p r → (closed r).packet ≡ left_by (closed r).writes p
 follow-closed p (Gives ws now) h = h
 follow-closed p (Raises k ws now) h = h
-follow-closed p (Stops how now) h = h
+follow-closed p (Halts how now) h = h
 
 pub meaning-follows : (funs : List FlatFun) (main : ℕ) (args : List ℕ) (p : Memories) → FollowsAll p (flat_meaning funs main args p)
 meaning-follows funs main args p = λ i.

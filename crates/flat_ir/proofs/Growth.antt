@@ -4,14 +4,14 @@ use Rattle.nv_base.specs.declared.outcome.Outcome.TheVariants.{Going}
 use Rattle.nv_base.specs.declared.term.Mem.{Mem}
 use Rattle.nv_base.specs.Memories.{Memories, fetched, stored}
 use Rattle.nv_base.specs.Meanings.{IsPrefix}
-use Rattle.nv_base.specs.Progress.{Before, Grows}
+use Rattle.nv_base.specs.Progress.{Before, IsMonotone}
 use Rattle.nv_base.specs.Words.{Env, assigned, assigned_all, atom_word, atom_words, prim_word, compares}
-use Rattle.nv_base.proofs.Same.{prefix-refl, prefix-trans, before-equal, before-going, grows_by_steps}
+use Rattle.nv_base.proofs.Same.{prefix-refl, prefix-trans, before-equal, before-going, monotone_by_steps}
 use Rattle.flat_ir.specs.declared.flat.Flat.{Flat}
 use Rattle.flat_ir.specs.declared.flat.Flat.TheVariants.{Let', Fetch', Store', If', Bind', Call, Raise, Try', Give}
 use Rattle.flat_ir.specs.declared.flat.FlatFun.{FlatFun}
 use Rattle.nv_base.specs.Running.{Running}
-use Rattle.flat_ir.specs.Running.{Result, Gives, Raises, Stops, and_then, handled, after_fetch, after_store, taken, closed}
+use Rattle.flat_ir.specs.Running.{Result, Gives, Raises, Halts, and_then, handled, after_fetch, after_store, taken, closed}
 use Rattle.flat_ir.specs.Meaning.{Calls, does, blank, enter, calls_within, flat_meaning}
 
 -- ---- writes are only added
@@ -19,7 +19,7 @@ use Rattle.flat_ir.specs.Meaning.{Calls, does, blank, enter, calls_within, flat_
 abbrev pub now_of : Result → Running
 now_of (Gives ws now) = now
 now_of (Raises k ws now) = now
-now_of (Stops how now) = now
+now_of (Halts how now) = now
 
 abbrev pub Grown : Running → Result → Type 0
 Grown now r = IsPrefix now.writes (now_of r).writes
@@ -33,7 +33,7 @@ grown-further a b r p g = prefix-trans a.writes b.writes (now_of r).writes p g
 grown-then : (now : Running) (q : Result) (next : List ℕ → Running → Result) → Grown now q → ((ws : List ℕ) (last : Running) → Grown last (next ws last)) → Grown now (and_then q next)
 grown-then now (Gives ws last) next g h = grown-further now last (next ws last) g (h ws last)
 grown-then now (Raises k ws last) next g h = g
-grown-then now (Stops how last) next g h = g
+grown-then now (Halts how last) next g h = g
 
 grown-if : (b : Bool) (now : Running) (q r : Result) → Grown now q → Grown now r → Grown now (if b then q else r)
 grown-if true now q r g h = g
@@ -42,7 +42,7 @@ grown-if false now q r g h = h
 grown-handled : (k : ℕ) (now : Running) (handler : List ℕ → Running → Result) (q : Result) → Grown now q → ((ws : List ℕ) (last : Running) → Grown last (handler ws last)) → Grown now (handled k handler q)
 grown-handled k now handler (Gives ws last) g h = g
 grown-handled k now handler (Raises j ws last) g h = grown-if (j == k) now (handler ws last) (Raises j ws last) (grown-further now last (handler ws last) g (h ws last)) g
-grown-handled k now handler (Stops how last) g h = g
+grown-handled k now handler (Halts how last) g h = g
 
 grown-fetch : (m : Mem) (at : ℕ) (found : Option (List ℕ)) (now : Running) (next : List ℕ → Result) → ((ws : List ℕ) → Grown now (next ws)) → Grown now (after_fetch m at found now next)
 grown-fetch m at (Some ws) now next h = h ws
@@ -90,7 +90,7 @@ more now = record { calls = suc now.calls; packet = now.packet; writes = now.wri
 abbrev pub Further : Result → Result → Type 0
 Further (Gives ws now) r = r ≡ Gives ws (more now)
 Further (Raises k ws now) r = r ≡ Raises k ws (more now)
-Further (Stops how now) r = (r ≡ Stops how (more now)) ⊎ ((how ≡ Going) × Grown now r)
+Further (Halts how now) r = (r ≡ Halts how (more now)) ⊎ ((how ≡ Going) × Grown now r)
 
 abbrev pub CallsFurther : Calls → Calls → Type 0
 CallsFurther call call' = (f : ℕ) (ws : List ℕ) (now : Running) → Further (call f ws now) (call' f ws (more now))
@@ -102,8 +102,8 @@ further-then : (q r : Result) (next next' : List ℕ → Running → Result) →
     → ((ws : List ℕ) (last : Running) → Further (next ws last) (next' ws (more last))) → ((ws : List ℕ) (last : Running) → Grown last (next' ws last)) → Further (and_then q next) (and_then r next')
 further-then (Gives ws last) r next next' h further grows = further-along (next ws last) (and_then r next') (next' ws (more last)) (ap (λ x. and_then x next') h) (further ws last)
 further-then (Raises k ws last) r next next' h further grows = ap (λ x. and_then x next') h
-further-then (Stops how last) r next next' (inl e) further grows = inl (ap (λ x. and_then x next') e)
-further-then (Stops how last) r next next' (inr p) further grows = inr (p.0, grown-then last r next' p.1 grows)
+further-then (Halts how last) r next next' (inl e) further grows = inl (ap (λ x. and_then x next') e)
+further-then (Halts how last) r next next' (inr p) further grows = inr (p.0, grown-then last r next' p.1 grows)
 
 further-if : (b : Bool) (q q' r r' : Result) → Further q r → Further q' r' → Further (if b then q else q') (if b then r else r')
 further-if true q q' r r' g h = g
@@ -115,8 +115,8 @@ further-handled k handler handler' (Gives ws last) r h further grows = ap (handl
 further-handled k handler handler' (Raises j ws last) r h further grows =
     further-along (handled k handler (Raises j ws last)) (handled k handler' r) (handled k handler' (Raises j ws (more last))) (ap (handled k handler') h)
     (further-if (j == k) (handler ws last) (Raises j ws last) (handler' ws (more last)) (Raises j ws (more last)) (further ws last) refl)
-further-handled k handler handler' (Stops how last) r (inl e) further grows = inl (ap (handled k handler') e)
-further-handled k handler handler' (Stops how last) r (inr p) further grows = inr (p.0, grown-handled k last handler' r p.1 grows)
+further-handled k handler handler' (Halts how last) r (inl e) further grows = inl (ap (handled k handler') e)
+further-handled k handler handler' (Halts how last) r (inr p) further grows = inr (p.0, grown-handled k last handler' r p.1 grows)
 
 further-fetch : (m : Mem) (at : ℕ) (found : Option (List ℕ)) (now : Running) (next next' : List ℕ → Result) → ((ws : List ℕ) → Further (next ws) (next' ws)) → Further (after_fetch m at found now next) (after_fetch m at found (more now) next')
 further-fetch m at (Some ws) now next next' h = h ws
@@ -168,17 +168,17 @@ calls-further (suc depth) funs f ws now =
 closed-writes : (r : Result) → (closed r).writes ≡ (now_of r).writes
 closed-writes (Gives ws now) = refl
 closed-writes (Raises k ws now) = refl
-closed-writes (Stops how now) = refl
+closed-writes (Halts how now) = refl
 
 closed-before : (q r : Result) → Further q r → Before (closed q) (closed r)
 closed-before (Gives ws now) r h = before-equal _ _ (sym (ap closed h))
 closed-before (Raises k ws now) r h = before-equal _ _ (sym (ap closed h))
-closed-before (Stops how now) r (inl e) = before-equal _ _ (sym (ap closed e))
-closed-before (Stops how now) r (inr p) = before-going _ _ p.0 (subst (IsPrefix now.writes) (sym (closed-writes r)) p.1)
+closed-before (Halts how now) r (inl e) = before-equal _ _ (sym (ap closed e))
+closed-before (Halts how now) r (inr p) = before-going _ _ p.0 (subst (IsPrefix now.writes) (sym (closed-writes r)) p.1)
 
 -- with more calls a run comes at least as far
-pub meaning-grows : (funs : List FlatFun) (main : ℕ) (args : List ℕ) (p : Memories) → Grows (flat_meaning funs main args p)
+pub meaning-grows : (funs : List FlatFun) (main : ℕ) (args : List ℕ) (p : Memories) → IsMonotone (flat_meaning funs main args p)
 meaning-grows funs main args p =
-    grows_by_steps (flat_meaning funs main args p)
+    monotone_by_steps (flat_meaning funs main args p)
     (λ i. closed-before (enter (calls_within i funs) (slice_get funs main) args (record { calls = i; packet = p; writes = [] })) (enter (calls_within (suc i) funs) (slice_get funs main) args (record { calls = suc i; packet = p; writes = [] }))
     (enter-further (calls_within i funs) (calls_within (suc i) funs) (calls-further i funs) (calls-grow (suc i) funs) (slice_get funs main) args (record { calls = i; packet = p; writes = [] })))

@@ -87,7 +87,7 @@ call-more : (w : Widths) (own m n : ℕ) (o : Option FlatFun) → m ≤ n → ca
 call-more w own m n (Some f) le = call-if (nat_lt f.group own) m n (max (w f.group) (f.results + 1)) le
 call-more w own m n None le = omega arith
 
--- a first part, and the rest or handler behind it
+-- a first part, and the rest or handler after it
 part-more : (funs : List FlatFun) (w : Widths) (own : ℕ) (o o' behind xs : List ℕ) (t u : Flat) → Within o o' → ((p p' : List ℕ) → Within p p' → code_wide funs w own p t ≤ code_wide funs w own p' t) → code_wide funs w own o u ≤ code_wide funs w own o' u
     → max (max (code_wide funs w own (o ++ without behind xs) t) (entry_wide (o ++ without behind xs) (length xs))) (code_wide funs w own o u) ≤ max (max (code_wide funs w own (o' ++ without behind xs) t) (entry_wide (o' ++ without behind xs) (length xs))) (code_wide funs w own o' u)
 part-more funs w own o o' behind xs t u h first rest =

@@ -12,7 +12,7 @@ use Rattle.flat_ir.specs.declared.flat.Flat.TheVariants.{Let', Fetch', Store', I
 use Rattle.flat_ir.specs.declared.flat.FlatFun.{FlatFun}
 use Rattle.flat_ir.specs.Counts.{HoldsWords}
 use Rattle.flat_ir.specs.Formed.{is_formed, is_program}
-use Rattle.flat_ir.specs.Running.{Result, Gives, Raises, Stops, and_then, handled, after_fetch, after_store, taken}
+use Rattle.flat_ir.specs.Running.{Result, Gives, Raises, Halts, and_then, handled, after_fetch, after_store, taken}
 use Rattle.flat_ir.specs.Meaning.{Calls, does, blank, enter, calls_within}
 use Rattle.flat_ir.proofs.Counted.{body-formed}
 use Rattle.flat_ir.proofs.FormedParts.{let-parts, fetch-parts, store-parts, if-parts, bind-parts, try-parts}
@@ -26,7 +26,7 @@ Next next = (ws : List ℕ) (last : Running) → All IsWord ws → HasSizes last
 words-then : (q : Result) (next : List ℕ → Running → Result) → HoldsWords q → Next next → HoldsWords (and_then q next)
 words-then (Gives ws last) next g h = h ws last g.0 g.1
 words-then (Raises k ws last) next g h = g
-words-then (Stops how last) next g h = g
+words-then (Halts how last) next g h = g
 
 words-if : (b : Bool) (q r : Result) → HoldsWords q → HoldsWords r → HoldsWords (if b then q else r)
 words-if true q r g h = g
@@ -35,7 +35,7 @@ words-if false q r g h = h
 words-handled : (k : ℕ) (handler : List ℕ → Running → Result) (q : Result) → HoldsWords q → Next handler → HoldsWords (handled k handler q)
 words-handled k handler (Gives ws last) g h = g
 words-handled k handler (Raises j ws last) g h = words-if (j == k) (handler ws last) (Raises j ws last) (h ws last g.0 g.1) g
-words-handled k handler (Stops how last) g h = g
+words-handled k handler (Halts how last) g h = g
 
 words-fetch : (m : Mem) (at n : ℕ) (found : Option (List ℕ)) (now : Running) (next : List ℕ → Result) → fetched m at n now.packet ≡ found → HasSizes now.packet → ((ws : List ℕ) → All IsWord ws → HoldsWords (next ws))
     → HoldsWords (after_fetch m at found now next)

@@ -39,7 +39,7 @@ abbrev pub sum_bulk : List FlatFun → Bulks → ℕ → List FlatFun → Bulk
 sum_bulk funs w group [] = nothing
 sum_bulk funs w group (f ∷ fs) = both (if f.group == group then function_bulk funs w f else nothing) (sum_bulk funs w group fs)
 
--- the bulks of groups by a recursion of so many steps, each of which is a call of an earlier group. A group's number and 1 are enough
+-- the bulks of groups by a recursion of N steps, each of which is a call of an earlier group. A group's number and 1 are enough
 -- for it, since each such call leads to a lower number.
 abbrev pub bulks_within : List FlatFun → ℕ → Bulks
 bulks_within funs zero group = nothing

@@ -25,7 +25,7 @@ defined (Give bs) = []
 abbrev pub may_stand : Bool → ℕ → ℕ → Bool
 may_stand tail own group = if tail then nat_le group own else nat_lt group own
 
--- in a group of this number: there is such a function, which takes so many words and gives so many
+-- in a group of this number: there is such a function, which takes N words and gives so many
 abbrev pub can_call : ℕ → Bool → ℕ → ℕ → Option FlatFun → Bool
 can_call own tail given wanted (Some f) = (length f.params.items == given) && ((f.results == wanted) && may_stand tail own f.group)
 can_call own tail given wanted None = false

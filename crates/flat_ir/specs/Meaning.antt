@@ -8,7 +8,7 @@ use Rattle.flat_ir.specs.declared.flat.Flat.{Flat}
 use Rattle.flat_ir.specs.declared.flat.Flat.TheVariants.{Let', Fetch', Store', If', Bind', Call, Raise, Try', Give}
 use Rattle.flat_ir.specs.declared.flat.FlatFun.{FlatFun}
 use Rattle.nv_base.specs.Running.{Running}
-use Rattle.flat_ir.specs.Running.{Result, Gives, Raises, Stops, and_then, handled, fetch, store, taken, closed}
+use Rattle.flat_ir.specs.Running.{Result, Gives, Raises, Halts, and_then, handled, fetch, store, taken, closed}
 
 -- what a call of a function, by its number, with these words comes to
 abbrev pub Calls : Type 0
@@ -33,12 +33,12 @@ blank = λ x. 0
 -- what the body of a function comes to; a call of no function is going for ever
 abbrev pub enter : Calls → Option FlatFun → List ℕ → Running → Result
 enter call (Some f) ws now = does call f.body (assigned_all blank f.params.items ws) now
-enter call None ws now = Stops outcome.Going now
+enter call None ws now = Halts outcome.Going now
 
 -- calls that lie at most so deep in one another. The n calls of a run are counted in the run itself, wherever they stand,
 -- and n calls never lie deeper than n.
 abbrev pub calls_within : ℕ → List FlatFun → Calls
-calls_within zero funs f ws now = Stops outcome.Going now
+calls_within zero funs f ws now = Halts outcome.Going now
 calls_within (suc depth) funs f ws now = taken now.calls now (λ next. enter (calls_within depth funs) (slice_get funs f) ws next)
 
 -- the meaning of a program on these words and memories: its full outcome for each number of calls; the start of main takes none

@@ -54,7 +54,7 @@ abbrev pub steps_raised : List Step → List (ℕ × ℕ)
 steps_raised [] = []
 steps_raised (s ∷ ss) = step_raised s ++ steps_raised ss
 
--- ---- the live variables before a step, where these are live behind it
+-- ---- the live variables before a step, where these are live after it
 
 abbrev pub step_live : Step → List ℕ → List ℕ
 step_live (Let x a) behind = prim_vars a ++ without behind (x ∷ [])
@@ -66,7 +66,7 @@ abbrev pub steps_live : List Step → List ℕ → List ℕ
 steps_live [] behind = behind
 steps_live (s ∷ ss) behind = step_live s (steps_live ss behind)
 
--- ---- the greatest width of a step's places, where some variables are live outside of the code and some behind the step
+-- ---- the greatest width of a step's places, where some variables are live outside of the code and some after the step
 
 abbrev pub step_wide : List FlatFun → Widths → ℕ → List ℕ → Step → List ℕ → ℕ
 step_wide funs w own outside (Let x a) behind = let_wide (outside ++ (prim_vars a ++ without behind (x ∷ [])))
@@ -75,7 +75,7 @@ step_wide funs w own outside (Store m a bs) behind = operands_wide (outside ++ b
 step_wide funs w own outside (Bind xs t) behind =
     let held = outside ++ without behind xs.items in max (code_wide funs w own held t) (entry_wide held (length xs.items))
 
--- the same of steps, and of code behind them that is so wide
+-- the same of steps, and of code after them that is so wide
 abbrev pub steps_wide : List FlatFun → Widths → ℕ → List ℕ → List Step → List ℕ → ℕ → ℕ
 steps_wide funs w own outside [] behind n = n
 steps_wide funs w own outside (s ∷ ss) behind n = max (step_wide funs w own outside s (steps_live ss behind)) (steps_wide funs w own outside ss behind n)
@@ -88,7 +88,7 @@ step_bulk funs w own (Fetch m xs a) = a_node (length xs.items) 1
 step_bulk funs w own (Store m a bs) = a_node 0 (1 + length bs.items)
 step_bulk funs w own (Bind xs t) = both a_label (code_bulk funs w own false t)
 
--- of steps, and of code behind them that has this bulk
+-- of steps, and of code after them that has this bulk
 abbrev pub steps_bulk : List FlatFun → Bulks → ℕ → List Step → Bulk → Bulk
 steps_bulk funs w own [] b = b
 steps_bulk funs w own (s ∷ ss) b = both (step_bulk funs w own s) (steps_bulk funs w own ss b)

@@ -24,14 +24,14 @@ abbrev pub steps_do : Calls → List Step → Act → Act
 steps_do call [] rest = rest
 steps_do call (s ∷ ss) rest = step_does call s (steps_do call ss rest)
 
--- the second is the node of the step with the first behind it, wherever its boxes lie
+-- the second is the node of the step with the first after it, wherever its boxes lie
 abbrev pub IsNode : Step → Flat → Flat → Type 0
 IsNode (Let x a) t u = (q : _) × (u ≡ Let' x a q t)
 IsNode (Fetch m xs a) t u = (q : _) × (u ≡ Fetch' m xs a q t)
 IsNode (Store m a bs) t u = (q : _) × (u ≡ Store' m a bs q t)
 IsNode (Bind xs first) t u = (q : _) × (r : _) × (u ≡ Bind' xs q first r t)
 
--- the second is the nodes of the steps with the first behind them
+-- the second is the nodes of the steps with the first after them
 abbrev pub AreNodes : List Step → Flat → Flat → Type 0
 AreNodes [] end t = t ≡ end
 AreNodes (s ∷ ss) end t = (u : Flat) × AreNodes ss end u × IsNode s u t

@@ -59,7 +59,7 @@ abbrev pub greatest_wide : List FlatFun → Widths → ℕ → List FlatFun → 
 greatest_wide funs w group [] = 0
 greatest_wide funs w group (f ∷ fs) = max (if f.group == group then function_wide funs w f else 0) (greatest_wide funs w group fs)
 
--- the widths of groups by a recursion of so many steps, each of which is a call of an earlier group. A group's number and 1 are enough
+-- the widths of groups by a recursion of N steps, each of which is a call of an earlier group. A group's number and 1 are enough
 -- for it, since each such call leads to a lower number.
 abbrev pub widths_within : List FlatFun → ℕ → Widths
 widths_within funs zero group = 0

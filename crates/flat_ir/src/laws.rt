@@ -1,7 +1,7 @@
 //! Laws of the definitions in specs/: each is the contract of a function that does nothing.
 ghost use Rattle.std.specs.Prelude.{◌≡◌, ◌≤◌, ◌+◌, ◌&&◌, ℕ, Bool, true, List, ◌++◌, All, Some, slice_get, length};
 ghost use Rattle.nv_base.specs.Memories.{Memories, HasSizes};
-ghost use Rattle.nv_base.specs.Progress.{Grows, FollowsAll};
+ghost use Rattle.nv_base.specs.Progress.{IsMonotone, FollowsAll};
 ghost use Rattle.nv_base.specs.Words.{Env, IsEnv, IsWord};
 ghost use Rattle.nv_base.specs.Sets.{AgreeOn, is_in, all_different, different};
 ghost use Rattle.flat_ir.specs.Counts.{GivesMany, HoldsWords};
@@ -28,7 +28,7 @@ pub fn words_are_as_many_as_said()
 /// With more calls a run only goes on: an outcome stays, and the writes before are the first ones of
 /// those after.
 pub fn more_calls_go_on()
-    ensures { (funs : List FlatFun) (main : ℕ) (args : List ℕ) (p : Memories) → Grows (flat_meaning funs main args p) }
+    ensures { (funs : List FlatFun) (main : ℕ) (args : List ℕ) (p : Memories) → IsMonotone (flat_meaning funs main args p) }
 {}
 
 /// How deep calls may lie in one another doesn't matter, where it is at least the calls that are left.

@@ -7,7 +7,7 @@ use crate::flat::Flat;
 use nv_base::{Args, Atom, Mem, Prim, Vars};
 use std::alloc::{AllocError, Global};
 
-/// A node with one piece of code behind it.
+/// A node with one piece of code after it.
 #[derive(Drop)]
 pub enum Step {
     Let(u32, Prim),

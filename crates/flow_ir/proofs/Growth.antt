@@ -2,7 +2,7 @@
 use Rattle.std.proofs.Common.{◌≡◌, ℕ, zero, suc, ◌≤◌, List, Option, Some, None, refl, arith, slice_get, length}
 use Rattle.nv_base.specs.Memories.{Memories}
 use Rattle.nv_base.specs.Meanings.{FullOutcome, IsPrefix}
-use Rattle.nv_base.specs.Progress.{Grows}
+use Rattle.nv_base.specs.Progress.{IsMonotone}
 use Rattle.nv_base.specs.Words.{Env, assigned, assigned_all, atom_word, atom_words, prim_word, compares}
 use Rattle.nv_base.specs.World.{World, begun, over, ended}
 use Rattle.nv_base.proofs.Same.{prefix-refl}
@@ -35,5 +35,5 @@ run-grows labels zero n le l ws w = gets-going w (run labels n l ws w) (run-adds
 run-grows labels (suc m) zero le l ws w = absurd (omega arith)
 run-grows labels (suc m) (suc n) le l ws w = kept-enter Gets gets-kept (run labels m) (run labels n) (run-grows labels m n (omega arith)) (slice_get labels l) ws w
 
-pub meaning-grows : (labels : List Label) (args : List ℕ) (p : Memories) → Grows (flow_meaning labels args p)
+pub meaning-grows : (labels : List Label) (args : List ℕ) (p : Memories) → IsMonotone (flow_meaning labels args p)
 meaning-grows labels args p m n le = kept-enter Gets gets-kept (run labels m) (run labels n) (run-grows labels m n le) (slice_get labels 0) args (begun p)

@@ -8,7 +8,7 @@ use crate::flow::Tree;
 use nv_base::{Args, Atom, Cmp, Mem, Prim, Vars};
 use std::alloc::{AllocError, Global};
 
-/// A node without the tree behind it.
+/// A node without the tree after it.
 #[derive(Drop)]
 pub enum Step {
     Let(u32, Prim),

@@ -4,10 +4,10 @@ use Rattle.std.specs.List.{AllByRecursion}
 use Rattle.std.proofs.lemmas.Bool.{cases_lt, lt-ltb, le-ltb}
 use Rattle.std.proofs.lemmas.List.{length-append}
 use Rattle.ssu_ir.specs.Tree.{Label, Lit, Una, Bin, Clone, Read, Write, Does, Forks, Ends}
-use Rattle.ssu_ir.specs.Points.{Place, Entry, At, Point, points, points_from, label_points}
-use Rattle.slot_placement.specs.Costs.{value_cost, use_cost, values_cost, uses_cost}
-use Rattle.slot_placement.specs.Plan.{Plan}
-use Rattle.slot_placement.specs.Uses.{Sort, Value, numbered, place_values, values_from, values, Role, Use, uses_at, place_roles, uses_from, uses}
+use Rattle.ssu_ir.specs.Points.{PointKind, Entry, At, Point, points, points_from, label_points}
+use Rattle.placement.specs.Costs.{value_cost, use_cost, values_cost, uses_cost}
+use Rattle.placement.specs.Plan.{Plan}
+use Rattle.placement.specs.Uses.{ValueOrigin, Value, numbered, place_values, values_from, values, Role, Use, uses_at, place_roles, uses_from, uses}
 use Rattle.label_weights.specs.ByLabel.{label_from, label_cost}
 use Rattle.label_weights.specs.Weighted.{weight_of, point_weight, values_weighted, uses_weighted, weighted_cost, labels_weighted}
 use Rattle.label_weights.proofs.Summed.{summed, weighed, those, by_labels, by_each}
@@ -38,11 +38,11 @@ label_within l n (x ∷ ls) k le lt =
     omega (arith, later, rest))
     (cases_lt k next)
 
-numbered_within : (m k : ℕ) (sort : ℕ → Sort) (i : ℕ) (xs : List ℕ) → k < m → AllByRecursion (λ (v : Value). v.point < m) (numbered k sort i xs)
-numbered_within m k sort i [] lt = tt
-numbered_within m k sort i (x ∷ xs) lt = (lt, numbered_within m k sort (suc i) xs lt)
+numbered_within : (m k : ℕ) (origin : ℕ → ValueOrigin) (i : ℕ) (xs : List ℕ) → k < m → AllByRecursion (λ (v : Value). v.point < m) (numbered k origin i xs)
+numbered_within m k origin i [] lt = tt
+numbered_within m k origin i (x ∷ xs) lt = (lt, numbered_within m k origin (suc i) xs lt)
 
-place_within : (m k : ℕ) (q : Place) → k < m → AllByRecursion (λ (v : Value). v.point < m) (place_values k q)
+place_within : (m k : ℕ) (q : PointKind) → k < m → AllByRecursion (λ (v : Value). v.point < m) (place_values k q)
 place_within m k (Entry l params) lt = numbered_within m k _ 0 params lt
 place_within m k (At (Does (Lit x v))) lt = (lt, tt)
 place_within m k (At (Does (Una x op y))) lt = (lt, tt)
@@ -128,7 +128,7 @@ weighted_within labels ws p n le =
 pub weighted_by_labels : (labels : List Label) (ws : List ℕ) (p : Plan) → weighted_cost labels ws p ≡ labels_weighted labels ws p 0 (length labels)
 weighted_by_labels labels ws p = weighted_within labels ws p (length labels) (omega arith)
 
--- a point past the last one is of no label, which is numbered behind the last label
+-- a point past the last one is of no label, which is numbered after the last label
 pub label_most : (l n : ℕ) (ls : List Label) (k : ℕ) → label_from l n ls k ≤ l + length ls
 label_most l n [] k = omega arith
 label_most l n (x ∷ ls) k = by (nat_lt k (n + length (label_points l x))) (label_most (suc l) (n + length (label_points l x)) ls k)

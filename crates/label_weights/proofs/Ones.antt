@@ -1,9 +1,9 @@
 -- Weights that are all 1.
 use Rattle.std.proofs.Common.{◌≡◌, List, [], ◌∷◌, arith}
 use Rattle.ssu_ir.specs.Tree.{Label}
-use Rattle.slot_placement.specs.Costs.{values_cost, uses_cost, cost}
-use Rattle.slot_placement.specs.Plan.{Plan}
-use Rattle.slot_placement.specs.Uses.{Value, values, Use, uses}
+use Rattle.placement.specs.Costs.{values_cost, uses_cost, cost}
+use Rattle.placement.specs.Plan.{Plan}
+use Rattle.placement.specs.Uses.{Value, values, Use, uses}
 use Rattle.label_weights.specs.Weighted.{point_weight, values_weighted, uses_weighted, weighted_cost}
 
 values_once : (labels : List Label) (p : Plan) (vs : List Value) → values_weighted (point_weight labels []) p vs ≡ values_cost p vs

@@ -2,9 +2,9 @@
 use Rattle.std.specs.Prelude.{ℕ, suc, ◌+◌, nat_eq, nat_lt, Bool, List, [], ◌∷◌, filter, length, if◌then◌else◌}
 use Rattle.ssu_ir.specs.Tree.{Label}
 use Rattle.ssu_ir.specs.Points.{label_points}
-use Rattle.slot_placement.specs.Costs.{values_cost, uses_cost}
-use Rattle.slot_placement.specs.Plan.{Plan}
-use Rattle.slot_placement.specs.Uses.{values, uses}
+use Rattle.placement.specs.Costs.{values_cost, uses_cost}
+use Rattle.placement.specs.Plan.{Plan}
+use Rattle.placement.specs.Uses.{values, uses}
 
 -- the label of point k, where these labels are numbered from l and their points from n; past the last point it is none of them
 abbrev pub label_from : ℕ → ℕ → List Label → ℕ → ℕ

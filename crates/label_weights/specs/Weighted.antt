@@ -1,9 +1,9 @@
 -- What a placement costs where labels have weights: a value and a use count by the label in which their point lies.
 use Rattle.std.specs.Prelude.{ℕ, zero, suc, ◌+◌, ◌*◌, ◌≤◌, List, [], ◌∷◌, slice_index_or, All}
 use Rattle.ssu_ir.specs.Tree.{Label}
-use Rattle.slot_placement.specs.Costs.{value_cost, use_cost}
-use Rattle.slot_placement.specs.Plan.{Plan}
-use Rattle.slot_placement.specs.Uses.{Value, values, Use, uses}
+use Rattle.placement.specs.Costs.{value_cost, use_cost}
+use Rattle.placement.specs.Plan.{Plan}
+use Rattle.placement.specs.Uses.{Value, values, Use, uses}
 use Rattle.label_weights.specs.ByLabel.{label_from, label_cost}
 
 -- weights of labels, from label 0 on

@@ -1,8 +1,8 @@
 //! Laws of the definitions in specs/: each is the contract of a function that does nothing.
 ghost use Rattle.std.specs.Prelude.{◌≡◌, ◌≤◌, ℕ, List, [], length};
 ghost use Rattle.ssu_ir.specs.Tree.{Label};
-ghost use Rattle.slot_placement.specs.Costs.{cost};
-ghost use Rattle.slot_placement.specs.Plan.{Plan};
+ghost use Rattle.placement.specs.Costs.{cost};
+ghost use Rattle.placement.specs.Plan.{Plan};
 ghost use Rattle.label_weights.specs.Weighted.{AreWeights, weight_of, labels_weighted, weighted_cost};
 
 /// Each label weighs from 1 to 1,023, also past the list.

@@ -1,3 +1,4 @@
+pub mod Between
 pub mod LineLemmas
 pub mod NumberLemmas
 pub mod SplitLaws

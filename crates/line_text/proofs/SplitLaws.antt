@@ -56,7 +56,7 @@ text_of-append (x ∷ xs) ys = ap (λ t. (x ++ 10 ∷ []) ++ t) (text_of-append 
 pub text_of-cons : (x : List ℕ) (xs : List (List ℕ)) (t : List ℕ) → text_of (x ∷ xs) ++ t ≡ x ++ 10 ∷ (text_of xs ++ t)
 text_of-cons x xs t = append_assoc (x ++ 10 ∷ []) (text_of xs) t ∙ append_assoc x (10 ∷ []) (text_of xs ++ t)
 
--- one line behind a text
+-- one line after a text
 pub text_of-push : (xs : List (List ℕ)) (x t : List ℕ) → text_of (xs ++ x ∷ []) ++ t ≡ text_of xs ++ (x ++ 10 ∷ t)
 text_of-push xs x t =
     ap (λ u. u ++ t) (text_of-append xs (x ∷ [])) ∙ (append_assoc (text_of xs) (text_of (x ∷ [])) t ∙ ap (λ u. text_of xs ++ u) (text_of-cons x [] t))
@@ -119,7 +119,7 @@ Lacks-parted c (p ∷ []) other h = h.0
 Lacks-parted c (p ∷ q ∷ ps) other h =
     Lacks-append c p (32 ∷ parted (q ∷ ps)) h.0 (λ e. other (sym e), Lacks-parted c (q ∷ ps) other h.1)
 
--- a line of parts begins with the first, and each other stands behind a space
+-- a line of parts begins with the first, and each other stands after a space
 pub parted-cons : (p : List ℕ) (ps : List (List ℕ)) → parted (p ∷ ps) ≡ p ++ flat_map (λ q. 32 ∷ q) ps
 parted-cons p [] = sym (append-nil p)
 parted-cons p (q ∷ qs) = ap (λ t. p ++ 32 ∷ t) (parted-cons q qs)

@@ -27,5 +27,5 @@ pub data FirstFault (Front Whole : List (List ℕ) → Type 0) (bytes : List ℕ
   short : (front : List (List ℕ)) (last : List ℕ) → bytes ≡ text_of front ++ last → Lacks 10 last → Front front → ¬ IsText Whole bytes → FirstFault Front Whole bytes (length front + 1)
 
 -- the format of the texts that pass a test
-abbrev pub Passing : (List (List ℕ) → Bool) → List (List ℕ) → Type 0
-Passing test ls = IsTrue (test ls)
+abbrev pub PassesLines : (List (List ℕ) → Bool) → List (List ℕ) → Type 0
+PassesLines test ls = IsTrue (test ls)

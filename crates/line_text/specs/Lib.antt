@@ -1,3 +1,4 @@
+pub mod LineColumn
 pub mod Number
 pub mod Line
 pub mod Format

@@ -7,7 +7,7 @@ ghost use Rattle.std.specs.List.{flat_map, list_all};
 ghost use Rattle.std.specs.Int.Signed.{mag};
 ghost use Rattle.line_text.specs.Line.{Lacks, AllLack, text_of, parts, parted};
 ghost use Rattle.line_text.specs.Number.{SpellsWord, hex_word};
-ghost use Rattle.line_text.specs.Format.{IsText, IsFormat, Begins, FirstFault, Passing};
+ghost use Rattle.line_text.specs.Format.{IsText, IsFormat, Begins, FirstFault, PassesLines};
 
 /// A number has one decimal spelling and a spelling one number, and eight digits spell one word.
 pub fn spellings_are_one()
@@ -38,7 +38,7 @@ pub fn texts_are_parted_one_way()
 /// A text of a format, here one that is told by tests, has no faulty line, and of other bytes one line is the first
 /// faulty one.
 pub fn first_faults_are_one()
-    ensures none { (front whole : List (List ℕ) → Bool) (bytes : List ℕ) (n : ℕ) → IsFormat (Passing front) (Passing whole) → FirstFault (Passing front) (Passing whole) bytes n → ¬ IsText (Passing whole) bytes }
-    ensures one { (front whole : List (List ℕ) → Bool) (bytes : List ℕ) (m n : ℕ) → IsFormat (Passing front) (Passing whole) → FirstFault (Passing front) (Passing whole) bytes m → FirstFault (Passing front) (Passing whole) bytes n → m ≡ n }
-    ensures begins { (whole : List (List ℕ) → Bool) → ((ls : List (List ℕ)) → IsTrue (whole ls) → AllLack 10 ls) → IsFormat (Begins (Passing whole)) (Passing whole) }
+    ensures none { (front whole : List (List ℕ) → Bool) (bytes : List ℕ) (n : ℕ) → IsFormat (PassesLines front) (PassesLines whole) → FirstFault (PassesLines front) (PassesLines whole) bytes n → ¬ IsText (PassesLines whole) bytes }
+    ensures one { (front whole : List (List ℕ) → Bool) (bytes : List ℕ) (m n : ℕ) → IsFormat (PassesLines front) (PassesLines whole) → FirstFault (PassesLines front) (PassesLines whole) bytes m → FirstFault (PassesLines front) (PassesLines whole) bytes n → m ≡ n }
+    ensures begins { (whole : List (List ℕ) → Bool) → ((ls : List (List ℕ)) → IsTrue (whole ls) → AllLack 10 ls) → IsFormat (Begins (PassesLines whole)) (PassesLines whole) }
 {}

@@ -6,26 +6,26 @@ use Rattle.std.proofs.lemmas.Bool.{cases_lt, lt-ltb, le-ltb}
 use Rattle.std.proofs.lemmas.List.{length-append, length-map}
 use Rattle.std.proofs.lemmas.Option.{slice_get_within}
 use Rattle.std.proofs.Math.Nat.{mul-le-mul_left}
-use Rattle.ssu_ir.specs.Points.{Place, Entry, At, Point, points, points_from, label_points}
+use Rattle.ssu_ir.specs.Points.{PointKind, Entry, At, Point, points, points_from, label_points}
 use Rattle.ssu_ir.specs.Tree.{Lit, Una, Bin, Clone, Read, Write, Label, Does, Forks, Ends}
-use Rattle.slot_placement.specs.Uses.{Access, accesses, accesses_from, place_accesses, Sort, Parameter, Result, Fetched, Value, values, values_from, place_values, Use, uses, uses_from, uses_at, place_roles, is_used}
-use Rattle.slot_placement.specs.Fits.{is_result}
-use Rattle.slot_placement.proofs.Sound.{Each, each-append}
-use Rattle.slot_placement.proofs.Slotted.{each-any}
-use Rattle.slot_placement.proofs.Spilled.{each-weaker}
+use Rattle.placement.specs.Uses.{Access, accesses, accesses_from, place_accesses, ValueOrigin, Parameter, Result, Fetched, Value, values, values_from, place_values, Use, uses, uses_from, uses_at, place_roles, is_used}
+use Rattle.placement.specs.Fits.{is_result}
+use Rattle.placement.proofs.Sound.{Each, each-append}
+use Rattle.placement.proofs.Slotted.{each-any}
+use Rattle.placement.proofs.Spilled.{each-weaker}
 use Rattle.label_weights.specs.ByLabel.{label_from}
 use Rattle.zo_model.specs.Program.{cost_where, cost_below, costs_of}
 use Rattle.bank_form.specs.declared.column.Bank.TheVariants.{A, B, M}
 use Rattle.bank_form.specs.declared.column.Column.{Column}
 use Rattle.bank_form.specs.declared.column.Column.TheVariants.{Dir, Fill, Stay, Ear, First, Srv, PasL, PasS}
 use Rattle.bank_form.specs.declared.column.Service.{Service}
-use Rattle.bank_form.specs.Columns.{sort_of, is_fetched, eight, beginnings, role_beginnings, sort_beginnings, place_words, point_uses, Priced, sort_defs, def_columns, dir_columns, point_dirs, fill_columns, stay_columns, point_stays, ear_columns, point_ears, first_columns, services, has_bank, srv_columns, for_eight, pas_l_columns, pas_s_columns, all_dirs, all_stays, all_ears, all_pas_l, all_pas_s, priced, columns, costs}
+use Rattle.bank_form.specs.Columns.{origin_of, is_fetched, eight, beginnings, role_beginnings, origin_beginnings, place_words, point_uses, Priced, origin_defs, def_columns, dir_columns, point_dirs, fill_columns, stay_columns, point_stays, ear_columns, point_ears, first_columns, services, has_bank, srv_columns, for_eight, pas_l_columns, pas_s_columns, all_dirs, all_stays, all_ears, all_pas_l, all_pas_s, priced, columns, costs}
 use Rattle.bank_prog.specs.Weighted.{point_in, column_point, weigh, weighted, weighted_costs}
 use Rattle.bank_rows.proofs.PlainLines.{mapped-each}
-use Rattle.bank_places.proofs.ChosenHolds.{flat-each, if-each, points-each}
-use Rattle.bank_places.proofs.Counts.{each-from}
-use Rattle.bank_places.proofs.FactsThere.{point-of}
-use Rattle.bank_places.proofs.FitPasses.{value-point}
+use Rattle.bank_assignment.proofs.ChosenHolds.{flat-each, if-each, points-each}
+use Rattle.bank_assignment.proofs.Counts.{each-from}
+use Rattle.bank_assignment.proofs.FactsThere.{point-of}
+use Rattle.bank_assignment.proofs.FitPasses.{value-point}
 use Rattle.nova_back.specs.Causes.{WeighAtMost}
 
 -- ---- points
@@ -61,7 +61,7 @@ uses-below n k (q ∷ ps) h =
     (each-from (λ (u : Use). u.point < n) us (λ u i. let e = point-of u k 0 q.uses (place_roles q.place) i in omega (arith, e, h)))
     (uses-below n (suc k) ps (omega (arith, h)))
 
-accesses-at : (n k : ℕ) (q : Place) → k < n → Each (λ a. a.point < n) (place_accesses k q)
+accesses-at : (n k : ℕ) (q : PointKind) → k < n → Each (λ a. a.point < n) (place_accesses k q)
 accesses-at n k (Entry l ps) h = tt
 accesses-at n k (At (Does (Lit x v))) h = tt
 accesses-at n k (At (Does (Una x op y))) h = tt
@@ -93,7 +93,7 @@ Lies labels c = column_point labels c.0 < length (points labels)
 value-lies : (labels : List Label) (x k : ℕ) → k < length (points labels) → point_in (values labels) x < length (points labels)
 value-lies labels x k h = found-below (length (points labels)) x (values labels) (omega (arith, h)) (values-below (length (points labels)) 0 (points labels) (omega arith))
 
-defs-lie : (labels : List Label) (x : ℕ) (s : Sort) → point_in (values labels) x < length (points labels) → Each (Lies labels) (sort_defs x s)
+defs-lie : (labels : List Label) (x : ℕ) (s : ValueOrigin) → point_in (values labels) x < length (points labels) → Each (Lies labels) (origin_defs x s)
 defs-lie labels x (Parameter zero i) h = (h, (h, (h, tt)))
 defs-lie labels x (Parameter (suc l) i) h = (h, (h, (h, tt)))
 defs-lie labels x Result h = (h, (h, (h, tt)))
@@ -114,7 +114,7 @@ dirs-lie labels = points-each (Lies labels) (point_dirs labels) 0 (points labels
     let fs = role_beginnings n u.role in
     let at = point-of u k 0 q.uses (place_roles q.place) j in
     let inside = slice_get_within (points labels) i q s in
-    if-each (Lies labels) (is_result (sort_of labels u.value)) (map (λ f. (Dir u.point u.operand f, 0)) fs) (λ _.
+    if-each (Lies labels) (is_result (origin_of labels u.value)) (map (λ f. (Dir u.point u.operand f, 0)) fs) (λ _.
     mapped-each (Lies labels) (λ f. (Dir u.point u.operand f, 0)) fs (each-any (λ f. Lies labels (Dir u.point u.operand f, 0)) fs (λ f. omega (arith, at, inside, e)))))))
 
 stays-lie : (labels : List Label) → Each (Lies labels) (all_stays labels)
@@ -123,7 +123,7 @@ stays-lie labels = points-each (Lies labels) (point_stays labels) 0 (points labe
     let vs = place_values k q.place in
     let inside = slice_get_within (points labels) i q s in
     flat-each (Lies labels) (stay_columns labels n) vs (each-any (λ v. Each (Lies labels) (stay_columns labels n v)) vs (λ v.
-    let fs = sort_beginnings n v.sort in
+    let fs = origin_beginnings n v.origin in
     if-each (Lies labels) (is_used labels v.var) (map (λ f. (Stay v.var f, 0)) fs) (λ _.
     mapped-each (Lies labels) (λ f. (Stay v.var f, 0)) fs (each-any (λ f. Lies labels (Stay v.var f, 0)) fs (λ f. value-lies labels v.var i inside))))))
 
@@ -149,7 +149,7 @@ services-lie : (labels : List Label) → Each (Lies labels) (flat_map (srv_colum
 services-lie labels = flat-each (Lies labels) (srv_columns labels) (uses labels)
     (each-weaker (λ u. u.point < length (points labels)) (λ u. Each (Lies labels) (srv_columns labels u)) (uses labels)
     (λ u h.
-    let ss = filter (λ (s : Service). has_bank (is_fetched (sort_of labels u.value)) s.from) (services u.role) in
+    let ss = filter (λ (s : Service). has_bank (is_fetched (origin_of labels u.value)) s.from) (services u.role) in
     mapped-each (Lies labels) (λ (s : Service). (Srv u.point u.operand s.from s.at, s.cost)) ss (each-any (λ s. Lies labels (Srv u.point u.operand s.from s.at, s.cost)) ss (λ s. h)))
     (uses-below (length (points labels)) 0 (points labels) (omega arith)))
 
@@ -176,7 +176,7 @@ columns-lie labels =
     let t4 = all_stays labels ++ t5 in
     let t3 = fills ++ t4 in
     let t2 = all_dirs labels ++ t3 in
-    each-append (Lies labels) defs t2 (flat-each (Lies labels) def_columns (values labels) (each-value labels (λ v. Each (Lies labels) (def_columns v)) (λ v h. defs-lie labels v.var v.sort h)))
+    each-append (Lies labels) defs t2 (flat-each (Lies labels) def_columns (values labels) (each-value labels (λ v. Each (Lies labels) (def_columns v)) (λ v h. defs-lie labels v.var v.origin h)))
     (each-append (Lies labels) (all_dirs labels) t3 (dirs-lie labels)
     (each-append (Lies labels) fills t4 (flat-each (Lies labels) (fill_columns labels) (values labels) (each-value labels (λ v. Each (Lies labels) (fill_columns labels v)) (λ v h.
     if-each (Lies labels) (is_used labels v.var) ((Fill v.var A, 1) ∷ (Fill v.var B, 1) ∷ (Fill v.var M, 17) ∷ []) (λ _. (h, (h, (h, tt)))))))

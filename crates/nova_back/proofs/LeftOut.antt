@@ -11,8 +11,8 @@ use Rattle.uc_isa.specs.declared.instruction.Instr.TheVariants.{Alu, Un, Immed, 
 use Rattle.uc_isa.specs.declared.instruction.UnOp.TheVariants.{Copy, Not, Shl, Shr, Rol}
 use Rattle.uc_peep.specs.Rewrites.{IsWithout}
 use Rattle.uc_peep.specs.Rewrites.IsWithout.{Nothing, Gone, Stays}
-use Rattle.uc_runs.specs.Relocated.{relocated}
-use Rattle.uc_runs.specs.StraightCode.{IsStraight}
+use Rattle.uc_executions.specs.Relocated.{relocated}
+use Rattle.uc_executions.specs.StraightCode.{IsStraight}
 use Rattle.ucode_emit.specs.Operations.{Operation, code_operations, instr_operation}
 use Rattle.ucode_emit.specs.SpillBase.{KeepsBase, SpillsByBase}
 use Rattle.nova_back.specs.LeftOut.{LeavesOut}

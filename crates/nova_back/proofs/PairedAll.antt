@@ -5,10 +5,10 @@ use Rattle.std.specs.List.{flat_map}
 use Rattle.ssu_ir.specs.Measures.{peak}
 use Rattle.ssu_ir.specs.Single.{single}
 use Rattle.ssu_ir.specs.Tree.{Label}
-use Rattle.slot_placement.specs.Uses.{accesses, values, uses}
+use Rattle.placement.specs.Uses.{accesses, values, uses}
 use Rattle.std.proofs.Math.Nat.{le_trans, mul-le-mul_right}
-use Rattle.slot_placement.proofs.Sound.{Each, each-append}
-use Rattle.slot_placement.proofs.Spilled.{each-all}
+use Rattle.placement.proofs.Sound.{Each, each-append}
+use Rattle.placement.proofs.Spilled.{each-all}
 use Rattle.zo_model.specs.Program.{vector, costs_of}
 use Rattle.bank_form.specs.declared.column.Bank.{Bank}
 use Rattle.bank_form.specs.declared.column.Bank.TheVariants.{A, B, M, T, L, A15, W}
@@ -28,8 +28,8 @@ use Rattle.nova_back.proofs.PairedCost.{paired-cost}
 use Rattle.nova_back.proofs.PairedOn.{IsPaired}
 use Rattle.nova_back.proofs.PairedPoints.{operands-lines, capacity-lines, owners-lines, adjacency-lines, passes-lines}
 use Rattle.nova_back.proofs.PairedRows.{parameter-lines, result-lines, access-lines, use-lines, cover-lines, copies-lines, arguments-lines}
-use Rattle.bank_places.proofs.ChosenHolds.{flat-each}
-use Rattle.bank_places.proofs.Counts.{In, each-from}
+use Rattle.bank_assignment.proofs.ChosenHolds.{flat-each}
+use Rattle.bank_assignment.proofs.Counts.{In, each-from}
 
 -- ---- all lines
 

@@ -3,23 +3,23 @@ use Rattle.std.proofs.Common.{◌≡◌, ℕ, zero, suc, ◌+◌, ◌*◌, ◌�
 use Rattle.std.specs.List.{flat_map}
 use Rattle.ssu_ir.specs.Points.{points}
 use Rattle.ssu_ir.specs.Tree.{Label}
-use Rattle.slot_placement.specs.Fits.{is_result}
-use Rattle.slot_placement.specs.Uses.{Access, accesses, Sort, Parameter, Result, Fetched, Value, values, place_values, Role, Operand, Address, Written, Argument, Ending, Use, uses, is_used}
-use Rattle.slot_placement.proofs.Sound.{Each}
-use Rattle.slot_placement.proofs.Slotted.{each-any}
+use Rattle.placement.specs.Fits.{is_result}
+use Rattle.placement.specs.Uses.{Access, accesses, ValueOrigin, Parameter, Result, Fetched, Value, values, place_values, Role, Operand, Address, Written, Argument, Ending, Use, uses, is_used}
+use Rattle.placement.proofs.Sound.{Each}
+use Rattle.placement.proofs.Slotted.{each-any}
 use Rattle.zo_model.specs.Program.{cost_where}
 use Rattle.bank_form.specs.declared.column.Bank.TheVariants.{A, B, M, T, L, A15, W}
 use Rattle.bank_form.specs.declared.column.Column.{Column}
 use Rattle.bank_form.specs.declared.column.Column.TheVariants.{Def, Dir, Fill, Stay, Ear, First, Srv, PasL, PasS}
 use Rattle.bank_form.specs.declared.column.Service.{Service}
-use Rattle.bank_form.specs.Columns.{sort_of, is_fetched, eight, beginnings, role_beginnings, sort_beginnings, place_words, point_uses, Priced, sort_defs, def_columns, dir_columns, point_dirs, fill_columns, stay_columns, point_stays, ear_columns, point_ears, first_columns, services, has_bank, srv_columns, for_eight, pas_l_columns, pas_s_columns, all_dirs, all_stays, all_ears, all_pas_l, all_pas_s, priced}
+use Rattle.bank_form.specs.Columns.{origin_of, is_fetched, eight, beginnings, role_beginnings, origin_beginnings, place_words, point_uses, Priced, origin_defs, def_columns, dir_columns, point_dirs, fill_columns, stay_columns, point_stays, ear_columns, point_ears, first_columns, services, has_bank, srv_columns, for_eight, pas_l_columns, pas_s_columns, all_dirs, all_stays, all_ears, all_pas_l, all_pas_s, priced}
 use Rattle.bank_prog.specs.Meaning.{Chosen, named_cost}
 use Rattle.bank_form.specs.Program.{number_of}
 use Rattle.bank_rows.proofs.PlainLines.{mapped-each, each-kept}
 use Rattle.nova_back.specs.inner.Paired.{paired}
 use Rattle.nova_back.proofs.PairedOn.{IsPaired, off}
-use Rattle.bank_places.proofs.ChosenHolds.{flat-each, if-each, points-each}
-use Rattle.bank_places.proofs.CostSums.{cost-append}
+use Rattle.bank_assignment.proofs.ChosenHolds.{flat-each, if-each, points-each}
+use Rattle.bank_assignment.proofs.CostSums.{cost-append}
 
 -- ---- columns that cost nothing
 
@@ -62,7 +62,7 @@ flat-cost on f n (x ∷ xs) h =
 
 -- ---- family by family
 
-defs-free : (labels : List Label) (on : Chosen) (x : ℕ) (s : Sort) → IsPaired labels on → Each (IsFree on) (sort_defs x s)
+defs-free : (labels : List Label) (on : Chosen) (x : ℕ) (s : ValueOrigin) → IsPaired labels on → Each (IsFree on) (origin_defs x s)
 defs-free labels on x (Parameter zero i) g = (free-zero on (Def x A), (paid labels on (Def x B) 1 g refl, (paid labels on (Def x M) 17 g refl, tt)))
 defs-free labels on x (Parameter (suc l) i) g = (free-zero on (Def x A), (free-zero on (Def x B), (free-zero on (Def x M), tt)))
 defs-free labels on x Result g = (free-zero on (Def x A), (free-zero on (Def x B), (paid labels on (Def x M) 16 g refl, tt)))
@@ -74,7 +74,7 @@ dirs-free labels on g = points-each (IsFree on) (point_dirs labels) 0 (points la
     let us = point_uses k q in
     flat-each (IsFree on) (dir_columns labels n) us (each-any (λ u. Each (IsFree on) (dir_columns labels n u)) us (λ u.
     let fs = role_beginnings n u.role in
-    if-each (IsFree on) (is_result (sort_of labels u.value)) (map (λ f. (Dir u.point u.operand f, 0)) fs) (λ t.
+    if-each (IsFree on) (is_result (origin_of labels u.value)) (map (λ f. (Dir u.point u.operand f, 0)) fs) (λ t.
     mapped-each (IsFree on) (λ f. (Dir u.point u.operand f, 0)) fs (each-any (λ f. IsFree on (Dir u.point u.operand f, 0)) fs (λ f. free-zero on (Dir u.point u.operand f)))))))
 
 fill-cost : (labels : List Label) (on : Chosen) (v : Value) → IsPaired labels on → named_cost on (fill_columns labels v) ≤ 2
@@ -93,7 +93,7 @@ stays-free labels on g = points-each (IsFree on) (point_stays labels) 0 (points 
     let n = place_words q.place in
     let vs = place_values k q.place in
     flat-each (IsFree on) (stay_columns labels n) vs (each-any (λ v. Each (IsFree on) (stay_columns labels n v)) vs (λ v.
-    let fs = sort_beginnings n v.sort in
+    let fs = origin_beginnings n v.origin in
     if-each (IsFree on) (is_used labels v.var) (map (λ f. (Stay v.var f, 0)) fs) (λ t.
     mapped-each (IsFree on) (λ f. (Stay v.var f, 0)) fs (each-any (λ f. IsFree on (Stay v.var f, 0)) fs (λ f. free-zero on (Stay v.var f)))))))
 
@@ -154,7 +154,7 @@ role-cost labels on fetched k i (Argument l j) g = free-ways on k i fetched (ser
 role-cost labels on fetched k i (Ending j) g = free-ways on k i fetched (services (Ending j)) (free-zero on (Srv k i A A), (paid labels on (Srv k i B A) 1 g refl, (paid labels on (Srv k i T A) 1 g refl, (paid labels on (Srv k i M A) 17 g refl, tt))))
 
 srv-cost : (labels : List Label) (on : Chosen) (u : Use) → IsPaired labels on → named_cost on (srv_columns labels u) ≤ 1
-srv-cost labels on u g = role-cost labels on (is_fetched (sort_of labels u.value)) u.point u.operand u.role g
+srv-cost labels on u g = role-cost labels on (is_fetched (origin_of labels u.value)) u.point u.operand u.role g
 
 -- ---- the whole
 
@@ -173,7 +173,7 @@ paired-cost labels on g =
     let t4 = all_stays labels ++ t5 in
     let t3 = fills ++ t4 in
     let t2 = all_dirs labels ++ t3 in
-    let a1 = free-cost on defs (flat-each (IsFree on) def_columns vs (each-any (λ v. Each (IsFree on) (def_columns v)) vs (λ v. defs-free labels on v.var v.sort g))) in
+    let a1 = free-cost on defs (flat-each (IsFree on) def_columns vs (each-any (λ v. Each (IsFree on) (def_columns v)) vs (λ v. defs-free labels on v.var v.origin g))) in
     let a2 = free-cost on (all_dirs labels) (dirs-free labels on g) in
     let a3 = flat-cost on (fill_columns labels) 2 vs (λ v. fill-cost labels on v g) in
     let a4 = free-cost on (all_stays labels) (stays-free labels on g) in

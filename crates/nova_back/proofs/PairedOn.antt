@@ -5,11 +5,11 @@ use Rattle.std.proofs.lemmas.Bool.{and_parts, false≢true, false_from_ne_true}
 use Rattle.ssu_ir.specs.Points.{Point, points}
 use Rattle.ssu_ir.specs.Single.{single}
 use Rattle.ssu_ir.specs.Tree.{Label}
-use Rattle.slot_placement.specs.Uses.{Value, values, Role, Operand, Address, Written, Argument, Ending, Use, uses, place_roles, is_used}
-use Rattle.held_values.specs.inner.Numbers.{values_among}
-use Rattle.slot_placement.proofs.Fitting.{apart-from}
-use Rattle.slot_placement.proofs.Sound.{Each, Sound, sound-points, uses_among}
-use Rattle.slot_placement.proofs.Spilled.{each-at}
+use Rattle.placement.specs.Uses.{Value, values, Role, Operand, Address, Written, Argument, Ending, Use, uses, place_roles, is_used}
+use Rattle.ssu_liveness.specs.inner.Numbers.{values_among}
+use Rattle.placement.proofs.Fitting.{apart-from}
+use Rattle.placement.proofs.Sound.{Each, Sound, sound-points, uses_among}
+use Rattle.placement.proofs.Spilled.{each-at}
 use Rattle.zo_model.specs.Program.{vector, cost_where}
 use Rattle.bank_form.specs.declared.column.Bank.{Bank}
 use Rattle.bank_form.specs.declared.column.Bank.TheVariants.{A, B, M, L, W}
@@ -23,13 +23,13 @@ use Rattle.bank_form.specs.Rows.{is_written}
 use Rattle.bank_prog.proofs.LawsColumns.{on-there, chosen-on}
 use Rattle.bank_rows.proofs.Present.{use-place, def-there, fill-there, home-a, home-b}
 use Rattle.nova_back.specs.inner.Paired.{is_there, is_second, paired}
-use Rattle.bank_places.specs.inner.Facts.{count}
-use Rattle.bank_places.proofs.ChosenForm.{held-value}
-use Rattle.bank_places.proofs.ChosenHolds.{in-test}
-use Rattle.bank_places.proofs.Counts.{In, in-contained, contained-in, map-in, each-in, some-counted}
-use Rattle.bank_places.proofs.FactsThere.{there, IsService}
-use Rattle.bank_places.proofs.FactsValues.{same-use}
-use Rattle.bank_places.proofs.LabelPoints.{used-here}
+use Rattle.bank_assignment.specs.inner.Facts.{count}
+use Rattle.bank_assignment.proofs.ChosenForm.{held-value}
+use Rattle.bank_assignment.proofs.ChosenHolds.{in-test}
+use Rattle.bank_assignment.proofs.Counts.{In, in-contained, contained-in, map-in, each-in, some-counted}
+use Rattle.bank_assignment.proofs.FactsThere.{there, IsService}
+use Rattle.bank_assignment.proofs.FactsValues.{same-use}
+use Rattle.bank_assignment.proofs.LabelPoints.{used-here}
 
 -- these columns are on: those of the paired choice that are there
 pub record IsPaired (labels : List Label) (on : Chosen) : Type 0 where
@@ -208,5 +208,5 @@ pub home-m-none : (labels : List Label) (on : Chosen) (x : ℕ) → IsPaired lab
 home-m-none labels on x g = count-none on (Def x M ∷ Fill x M ∷ []) (off labels on g (Def x M) refl, (off labels on g (Fill x M) refl, tt))
 
 -- a value that isn't read is put into A
-pub put-a : (labels : List Label) (on : Chosen) (v : Value) → IsPaired labels on → In v (values labels) → is_fetched v.sort ≡ false → on (Def v.var A) ≡ true
+pub put-a : (labels : List Label) (on : Chosen) (v : Value) → IsPaired labels on → In v (values labels) → is_fetched v.origin ≡ false → on (Def v.var A) ≡ true
 put-a labels on v g i n = put labels on g (Def v.var A) (def-there labels v A (contained-in v (values labels) i) n home-a) refl

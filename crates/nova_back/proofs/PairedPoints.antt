@@ -6,31 +6,31 @@ use Rattle.std.proofs.lemmas.Bool.{false≢true, false_from_ne_true}
 use Rattle.nv_base.specs.Sets.{without}
 use Rattle.nv_base.proofs.Sets.{same-number}
 use Rattle.ssu_ir.specs.Measures.{most_held, peak}
-use Rattle.ssu_ir.specs.Points.{Place, Entry, At, Point, points}
+use Rattle.ssu_ir.specs.Points.{PointKind, Entry, At, Point, points}
 use Rattle.ssu_ir.specs.Tree.{Label, Lit, Una, Bin, Clone, Read, Write, Does, Forks, Ends}
-use Rattle.slot_placement.specs.Fits.{is_result, point_values}
-use Rattle.slot_placement.specs.Uses.{Access, reads_at, writes_at, Sort, Parameter, Result, Fetched, Value, values, place_values, Role, Operand, Address, Written, Argument, Ending, Use, uses_at, uses, place_roles, is_used}
-use Rattle.held_values.proofs.Scoped.{different-filter}
-use Rattle.slot_placement.proofs.Sound.{Each, each-append}
-use Rattle.slot_placement.proofs.Slotted.{each-any}
+use Rattle.placement.specs.Fits.{is_result, point_values}
+use Rattle.placement.specs.Uses.{Access, reads_at, writes_at, ValueOrigin, Parameter, Result, Fetched, Value, values, place_values, Role, Operand, Address, Written, Argument, Ending, Use, uses_at, uses, place_roles, is_used}
+use Rattle.ssu_liveness.proofs.Scoped.{different-filter}
+use Rattle.placement.proofs.Sound.{Each, each-append}
+use Rattle.placement.proofs.Slotted.{each-any}
 use Rattle.bank_form.specs.declared.column.Bank.{Bank}
 use Rattle.bank_form.specs.declared.column.Bank.TheVariants.{A, B, M, T, L, A15, W}
 use Rattle.bank_form.specs.declared.column.Column.{Column}
 use Rattle.bank_form.specs.declared.column.Column.TheVariants.{Def, Dir, Fill, Stay, Ear, First, Srv, PasL, PasS}
 use Rattle.bank_form.specs.declared.column.Service.{Service}
-use Rattle.bank_form.specs.Columns.{each_point, sort_of, eight, place_words, point_uses, role_beginnings, sort_beginnings, services}
+use Rattle.bank_form.specs.Columns.{each_point, origin_of, eight, place_words, point_uses, role_beginnings, origin_beginnings, services}
 use Rattle.bank_prog.specs.Meaning.{Chosen, Holds}
 use Rattle.bank_form.specs.Program.{number_of}
-use Rattle.bank_form.specs.Rows.{at_most, covers, home, srv_at, two_operands, both_at, pair_lines, operand_lines, operand_banks, held_in, room_lines, capacity, is_sdram, same_side, run_at, sort_stays, stays_at, role_early, early_at, covering, side_covering, waiting, read_owners, access_owners, fill_owners, side_owners, write_owners, owners, stay_begins, word_begins, begins_at, adjacency, is_slot, slot_read, slot_written, result_written, value_written, passes}
+use Rattle.bank_form.specs.Rows.{at_most, covers, home, srv_at, two_operands, both_at, pair_lines, operand_lines, operand_banks, live_in, room_lines, capacity, is_sdram, same_side, run_at, origin_stays, stays_at, role_early, early_at, covering, side_covering, waiting, read_owners, access_owners, fill_owners, side_owners, write_owners, owners, stay_begins, word_begins, begins_at, adjacency, is_slot, slot_read, slot_written, result_written, value_written, passes}
 use Rattle.bank_rows.proofs.Present.{srv-there}
 use Rattle.bank_rows.proofs.PlainLines.{mapped-each}
 use Rattle.nova_back.specs.inner.Paired.{is_there, is_second, serves_a, serves_b}
 use Rattle.nova_back.proofs.PairedOn.{IsPaired, on-paired, off, contained-there, count-off, count-none, first-most, use-at, home-most, home-b-most, home-m-none}
 use Rattle.nova_back.proofs.PairedRows.{AreOff, zero-most, zero-covers, numbered-off, at-a, at-off, serves-none}
-use Rattle.bank_places.specs.inner.Facts.{count}
-use Rattle.bank_places.proofs.ChosenHolds.{most-holds, flat-each, if-each, points-each, only-most}
-use Rattle.bank_places.proofs.Counts.{In, contained-in, in-kept, each-from, count-append}
-use Rattle.bank_places.proofs.FactsThere.{there}
+use Rattle.bank_assignment.specs.inner.Facts.{count}
+use Rattle.bank_assignment.proofs.ChosenHolds.{most-holds, flat-each, if-each, points-each, only-most}
+use Rattle.bank_assignment.proofs.Counts.{In, contained-in, in-kept, each-from, count-append}
+use Rattle.bank_assignment.proofs.FactsThere.{there}
 
 -- ---- two operands
 
@@ -152,12 +152,12 @@ operands-lines labels on g = points-each (Holds on) operand_lines 0 (points labe
 
 -- ---- capacity
 
-few-homes : (on : Chosen) (h : Bank) (xs : List ℕ) → ((x : ℕ) → count on (home x h) ≤ 1) → count on (held_in xs h) ≤ length xs
+few-homes : (on : Chosen) (h : Bank) (xs : List ℕ) → ((x : ℕ) → count on (home x h) ≤ 1) → count on (live_in xs h) ≤ length xs
 few-homes on h [] f = omega arith
 few-homes on h (x ∷ xs) f =
     let a = f x in
     let b = few-homes on h xs f in
-    let c = count-append on (home x h) (held_in xs h) in
+    let c = count-append on (home x h) (live_in xs h) in
     omega (arith, a, b, c)
 
 held-most : (ps : List Point) (k : ℕ) (q : Point) → slice_get ps k ≡ Some q → length q.before ≤ most_held ps
@@ -165,12 +165,12 @@ held-most [] k q e = absurd (cc)
 held-most (p ∷ ps) zero q e = let same : length p.before ≡ length q.before = (let s : p ≡ q = cc in ap (λ (z : Point). length z.before) s) in omega (arith, same)
 held-most (p ∷ ps) (suc k) q e = let l = held-most ps k q e in omega (arith, l)
 
-none-in-m : (labels : List Label) (on : Chosen) (xs : List ℕ) → IsPaired labels on → count on (held_in xs M) ≡ 0
+none-in-m : (labels : List Label) (on : Chosen) (xs : List ℕ) → IsPaired labels on → count on (live_in xs M) ≡ 0
 none-in-m labels on [] g = refl
 none-in-m labels on (x ∷ xs) g =
     let a = home-m-none labels on x g in
     let b = none-in-m labels on xs g in
-    let c = count-append on (home x M) (held_in xs M) in
+    let c = count-append on (home x M) (live_in xs M) in
     omega (arith, a, b, c)
 
 rooms-lines : (labels : List Label) (on : Chosen) (slots : ℕ) (xs : List ℕ) → IsPaired labels on → length xs ≤ 15 → Each (Holds on) (room_lines slots xs)
@@ -178,7 +178,7 @@ rooms-lines labels on slots xs g l =
     let a = few-homes on A xs (λ x. home-most labels on x g) in
     let b = few-homes on B xs (λ x. home-b-most labels on x g) in
     let m = none-in-m labels on xs g in
-    (most-holds on 15 (held_in xs A) (omega (arith, a, l)), (most-holds on 15 (held_in xs B) (omega (arith, b, l)), (most-holds on slots (held_in xs M) (omega (arith, m)), tt)))
+    (most-holds on 15 (live_in xs A) (omega (arith, a, l)), (most-holds on 15 (live_in xs B) (omega (arith, b, l)), (most-holds on slots (live_in xs M) (omega (arith, m)), tt)))
 
 pub capacity-lines : (labels : List Label) (on : Chosen) (slots : ℕ) → IsPaired labels on → peak labels ≤ 15 → Each (Holds on) (capacity labels slots)
 capacity-lines labels on slots g l = points-each (Holds on) (λ k (q : Point). room_lines slots q.before) 0 (points labels) (λ i k q e s.
@@ -187,14 +187,14 @@ capacity-lines labels on slots g l = points-each (Holds on) (λ k (q : Point). r
 
 -- ---- owners
 
-sort-off : (labels : List Label) (on : Chosen) (sdram : Bool) (r x : ℕ) (s : Sort) → IsPaired labels on → AreOff on (sort_stays sdram r x s)
-sort-off labels on sdram r x (Parameter l i) g = tt
-sort-off labels on sdram r x Result g = tt
-sort-off labels on sdram r x (Fetched m i) g = if-each (λ c. on c ≡ false) (same_side sdram (is_sdram m)) (map (Stay x) (run_at r i)) (λ e. numbered-off labels on (Stay x) (run_at r i) g (λ f. refl))
+origin-off : (labels : List Label) (on : Chosen) (sdram : Bool) (r x : ℕ) (s : ValueOrigin) → IsPaired labels on → AreOff on (origin_stays sdram r x s)
+origin-off labels on sdram r x (Parameter l i) g = tt
+origin-off labels on sdram r x Result g = tt
+origin-off labels on sdram r x (Fetched m i) g = if-each (λ c. on c ≡ false) (same_side sdram (is_sdram m)) (map (Stay x) (run_at r i)) (λ e. numbered-off labels on (Stay x) (run_at r i) g (λ f. refl))
 
 stays-off : (labels : List Label) (on : Chosen) (sdram : Bool) (r : ℕ) (xs : List ℕ) → IsPaired labels on → AreOff on (stays_at labels sdram r xs)
 stays-off labels on sdram r xs g =
-    flat-each (λ c. on c ≡ false) (λ x. sort_stays sdram r x (sort_of labels x)) xs (each-any (λ x. AreOff on (sort_stays sdram r x (sort_of labels x))) xs (λ x. sort-off labels on sdram r x (sort_of labels x) g))
+    flat-each (λ c. on c ≡ false) (λ x. origin_stays sdram r x (origin_of labels x)) xs (each-any (λ x. AreOff on (origin_stays sdram r x (origin_of labels x))) xs (λ x. origin-off labels on sdram r x (origin_of labels x) g))
 
 role-off : (labels : List Label) (on : Chosen) (sdram : Bool) (r k i : ℕ) (role : Role) → IsPaired labels on → AreOff on (role_early sdram r k i role)
 role-off labels on sdram r k i Operand g = tt
@@ -224,7 +224,7 @@ side-once labels on sdram r a g = by (same_side sdram (is_sdram a.mem))
     by true = covered-once labels on r a g
     by false = omega arith
 
-writes-once : (labels : List Label) (on : Chosen) (sdram : Bool) (r k : ℕ) (q : Place) → IsPaired labels on → count on (flat_map (side_covering sdram r) (writes_at k q)) ≤ 1
+writes-once : (labels : List Label) (on : Chosen) (sdram : Bool) (r k : ℕ) (q : PointKind) → IsPaired labels on → count on (flat_map (side_covering sdram r) (writes_at k q)) ≤ 1
 writes-once labels on sdram r k (Entry l ps) g = omega arith
 writes-once labels on sdram r k (At (Does (Lit x v))) g = omega arith
 writes-once labels on sdram r k (At (Does (Una x op y))) g = omega arith
@@ -294,7 +294,7 @@ owners-lines labels on g =
 stay-lines : (labels : List Label) (on : Chosen) (n : ℕ) (v : Value) → IsPaired labels on → Each (Holds on) (stay_begins labels n v)
 stay-lines labels on n v g =
     let line = λ (f : ℕ). covers (First v.point f ∷ []) (Stay v.var f ∷ []) in
-    let fs = sort_beginnings n v.sort in
+    let fs = origin_beginnings n v.origin in
     if-each (Holds on) (is_used labels v.var) (map line fs) (λ e. mapped-each (Holds on) line fs (each-any (λ f. Holds on (line f)) fs (λ f.
     zero-covers on (First v.point f ∷ []) (Stay v.var f ∷ []) (off labels on g (Stay v.var f) refl, tt))))
 
@@ -337,7 +337,7 @@ writes-slot : (labels : List Label) (on : Chosen) (v : Value) → IsPaired label
 writes-slot labels on v g =
     if-each (Holds on) (is_used labels v.var) (slot_written v.point (Fill v.var M) ∷ result_written v) (λ e. (
       zero-covers on (map (PasS v.point) eight) (Fill v.var M ∷ []) (off labels on g (Fill v.var M) refl, tt),
-      if-each (Holds on) (is_result v.sort) (slot_written v.point (Def v.var M) ∷ []) (λ f. (zero-covers on (map (PasS v.point) eight) (Def v.var M ∷ []) (off labels on g (Def v.var M) refl, tt), tt)),
+      if-each (Holds on) (is_result v.origin) (slot_written v.point (Def v.var M) ∷ []) (λ f. (zero-covers on (map (PasS v.point) eight) (Def v.var M ∷ []) (off labels on g (Def v.var M) refl, tt), tt)),
     ))
 
 pub passes-lines : (labels : List Label) (on : Chosen) → IsPaired labels on → Each (Holds on) (passes labels)

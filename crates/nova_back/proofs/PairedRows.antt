@@ -6,19 +6,19 @@ use Rattle.std.proofs.lemmas.Bool.{and_parts, and_from, not-true, le-leb}
 use Rattle.nv_base.specs.Access.{can_move}
 use Rattle.nv_base.specs.declared.term.Mem.{Mem}
 use Rattle.nv_base.specs.declared.term.Mem.TheVariants.{Sram, Sdram, Scratch}
-use Rattle.ssu_ir.specs.Points.{Place, Entry, At, Point, points}
+use Rattle.ssu_ir.specs.Points.{PointKind, Entry, At, Point, points}
 use Rattle.ssu_ir.specs.Tree.{Label, Lit, Una, Bin, Clone, Read, Write, Does, Forks, Ends}
-use Rattle.slot_placement.specs.Fits.{is_result, parameter}
-use Rattle.slot_placement.specs.Uses.{Access, place_accesses, accesses_from, accesses, Value, values, Role, Operand, Address, Written, Argument, Ending, Use, uses_of, uses, is_used}
-use Rattle.held_values.specs.inner.Numbers.{values_among}
-use Rattle.slot_placement.proofs.Slotted.{first-fits, each-any}
-use Rattle.slot_placement.proofs.Sound.{Each, each-append, Sound, sound-points, place_ok, uses_among}
+use Rattle.placement.specs.Fits.{is_result, parameter}
+use Rattle.placement.specs.Uses.{Access, place_accesses, accesses_from, accesses, Value, values, Role, Operand, Address, Written, Argument, Ending, Use, uses_of, uses, is_used}
+use Rattle.ssu_liveness.specs.inner.Numbers.{values_among}
+use Rattle.placement.proofs.Slotted.{first-fits, each-any}
+use Rattle.placement.proofs.Sound.{Each, each-append, Sound, sound-points, place_ok, uses_among}
 use Rattle.bank_form.specs.declared.column.Bank.{Bank}
 use Rattle.bank_form.specs.declared.column.Bank.TheVariants.{A, B, M, T, L, A15, W}
 use Rattle.bank_form.specs.declared.column.Column.{Column}
 use Rattle.bank_form.specs.declared.column.Column.TheVariants.{Def, Dir, Fill, Ear, First, Srv}
 use Rattle.bank_form.specs.declared.column.Service.{Service}
-use Rattle.bank_form.specs.Columns.{sort_of, is_fetched, eight, may_begin, services, has_bank}
+use Rattle.bank_form.specs.Columns.{origin_of, is_fetched, eight, may_begin, services, has_bank}
 use Rattle.bank_prog.specs.Meaning.{Chosen, Holds}
 use Rattle.bank_form.specs.Program.{number_of}
 use Rattle.bank_form.specs.Rows.{at_most, covers, exactly_one, homes, banks, def, home, stay, srv, srv_from, srv_at, dir, ear, early, is_parameter, is_written, parameter_choice, result_choice, access_choice, use_choice, served_home, use_stay, use_cover, in_register, fill, word_from_register, copy_lines, copy_cover, at_home, argument_lines, argument_cover}
@@ -26,11 +26,11 @@ use Rattle.bank_rows.proofs.Present.{contains-beginning, first-there, srv-there}
 use Rattle.bank_rows.proofs.PlainLines.{mapped-each}
 use Rattle.nova_back.specs.inner.Paired.{is_second, serves_a, serves_b, serves, paired}
 use Rattle.nova_back.proofs.PairedOn.{IsPaired, off, put, is_operand, first-use, not-both, count-off, count-none, first-most, first-one, used-value, is-used, home-most, home-a-some, home-b-most, home-b-some, home-m-none, put-a}
-use Rattle.bank_places.specs.inner.Facts.{count}
-use Rattle.bank_places.proofs.ChosenHolds.{most-holds, covers-hold, one-holds, flat-each, if-each}
-use Rattle.bank_places.proofs.ChosenSource.{argument-value}
-use Rattle.bank_places.proofs.Counts.{In, contained-in, each-in, count-append, some-counted}
-use Rattle.bank_places.proofs.ChosenValues.{unfetched, result-unfetched}
+use Rattle.bank_assignment.specs.inner.Facts.{count}
+use Rattle.bank_assignment.proofs.ChosenHolds.{most-holds, covers-hold, one-holds, flat-each, if-each}
+use Rattle.bank_assignment.proofs.ChosenSource.{argument-value}
+use Rattle.bank_assignment.proofs.Counts.{In, contained-in, each-in, count-append, some-counted}
+use Rattle.bank_assignment.proofs.ChosenValues.{unfetched, result-unfetched}
 
 -- ---- lines of columns that are off
 
@@ -58,18 +58,18 @@ early-off labels on u g =
 
 -- ---- each parameter and each result is put into A
 
-put-once : (labels : List Label) (on : Chosen) (v : Value) → IsPaired labels on → In v (values labels) → is_fetched v.sort ≡ false → count on (def v.var) ≡ 1
+put-once : (labels : List Label) (on : Chosen) (v : Value) → IsPaired labels on → In v (values labels) → is_fetched v.origin ≡ false → count on (def v.var) ≡ 1
 put-once labels on v g i n =
     first-one on (Def v.var A) (Def v.var B ∷ Def v.var M ∷ []) (put-a labels on v g i n) (off labels on g (Def v.var B) refl, (off labels on g (Def v.var M) refl, tt))
 
 pub parameter-lines : (labels : List Label) (on : Chosen) (v : Value) → IsPaired labels on → In v (values labels) → Each (Holds on) (parameter_choice v)
-parameter-lines labels on v g i = if-each (Holds on) (is_parameter v.sort) (exactly_one (def v.var)) (λ e. one-holds on (def v.var) (put-once labels on v g i (unfetched v.sort e)))
+parameter-lines labels on v g i = if-each (Holds on) (is_parameter v.origin) (exactly_one (def v.var)) (λ e. one-holds on (def v.var) (put-once labels on v g i (unfetched v.origin e)))
 
 pub result-lines : (labels : List Label) (on : Chosen) (v : Value) → IsPaired labels on → In v (values labels) → Each (Holds on) (result_choice labels v)
 result-lines labels on v g i =
     let us = uses_of labels v.var in
-    if-each (Holds on) (is_result v.sort) (exactly_one (def v.var ++ flat_map dir us)) (λ e.
-    let a = put-once labels on v g i (result-unfetched v.sort e) in
+    if-each (Holds on) (is_result v.origin) (exactly_one (def v.var ++ flat_map dir us)) (λ e.
+    let a = put-once labels on v g i (result-unfetched v.origin e) in
     let z = count-none on (flat_map dir us) (flat-each (λ c. on c ≡ false) dir us (each-any (λ u. AreOff on (dir u)) us (λ u. dirs-off labels on u g))) in
     let s = count-append on (def v.var) (flat_map dir us) in
     one-holds on (def v.var ++ flat_map dir us) (omega (arith, a, z, s)))
@@ -84,7 +84,7 @@ may-first Scratch n e = le-leb (0 + n) 8 (first-fits Scratch n 0 refl e)
 abbrev CanMove : Access → Type 0
 CanMove a = can_move a.mem a.words ≡ true
 
-place-moves : (labels : List Label) (k : ℕ) (q : Place) → place_ok labels q ≡ true → Each CanMove (place_accesses k q)
+place-moves : (labels : List Label) (k : ℕ) (q : PointKind) → place_ok labels q ≡ true → Each CanMove (place_accesses k q)
 place-moves labels k (Entry l ps) e = tt
 place-moves labels k (At (Does (Lit x v))) e = tt
 place-moves labels k (At (Does (Una x op y))) e = tt
@@ -111,7 +111,7 @@ access-lines labels on a g i =
 
 -- ---- each use is served in one way
 
-way-on : (labels : List Label) (on : Chosen) (u : Use) (r : Role) (s : Service) → IsPaired labels on → In u (uses labels) → u.role ≡ r → Contains (services r) s → has_bank (is_fetched (sort_of labels u.value)) s.from ≡ true → paired (number_of labels) (Srv u.point u.operand s.from s.at) ≡ true
+way-on : (labels : List Label) (on : Chosen) (u : Use) (r : Role) (s : Service) → IsPaired labels on → In u (uses labels) → u.role ≡ r → Contains (services r) s → has_bank (is_fetched (origin_of labels u.value)) s.from ≡ true → paired (number_of labels) (Srv u.point u.operand s.from s.at) ≡ true
     → on (Srv u.point u.operand s.from s.at) ≡ true
 way-on labels on u r s g i e m t p = put labels on g (Srv u.point u.operand s.from s.at) (srv-there labels u s (contained-in u (uses labels) i) (subst (λ z. Contains (services z) s) (sym e) m) t) p
 
@@ -200,7 +200,7 @@ cover-lines labels on u g i =
         (zero-covers on (home u.value M) (srv_from u.point u.operand M) (from-off labels on u.point u.operand M g (λ p. refl)), tt),
       ),
     )
-    (if-each (Holds on) (is_fetched (sort_of labels u.value)) _ (λ e. (zero-covers on (stay u.value) (srv_from u.point u.operand T) (from-off labels on u.point u.operand T g (λ p. refl)), tt)))
+    (if-each (Holds on) (is_fetched (origin_of labels u.value)) _ (λ e. (zero-covers on (stay u.value) (srv_from u.point u.operand T) (from-off labels on u.point u.operand T g (λ p. refl)), tt)))
 
 -- ---- copies
 
@@ -214,8 +214,8 @@ pub copies-lines : (labels : List Label) (on : Chosen) (v : Value) → IsPaired 
 copies-lines labels on v g i =
     let x = v.var in
     let us = uses_of labels x in
-    if-each (Holds on) (is_used labels x && not (is_fetched v.sort)) (copy_lines labels x) (λ e.
-    let n : is_fetched v.sort ≡ false = not-true (is_fetched v.sort) (and_parts (is_used labels x) (not (is_fetched v.sort)) e).1 in
+    if-each (Holds on) (is_used labels x && not (is_fetched v.origin)) (copy_lines labels x) (λ e.
+    let n : is_fetched v.origin ≡ false = not-true (is_fetched v.origin) (and_parts (is_used labels x) (not (is_fetched v.origin)) e).1 in
     let a = put-a labels on v g i n in
     let z = home-m-none labels on x g in
     each-append (Holds on) (map (λ h. at_most 1 (home x h)) homes) (map (λ h. covers (in_register x) (fill x h)) homes ++ flat_map (word_from_register x) us)
@@ -253,7 +253,7 @@ arguments-of labels on u (Argument l j) g i e =
     let k = u.point in
     let o = u.operand in
     let w = argument-value labels u l j g.form i e in
-    let here : on (Def y A) ≡ true = subst (λ z. on (Def z A) ≡ true) w.2 (put-a labels on w.0 g w.1 (unfetched w.0.sort w.3)) in
+    let here : on (Def y A) ≡ true = subst (λ z. on (Def z A) ≡ true) w.2 (put-a labels on w.0 g w.1 (unfetched w.0.origin w.3)) in
     let a = some-counted on (Def y A) (at_home y A) (inl refl) here in
     let b = at-a labels on k o g in
     let f = first-use labels u i (ap is_operand e) in (

@@ -13,7 +13,7 @@ use Rattle.zo_model.specs.declared.program.ZeroOne.{ZeroOne}
 use Rattle.zo_cert.specs.Certificate.{IsTreeWith, branches}
 use Rattle.zo_cert.specs.Report.{IsValidReport, IsTrueReport, VerdictHolds}
 use Rattle.zo_cert.specs.Searched.{IsSearched}
-use Rattle.zo_leaf.specs.declared.cert.Claim.TheVariants.{Least}
+use Rattle.zo_proof.specs.declared.cert.Claim.TheVariants.{Least}
 use Rattle.zo_cert.specs.declared.report.Report.{Report}
 use Rattle.zo_cert.specs.declared.report.Verdict.{Verdict}
 use Rattle.zo_cert.specs.declared.report.Verdict.TheVariants.{Optimal, Feasible, Infeasible, Spent}

@@ -6,15 +6,15 @@ use Rattle.std.proofs.lemmas.List.{length-append, length-map}
 use Rattle.std.proofs.lemmas.Grind.{flat_map-append}
 use Rattle.nv_base.proofs.Operands.{is_access, access_eight}
 use Rattle.ssu_ir.specs.Measures.{size, point_size, total}
-use Rattle.ssu_ir.specs.Points.{Place, Entry, At, Point, points}
+use Rattle.ssu_ir.specs.Points.{PointKind, Entry, At, Point, points}
 use Rattle.ssu_ir.specs.Points as pure
 use Rattle.ssu_ir.specs.Single.{single, is_step}
 use Rattle.ssu_ir.specs.Tree.{Step, Lit, Una, Bin, Clone, Read, Write, Label, Does, Forks, Ends}
 use Rattle.ssu_ir.proofs.PointLemmas.{total-from}
-use Rattle.slot_placement.specs.Uses.{Parameter, values, values_from, numbered, place_values, Role, Operand, Address, Written, Argument, Ending, Use, uses, uses_from, uses_at, place_roles, accesses}
-use Rattle.slot_placement.proofs.Sound.{Each, Sound, place_ok, sound-points}
+use Rattle.placement.specs.Uses.{Parameter, values, values_from, numbered, place_values, Role, Operand, Address, Written, Argument, Ending, Use, uses, uses_from, uses_at, place_roles, accesses}
+use Rattle.placement.proofs.Sound.{Each, Sound, place_ok, sound-points}
 use Rattle.bank_form.specs.declared.column.Column.TheVariants.{Srv}
-use Rattle.bank_form.specs.Columns.{Priced, each_point, def_columns, fill_columns, first_columns, has_bank, services, sort_of, is_fetched, srv_columns, all_dirs, all_stays, all_ears, all_pas_l, all_pas_s, priced, columns}
+use Rattle.bank_form.specs.Columns.{Priced, each_point, def_columns, fill_columns, first_columns, has_bank, services, origin_of, is_fetched, srv_columns, all_dirs, all_stays, all_ears, all_pas_l, all_pas_s, priced, columns}
 use Rattle.bank_form.specs.Rows.{Line, one_choice, homes_cover, operand_banks, capacity, read_owners, fill_owners, write_owners, adjacency, passes, lines}
 use Rattle.bank_form.specs.Program.{rows, row_of, number_of}
 
@@ -33,7 +33,7 @@ step-defs k (Clone xs y) h = omega arith
 step-defs k (Read m xs y) h = omega (arith, access_eight m (length xs) (is_access m (length xs) h))
 step-defs k (Write m y xs) h = omega arith
 
-place-defs : (labels : List Label) (k : ℕ) (q : Place) → place_ok labels q ≡ true → 3 * length (pure.place_values q) ≤ 24 + length (flat_map def_columns (place_values k q))
+place-defs : (labels : List Label) (k : ℕ) (q : PointKind) → place_ok labels q ≡ true → 3 * length (pure.place_values q) ≤ 24 + length (flat_map def_columns (place_values k q))
 place-defs labels k (Entry l params) h = omega (arith, parameters-defs k l 0 params)
 place-defs labels k (At (Does s)) h = step-defs k s h
 place-defs labels k (At (Forks c x y)) h = omega arith
@@ -55,7 +55,7 @@ three-services false (Ending i) = omega arith
 
 use-columns : (labels : List Label) (u : Use) → 3 ≤ length (srv_columns labels u)
 use-columns labels u =
-    let b = is_fetched (sort_of labels u.value) in
+    let b = is_fetched (origin_of labels u.value) in
     subst (λ n. 3 ≤ n) (sym (length-map (filter (λ s. has_bank b s.from) (services u.role)) (λ s. (Srv u.point u.operand s.from s.at, s.cost)))) (three-services b u.role)
 
 uses-columns : (labels : List Label) (k i : ℕ) (xs : List ℕ) (rs : List Role) → length rs ≡ length xs → 3 * length xs ≤ length (flat_map (srv_columns labels) (uses_at k i xs rs))

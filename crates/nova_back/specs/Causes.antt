@@ -4,15 +4,15 @@ use Rattle.ssu_ir.specs.Entered.{entered}
 use Rattle.ssu_ir.specs.Meaning.{ssu_meaning, ssu_params}
 use Rattle.ssu_ir.specs.Measures.{peak, size, code_bound}
 use Rattle.ssu_ir.specs.Tree.{Label}
-use Rattle.slot_placement.specs.Uses.{values, uses}
+use Rattle.placement.specs.Uses.{values, uses}
 use Rattle.uc_isa.specs.Agrees.{Agrees}
 use Rattle.uc_isa.specs.Code.{CodeView}
 use Rattle.uc_isa.specs.Lawful.{IsLawful}
 use Rattle.uc_isa.specs.Moves.{moves}
 use Rattle.label_weights.specs.Weighted.{weight_of}
-use Rattle.uc_runs.specs.Entries.{IsVisited}
+use Rattle.uc_executions.specs.Entries.{IsVisited}
 use Rattle.uc_peep.specs.Needless.{HasNoNeedless}
-use Rattle.uc_runs.specs.Starts.{AreStarts}
+use Rattle.uc_executions.specs.Starts.{AreStarts}
 use Rattle.ucode_emit.specs.SpillBase.{SpillsByBase}
 use Rattle.ucode_emit.specs.Operations.{code_operations, form_operations}
 use Rattle.nova_back.specs.LeftOut.{LeavesOut}
@@ -21,8 +21,8 @@ use Rattle.zo_model.specs.Program.{columns, cost_of, vector}
 use Rattle.zo_cert.specs.Certificate.{IsTreeWith, branches}
 use Rattle.zo_cert.specs.Report.{IsValidReport, IsTrueReport}
 use Rattle.zo_cert.specs.Searched.{IsSearched}
-use Rattle.zo_leaf.specs.declared.cert.Claim.{Claim}
-use Rattle.zo_leaf.specs.declared.cert.Claim.TheVariants.{Least, Nothing}
+use Rattle.zo_proof.specs.declared.cert.Claim.{Claim}
+use Rattle.zo_proof.specs.declared.cert.Claim.TheVariants.{Least, Nothing}
 use Rattle.zo_cert.specs.declared.report.Report.{Report}
 use Rattle.zo_cert.specs.declared.report.Verdict.{Verdict}
 use Rattle.zo_cert.specs.declared.report.Verdict.TheVariants.{Optimal, Feasible, Infeasible, Spent}
@@ -33,7 +33,7 @@ use Rattle.nova_back.specs.declared.error.BackError.TheVariants as back
 
 -- ---- code
 
--- lawful code that does what the form says. It has B15 for the addresses of so many slots alone, and without its moves it is the operations
+-- lawful code that does what the form says. It has B15 for the addresses of N slots alone, and without its moves it is the operations
 -- of the form's nodes in order, but for computations that nothing needs
 pub record IsCodeOf (labels : List Label) (slots : ℕ) (c : CodeView) : Type 0 where
   pub lawful : IsLawful c.list
@@ -99,7 +99,7 @@ WeighAtMost labels ws most = (l : ℕ) → l < length labels → weight_of ws l 
 abbrev pub IsCheapFor : List Label → List ℕ → ℕ → Type 0
 IsCheapFor labels ws cost = (most : ℕ) → WeighAtMost labels ws most → cost ≤ copies_cost labels * most
 
--- code by the vector of such a report, with its labels' starts: the moves cost at most what the vector does. Where all values that are held
+-- code by the vector of such a report, with its labels' starts: the moves cost at most what the vector does. Where all live values
 -- at once fit a bank, that is at most two copies a value and one a use, each times the greatest weight of a label
 pub record IsCodeBy (labels : List Label) (slots : ℕ) (ws : List ℕ) (budget : ℕ) (r : Report) (c : CodeView) (starts : List ℕ) : Type 0 where
   pub report : IsReportOn labels slots ws budget r
@@ -111,7 +111,7 @@ pub record IsCodeBy (labels : List Label) (slots : ℕ) (ws : List ℕ) (budget 
 
 -- ---- causes
 
--- the form's program of the banks has so many columns, or else rows, and more than fit: at most 64 for each point, value and use of the form
+-- the form's program of the banks has N columns, or else rows, and more than fit: at most 64 for each point, value and use of the form
 abbrev pub HasLargeProgram : List Label → ℕ → ℕ → Type 0
 HasLargeProgram labels slots n = IsTooLarge labels slots n × (n ≤ 64 * size labels)
 

@@ -84,7 +84,7 @@ pub fn back(
     ensures found { IfOk result (λ b. HasVector b.report.verdict) }
     // Under the weights the code's moves cost at most what the report's vector does.
     ensures light { IfOk result (λ b. moves b.code.list b.starts.items w.now ≤ report_cost b.report) }
-    // Where all values that are held at once fit a bank, at most two copies a value and one a use, each times the greatest weight.
+    // Where all live values at once fit a bank, at most two copies a value and one a use, each times the greatest weight.
     ensures cheap { peak (labels_view s) ≤ 15 → IfOk result (λ b. IsCheapFor (labels_view s) w.now (report_cost b.report)) }
     ensures few { IfOk result (λ _. length (columns (labels_view s)) ≤ 2 ^ 26) }
     ensures few_rows { IfOk result (λ _. length (rows (labels_view s) slots) ≤ 2 ^ 26) }

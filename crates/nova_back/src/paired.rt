@@ -111,7 +111,7 @@ fn choices(alloc: Global, numbers: &Numbers, names: &[Column]) -> Result<Vec<boo
 }
 
 /// The paired choice: each value in both banks, so that any two of them can be operands of one instruction, and no
-/// slot. Where at most 15 values are held at once it meets all rows.
+/// slot. Where at most 15 values are live at once it meets all rows.
 pub fn paired(alloc: Global, s: &Ssu) -> Result<Assignment, NoMemory>
     requires { single (labels_view s.now) ≡ true }
     ensures columns { IfOk result (λ x. length x.on.items ≡ length (columns.columns (labels_view s.now))) }

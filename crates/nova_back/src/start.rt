@@ -7,18 +7,18 @@ ghost use Rattle.ssu_ir.specs.View.{labels_view};
 ghost use Rattle.nova_back.specs.inner.Search.{IsCheap, IsStart};
 
 use crate::paired::paired;
-use held_values::peak;
 use nv_base::NoMemory;
+use placement::{PlaceError, spill_all};
 use reg_assign::from_placement;
-use slot_placement::{PlaceError, spill_all};
 use ssu_ir::Ssu;
+use ssu_liveness::peak;
 use std::alloc::Global;
 use zo_model::Assignment;
 
 /// So many values fit a bank: one register of its 16 is the compiler's own.
 const BANK_ROOM: u32 = 15;
 
-/// A choice of banks that meets the rows: each value in both banks where all values that are held at once fit a bank,
+/// A choice of banks that meets the rows: each value in both banks where all live values at once fit a bank,
 /// else each in a slot where they fit the slots, else none.
 pub fn start_of(alloc: Global, s: &Ssu, slots: u32) -> Result<Option<Assignment>, NoMemory>
     requires single { single (labels_view s.now) ≡ true }

@@ -6,7 +6,7 @@ use Rattle.command_line.specs.declared.status.Status.{Status}
 use Rattle.command_line.specs.declared.status.Status.TheVariants.{Done, Infeasible, BudgetSpent}
 use Rattle.nova_commands.specs.Answers.{Makes}
 use Rattle.nova_commands.specs.Headline.{CompileMakes}
-use Rattle.object_commands.specs.Saving.{File, saves_of}
+use Rattle.machine_commands.specs.Saving.{File, saves_of}
 
 -- the saves of these files are some of these
 abbrev pub SavesPart : List (List ℕ) → List File → Type 0

@@ -7,7 +7,7 @@ use Rattle.ssu_ir.specs.Tree.{Label}
 use Rattle.bank_form.specs.Columns.{columns}
 use Rattle.bank_form.specs.Program.{rows, IsTooLarge}
 use Rattle.nova_front.proofs.OneSource.{source-program}
-use Rattle.made_source.specs.Made.{made}
+use Rattle.source_generator.specs.Made.{made}
 use Rattle.command_line.specs.Command.{Compile}
 use Rattle.command_line.specs.Limits.{slots_limit, budget_default, store_limit}
 use Rattle.command_line.specs.declared.refusal.Refusal.{Refusal}

@@ -3,7 +3,7 @@ use Rattle.std.proofs.Common.{Result, Ok, Err, IfErr, sym, subst}
 use Rattle.nova_commands.specs.inner.Replies.{IsShown}
 use Rattle.command_line.specs.declared.refusal.Refusal.{Refusal}
 use Rattle.command_line.specs.declared.reply.Reply.{Reply}
-use Rattle.object_commands.specs.declared.save.Made.{Made}
+use Rattle.machine_commands.specs.declared.save.Made.{Made}
 
 pub shown-refused : (a : Result Reply Refusal) (m : Result Made Refusal) (P : Refusal → Type 0) → IsShown a m → IfErr a P → IfErr m P
 shown-refused (Ok r) (Ok m) P s h = tt

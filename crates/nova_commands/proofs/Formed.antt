@@ -31,11 +31,11 @@ use Rattle.uc_isa.specs.Moves.{moves}
 use Rattle.uc_isa.proofs.Through.{agrees-through}
 use Rattle.zo_model.specs.Program.{vector, cost_of, Feasible, IsValid}
 use Rattle.zo_cert.specs.Report.{VerdictHolds}
-use Rattle.zo_leaf.specs.declared.cert.Claim.TheVariants.{Least}
+use Rattle.zo_proof.specs.declared.cert.Claim.TheVariants.{Least}
 use Rattle.zo_cert.specs.declared.report.Report.{Report}
 use Rattle.zo_cert.specs.declared.report.Verdict.{Verdict}
 use Rattle.zo_cert.specs.declared.report.Verdict.TheVariants as verdict
-use Rattle.zo_leaf.proofs.Duality.{proves_holds}
+use Rattle.zo_proof.proofs.Duality.{proves_holds}
 use Rattle.nova_back.specs.Causes.{IsCodeOf, AreStartsOf, IsReportOn, IsCheapFor, IsWithout, HasLargeProgram, IsCause, IsLong, HasVector, report_cost}
 use Rattle.nova_back.specs.declared.error.BackError.{BackError}
 use Rattle.nova_back.specs.declared.error.BackError.TheVariants as back

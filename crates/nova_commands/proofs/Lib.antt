@@ -1,3 +1,6 @@
+pub mod Printing
+pub mod Completeness
+pub mod Ending
 pub mod Errors
 pub mod Formed
 pub mod OneSource
@@ -8,6 +11,6 @@ pub mod Loads
 pub mod Saves
 pub mod Named
 pub mod Begun
-pub mod Found
+pub mod CompileOutcome
 pub mod Complete
 pub mod Asked

@@ -15,7 +15,7 @@ use Rattle.command_line.specs.Lines.{IsUncaused, refusal_status}
 use Rattle.command_line.specs.declared.input.Input.{Input as Named}
 use Rattle.nova_commands.specs.Loading.{Input, IsRead, AreRead, StopsAt, IsUnread, loads_of}
 use Rattle.nova_commands.specs.inner.Contents.{AreShort, contents_of}
-use Rattle.object_commands.proofs.Saves.{rose-later}
+use Rattle.machine_commands.proofs.Saves.{rose-later}
 use Rattle.command_line.specs.declared.refusal.Refusal.{Refusal}
 use Rattle.command_line.specs.declared.refusal.Refusal.TheVariants.{ReadFault, TooLarge}
 
@@ -106,7 +106,7 @@ unread-later T held before mid after (ReadFault name) i rises h = (h.0, rose-lat
 unread-later T held before mid after (TooLarge n) i rises h = h
 unread-later T held before mid after _ i rises h = h
 
--- ---- one input behind the other
+-- ---- one input after the other
 
 -- a store has loaded these inputs, with these contents, and holds what it held
 pub record HasLoaded {S : Type 0} (T : Type 0) (held : S → Holding) (history : S → List Call → Type 0) (loads saves : S → List ℕ → ℕ) (old now : S) (is : List Input) (bs : List (List ℕ)) : Type 0 where

@@ -28,20 +28,20 @@ use Rattle.nv_ast.specs.Tree.{ProgramTree}
 use Rattle.nv_meaning.specs.Meaning.{source as meaning}
 use Rattle.nova_commands.proofs.Formed.{fewer}
 use Rattle.nova_commands.specs.Answers.{Makes, Prints, CanMake, CanEnd, Refuses, MustRefuse}
-use Rattle.object_commands.specs.Assembly.{AsmRefuses, IsListed}
+use Rattle.machine_commands.specs.Assembly.{AsmRefuses, IsListed}
 use Rattle.command_line.specs.Command.{Command, Compile, Run, Exec, Asm, Dis, Lint, Check, Gen, Contexts, Peep}
 use Rattle.nova_commands.specs.Executing.{ExecRefuses, IsExecuted}
 use Rattle.nova_commands.specs.Forms.{form_bound}
 use Rattle.nova_commands.specs.Headline.{CompileMakes, IsUnfit, IsEndOf}
 use Rattle.command_line.specs.Lines.{counted, refusal_status}
-use Rattle.object_commands.specs.Machine.{IsBadObjectFor, IsUnlawfulFor, IsMemoryRefusedFor, LintRefuses, RunRefuses, IsLinted, IsRun, spill_base, full_text, run_text}
-use Rattle.object_commands.specs.Scheduled.{ContextsRefuse, HaveTakenTurns, IsScheduleRefusedFor, IsScheduled}
+use Rattle.machine_commands.specs.Machine.{IsBadObjectFor, IsUnlawfulFor, IsMemoryRefusedFor, LintRefuses, RunRefuses, IsLinted, IsRun, spill_base, full_text, run_text}
+use Rattle.machine_commands.specs.Scheduled.{ContextsRefuse, HaveTakenTurns, IsScheduleRefusedFor, IsScheduled}
 use Rattle.schedule_text.specs.ScheduleText.{Gives as GivesTurns}
 use Rattle.uc_contexts.specs.Turns.{entries, scheduled, started}
-use Rattle.object_commands.specs.Saving.{File}
-use Rattle.object_commands.proofs.OneSchedule.{taken-one, taken-outcome, turns-one, turns-good, turns-refused-one}
+use Rattle.machine_commands.specs.Saving.{File}
+use Rattle.machine_commands.proofs.OneSchedule.{taken-one, taken-outcome, turns-one, turns-good, turns-refused-one}
 use Rattle.command_line.specs.Status.{outcome_status, MaySave}
-use Rattle.object_commands.specs.inner.Outcomes.{IsOutcome}
+use Rattle.machine_commands.specs.inner.Outcomes.{IsOutcome}
 use Rattle.command_line.specs.declared.refusal.Refusal.{Refusal}
 use Rattle.command_line.specs.declared.refusal.Refusal.TheVariants.{NoMemory, ReadFault, TooLarge, Syntax, Label, UnlawfulLine, BadObject, BadMemoryText, Unlawful, SourceLarge, StoreFull}
 use Rattle.command_line.specs.declared.status.Status.{Status}

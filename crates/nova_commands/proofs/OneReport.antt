@@ -5,7 +5,7 @@ use Rattle.zo_model.specs.Program.{vector, costs_of, Feasible}
 use Rattle.zo_cert.specs.Certificate.{Holds}
 use Rattle.zo_cert.specs.Contents.{ReportContents, report_contents}
 use Rattle.zo_cert.specs.Report.{IsTrueReport}
-use Rattle.zo_leaf.specs.declared.cert.Claim.TheVariants.{Least, Nothing}
+use Rattle.zo_proof.specs.declared.cert.Claim.TheVariants.{Least, Nothing}
 use Rattle.zo_cert.specs.declared.report.Report.{Report}
 use Rattle.zo_cert.specs.declared.report.Verdict.{Verdict}
 use Rattle.zo_cert.specs.declared.report.Verdict.TheVariants as verdict

@@ -15,12 +15,12 @@ use Rattle.nova_commands.specs.Headline.{CompileRefuses}
 use Rattle.command_line.specs.Lines.{IsUncaused}
 use Rattle.nova_commands.specs.Reading.{SourceRefuses}
 use Rattle.nova_commands.specs.Building.{IsTextCause, IsFormCause, IsCompileCause}
-use Rattle.nova_commands.specs.inner.Found.{IsFound, IsSortedAs, IsWithoutBanks}
+use Rattle.nova_commands.specs.inner.CompileOutcome.{IsCompileOutcome, IsSortedAs, IsWithoutBanks}
 use Rattle.nova_commands.specs.inner.Telling.{IsSpelledAs, IsToldAs, IsPassedAs}
 use Rattle.nova_commands.specs.declared.build.CompileError.{CompileError}
 use Rattle.nova_commands.specs.declared.build.CompileError.TheVariants as compile
-use Rattle.nova_commands.specs.declared.compile.Found.{Found}
-use Rattle.nova_commands.specs.declared.compile.Found.TheVariants as found
+use Rattle.nova_commands.specs.declared.compile.CompileOutcome.{CompileOutcome}
+use Rattle.nova_commands.specs.declared.compile.CompileOutcome.TheVariants as found
 use Rattle.command_line.specs.declared.refusal.Refusal.{Refusal}
 use Rattle.command_line.specs.declared.refusal.Refusal.TheVariants.{NoMemory, SourceChar, SourceNumber, SourceName, SourceSyntax, SourceDeep, SourceType, SourceLarge, StoreFull}
 
@@ -90,16 +90,16 @@ pass-front bytes (front.TooLarge size) e (inr h) is = inr (subst (SourceRefuses 
 abbrev pub IsWhyNot : List ℕ → ℕ → List ℕ → ℕ → ℕ → CompileError → Type 0
 IsWhyNot bytes slots ws budget store error = (error ≡ compile.NoMemory) ⊎ IsCompileCause bytes slots ws budget store error
 
-ok-same : (f g : Found) → ◌≡◌ {A = Result Found Refusal} (Ok f) (Ok g) → f ≡ g
+ok-same : (f g : CompileOutcome) → ◌≡◌ {A = Result CompileOutcome Refusal} (Ok f) (Ok g) → f ≡ g
 ok-same f g e = cc
 
-err-same : (d e : Refusal) → ◌≡◌ {A = Result Found Refusal} (Err d) (Err e) → d ≡ e
+err-same : (d e : Refusal) → ◌≡◌ {A = Result CompileOutcome Refusal} (Err d) (Err e) → d ≡ e
 err-same d e h = cc
 
-ok-not_err : (f : Found) (e : Refusal) → ◌≡◌ {A = Result Found Refusal} (Ok f) (Err e) → ⊥
+ok-not_err : (f : CompileOutcome) (e : Refusal) → ◌≡◌ {A = Result CompileOutcome Refusal} (Ok f) (Err e) → ⊥
 ok-not_err f e h = cc
 
-err-not_ok : (f : Found) (e : Refusal) → ◌≡◌ {A = Result Found Refusal} (Err e) (Ok f) → ⊥
+err-not_ok : (f : CompileOutcome) (e : Refusal) → ◌≡◌ {A = Result CompileOutcome Refusal} (Err e) (Ok f) → ⊥
 err-not_ok f e h = cc
 
 infeasible-why : (bytes : List ℕ) (slots : ℕ) (ws : List ℕ) (budget store : ℕ) (r : Report) → IsWhyNot bytes slots ws budget store (compile.Infeasible r) → IsWithoutBanks bytes slots ws budget verdict.Infeasible r
@@ -112,11 +112,11 @@ spent-why bytes slots ws budget store r (inl e) = let no-way : ⊥ = cc in absur
 spent-why bytes slots ws budget store r (inr (inl h)) = absurd h
 spent-why bytes slots ws budget store r (inr (inr h)) = record { program = h.0; is_source = h.1; without = h.2 }
 
-pub sorted-found : (bytes : List ℕ) (slots : ℕ) (ws : List ℕ) (budget store : ℕ) (error : CompileError) (result : Result Found Refusal) → IsWhyNot bytes slots ws budget store error → IsSortedAs error result
-    → IfOk result (IsFound bytes slots ws budget store)
+pub sorted-found : (bytes : List ℕ) (slots : ℕ) (ws : List ℕ) (budget store : ℕ) (error : CompileError) (result : Result CompileOutcome Refusal) → IsWhyNot bytes slots ws budget store error → IsSortedAs error result
+    → IfOk result (IsCompileOutcome bytes slots ws budget store)
 sorted-found bytes slots ws budget store error (Err e) h is = tt
-sorted-found bytes slots ws budget store (compile.Infeasible r) (Ok f) h is = subst (IsFound bytes slots ws budget store) (sym (ok-same f (found.Infeasible r) is)) (infeasible-why bytes slots ws budget store r h)
-sorted-found bytes slots ws budget store (compile.Spent r) (Ok f) h is = subst (IsFound bytes slots ws budget store) (sym (ok-same f (found.Spent r) is)) (spent-why bytes slots ws budget store r h)
+sorted-found bytes slots ws budget store (compile.Infeasible r) (Ok f) h is = subst (IsCompileOutcome bytes slots ws budget store) (sym (ok-same f (found.Infeasible r) is)) (infeasible-why bytes slots ws budget store r h)
+sorted-found bytes slots ws budget store (compile.Spent r) (Ok f) h is = subst (IsCompileOutcome bytes slots ws budget store) (sym (ok-same f (found.Spent r) is)) (spent-why bytes slots ws budget store r h)
 sorted-found bytes slots ws budget store compile.NoMemory (Ok f) h is = absurd (ok-not_err f NoMemory is)
 sorted-found bytes slots ws budget store (compile.Text t) (Ok f) h is = absurd is
 sorted-found bytes slots ws budget store (compile.Fault kind place) (Ok f) h is = absurd (ok-not_err f (SourceType kind place) is)
@@ -143,7 +143,7 @@ long-why bytes slots ws budget store n (inl none) = let no-way : ⊥ = cc in abs
 long-why bytes slots ws budget store n (inr (inl h)) = absurd h
 long-why bytes slots ws budget store n (inr (inr h)) = inr h
 
-pub sorted-refused : (bytes : List ℕ) (slots : ℕ) (ws : List ℕ) (budget store : ℕ) (error : CompileError) (result : Result Found Refusal) → IsWhyNot bytes slots ws budget store error → IsSortedAs error result
+pub sorted-refused : (bytes : List ℕ) (slots : ℕ) (ws : List ℕ) (budget store : ℕ) (error : CompileError) (result : Result CompileOutcome Refusal) → IsWhyNot bytes slots ws budget store error → IsSortedAs error result
     → IfErr result (λ e. IsUncaused e ⊎ CompileRefuses bytes slots ws budget store e)
 sorted-refused bytes slots ws budget store error (Ok f) h is = tt
 sorted-refused bytes slots ws budget store (compile.Infeasible r) (Err e) h is = absurd (err-not_ok (found.Infeasible r) e is)

@@ -10,11 +10,11 @@ use Rattle.nova_commands.specs.Headline.{CompiledMakes, WithoutMakes, CompileMak
 use Rattle.command_line.specs.Limits.{source_limit}
 use Rattle.command_line.specs.Lines.{IsUncaused, cannot_write}
 use Rattle.nova_commands.specs.Loading.{input, IsRead, AreRead, StopsAt, IsUnread, inputs_of}
-use Rattle.object_commands.specs.Saving.{File, file, AreSaved, IsCut, IsSameBut}
+use Rattle.machine_commands.specs.Saving.{File, file, AreSaved, IsCut, IsSameBut}
 use Rattle.command_line.specs.declared.refusal.Refusal.{Refusal}
 use Rattle.command_line.specs.declared.status.Status.{Status}
 use Rattle.command_line.specs.declared.status.Status.TheVariants.{Done, WriteFault, Infeasible, BudgetSpent}
-use Rattle.object_commands.proofs.Saves.{cut-map}
+use Rattle.machine_commands.proofs.Saves.{cut-map}
 
 -- the only file
 cut-one : (T : Type 0) (f : File) (old new : Holding) (P : List ℕ → Type 0) → IsCut T (f ∷ []) old new P → P f.name × (T → SameElsewhere old new f.name)

@@ -1,7 +1,7 @@
 -- The answers of the program.
 use Rattle.std.specs.Prelude.{◌≡◌, ◌⊎◌, ◌++◌, ℕ, List, [], ◌∷◌, ⊤}
 use Rattle.nv_outside.specs.Holding.{Holding, AppendsFront}
-use Rattle.object_commands.specs.Assembly.{AsmMakes, AsmRefuses, HasAssembly, IsListed}
+use Rattle.machine_commands.specs.Assembly.{AsmMakes, AsmRefuses, HasAssembly, IsListed}
 use Rattle.command_line.specs.Command.{Command, Compile, Run, Exec, Asm, Dis, Lint, Check, Gen, Contexts, Peep}
 use Rattle.nova_commands.specs.Checking.{CheckRefuses, IsChecked}
 use Rattle.nova_commands.specs.Executing.{ExecRefuses, IsExecuted}
@@ -9,12 +9,12 @@ use Rattle.nova_commands.specs.Generating.{IsGenerated, GenRefuses}
 use Rattle.nova_commands.specs.Headline.{CompileMakes, CompileRefuses, IsEndOf}
 use Rattle.command_line.specs.Lines.{IsUncaused, refusal_status, refusal_text, cannot_write}
 use Rattle.nova_commands.specs.Loading.{AreRead, StopsAt, IsUnread, inputs_of}
-use Rattle.object_commands.specs.Machine.{HasCode, IsBadObjectFor, LintRefuses, IsLinted, RunRefuses, IsRun}
+use Rattle.machine_commands.specs.Machine.{HasCode, IsBadObjectFor, LintRefuses, IsLinted, RunRefuses, IsRun}
 use Rattle.uc_isa.specs.Lawful.{IsLawful}
 use Rattle.nova_commands.specs.Reading.{HasTyped, SourceRefuses}
-use Rattle.object_commands.specs.Peeping.{PeepMakes}
-use Rattle.object_commands.specs.Saving.{File, AreSaved, IsCut}
-use Rattle.object_commands.specs.Scheduled.{ContextsRefuse, IsScheduled}
+use Rattle.machine_commands.specs.Peeping.{PeepMakes}
+use Rattle.machine_commands.specs.Saving.{File, AreSaved, IsCut}
+use Rattle.machine_commands.specs.Scheduled.{ContextsRefuse, IsScheduled}
 use Rattle.command_line.specs.declared.refusal.Refusal.{Refusal}
 use Rattle.command_line.specs.declared.status.Status.{Status}
 use Rattle.command_line.specs.declared.status.Status.TheVariants.{Done, ReadFault, WriteFault, NoMemory}
@@ -127,7 +127,7 @@ abbrev pub IsPrinted : Type 0 → Holding → Holding → (List ℕ → Type 0) 
 IsPrinted Tells old new Rises command status SinkTells before after =
     (text : List ℕ) × Ends Tells old new Rises command status text × (SinkTells → after ≡ before ++ text)
 
--- a save failed, and a front of the line that says so was printed, or else the print failed, behind all saves
+-- a save failed, and a prefix of the line that says so was printed, or else the print failed, after all saves
 pub record IsBegun (Tells : Type 0) (old new : Holding) (LoadRises SaveRises : List ℕ → Type 0) (command : Command) (PutFailed SinkTells : Type 0) (before after : List ℕ) : Type 0 where
   pub text : List ℕ
   pub cause : IsStopped Tells old new SaveRises command text ⊎ (PutFailed × ((status : Status) × Ends Tells old new LoadRises command status text))
@@ -143,7 +143,7 @@ IsRefusable command held e =
     StopsAt ⊤ held (inputs_of command) (IsUnread ⊤ held (λ _. ⊥) e)
     ⊎ ((contents : List (List ℕ)) × AreRead ⊤ held (inputs_of command) contents × MustRefuse command contents e)
 
--- a fault of the files or the sink, or want of memory
+-- a fault of the files or the sink, or memory exhaustion
 abbrev pub IsFree : Status → Type 0
 IsFree status = (status ≡ ReadFault) ⊎ (status ≡ WriteFault) ⊎ (status ≡ NoMemory)
 

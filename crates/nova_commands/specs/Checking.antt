@@ -6,7 +6,7 @@ use Rattle.zo_cert.specs.Contents.{report_contents}
 use Rattle.zo_cert.specs.Report.{IsValidReport, IsTrueReport}
 use Rattle.zo_cert.specs.ReportFault.{IsReport, IsFirstReportFault}
 use Rattle.zo_cert.specs.ReportText.{report_text}
-use Rattle.zo_leaf.specs.declared.cert.Claim.TheVariants.{Least, Nothing}
+use Rattle.zo_proof.specs.declared.cert.Claim.TheVariants.{Least, Nothing}
 use Rattle.zo_cert.specs.declared.report.Report.{Report}
 use Rattle.zo_cert.specs.declared.report.Verdict.{Verdict}
 use Rattle.zo_cert.specs.declared.report.Verdict.TheVariants as verdict

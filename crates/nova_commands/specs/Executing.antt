@@ -5,7 +5,7 @@ use Rattle.nv_ast.specs.Sizes.{main_words}
 use Rattle.nv_ast.specs.Tree.{ProgramTree}
 use Rattle.nv_memtext.specs.MemoryText.{Gives}
 use Rattle.nv_meaning.specs.Meaning.{source}
-use Rattle.object_commands.specs.Machine.{IsMemoryRefusedFor, full_text}
+use Rattle.machine_commands.specs.Machine.{IsMemoryRefusedFor, full_text}
 use Rattle.nova_front.specs.Sources.{IsTypedSource}
 use Rattle.nova_commands.specs.Reading.{HasTyped, SourceRefuses}
 use Rattle.command_line.specs.Status.{outcome_status}

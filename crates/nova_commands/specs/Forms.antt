@@ -43,7 +43,7 @@ pub record IsCodeFor (program : ProgramTree) (c : CodeView) : Type 0 where
 
 -- The report is on the banks of a form of the program, whose labels have these weights, with a vector that meets the rows. No vector that
 -- meets them costs less, where the verdict is optimal. The code is that of the form with these slots, and the form's labels start at these
--- places. Under the weights the code's moves cost no more than the report's vector; where all values that are held at once fit a bank, that
+-- places. Under the weights the code's moves cost no more than the report's vector; where all live values at once fit a bank, that
 -- is at most 2 a value and 1 a use, each times the greatest weight of a label.
 pub record HasBanks (program : ProgramTree) (slots : ℕ) (ws : List ℕ) (budget : ℕ) (code : CodeView) (starts : List ℕ) (r : Report) : Type 0 where
   pub form : List Label
@@ -57,7 +57,7 @@ pub record HasBanks (program : ProgramTree) (slots : ℕ) (ws : List ℕ) (budge
   pub light : moves code.list starts ws ≤ report_cost r
   pub cheap : peak form ≤ 15 → IsCheapFor form ws (report_cost r)
 
--- the program of the banks of a form of the program has so many columns, or else rows, and more than fit
+-- the program of the banks of a form of the program has N columns, or else rows, and more than fit
 pub record HasLargeBanks (program : ProgramTree) (slots n : ℕ) : Type 0 where
   pub form : List Label
   pub is_form : IsFormOf program form

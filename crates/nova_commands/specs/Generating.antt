@@ -1,7 +1,7 @@
 -- What the command `gen` prints, and why it is refused.
 use Rattle.std.specs.Prelude.{◌≡◌, ◌≤◌, ◌^◌, ◌⊎◌, ℕ, List, [], ◌∷◌, ◌++◌, codes, decimal, length}
 use Rattle.line_text.specs.Number.{hex_word}
-use Rattle.made_source.specs.Made.{made}
+use Rattle.source_generator.specs.Made.{made}
 use Rattle.nv_ast.specs.Tree.{ProgramTree}
 use Rattle.nv_base.specs.Memories.{Memories}
 use Rattle.nv_base.specs.declared.outcome.Outcome.TheVariants.{Ended}

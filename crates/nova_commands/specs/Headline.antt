@@ -19,7 +19,7 @@ use Rattle.nova_commands.specs.Forms.{form_bound, HasBanks, HasSmallBanks, HasLa
 use Rattle.command_line.specs.Lines.{compiled_text, infeasible_text, spent_text}
 use Rattle.command_line.specs.Limits.{source_limit}
 use Rattle.nova_commands.specs.Reading.{HasTyped, SourceRefuses}
-use Rattle.object_commands.specs.Saving.{File, file, IsSameBut}
+use Rattle.machine_commands.specs.Saving.{File, file, IsSameBut}
 use Rattle.command_line.specs.declared.refusal.Refusal.{Refusal}
 use Rattle.command_line.specs.declared.refusal.Refusal.TheVariants.{SourceLarge, StoreFull}
 use Rattle.command_line.specs.declared.status.Status.{Status}

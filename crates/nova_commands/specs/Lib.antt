@@ -1,3 +1,4 @@
+pub mod Exits
 pub mod Loading
 pub mod Calling
 pub mod Reading

@@ -2,4 +2,4 @@ pub mod Telling
 pub mod Contents
 pub mod Replies
 pub mod Generated
-pub mod Found
+pub mod CompileOutcome

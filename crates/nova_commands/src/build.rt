@@ -118,7 +118,7 @@ pub fn compile_text(
     ensures found { IfOk result (λ t. HasVector t.built.report.verdict) }
     // Under the weights the code's moves cost at most what the report's vector does.
     ensures light { IfOk result (λ t. moves t.built.code.list t.built.starts.items w.now ≤ report_cost t.built.report) }
-    // Where all values that are held at once fit a bank, at most two copies a value and one a use, each times the greatest weight.
+    // Where all live values at once fit a bank, at most two copies a value and one a use, each times the greatest weight.
     ensures cheap { IfOk result (λ t. peak (labels_view t.built.ssu) ≤ 15 → IsCheapFor (labels_view t.built.ssu) w.now (report_cost t.built.report)) }
     ensures banks { IfOk result (λ t. HasBanks (typed_program t.typed) slots w.now budget t.built.code t.built.starts.items t.built.report) }
     ensures only_program { (p : ProgramTree) → IsTypedSource bytes.now p → MatchResult result (λ t. typed_program t.typed ≡ p) (λ e. (e ≡ CompileError.NoMemory) ⊎ IsFormCause p slots w.now budget store e) }

@@ -13,9 +13,9 @@ ghost use Rattle.command_line.specs.Limits.{source_limit};
 ghost use Rattle.command_line.specs.Lines.{IsUncaused, compiled_text};
 ghost use Rattle.command_line.specs.declared.status.Status.{Status};
 ghost use Rattle.zo_cert.specs.declared.report.Verdict.{Verdict};
-ghost use Rattle.object_commands.specs.Saving.{file};
-ghost use Rattle.object_commands.specs.inner.Files.{file_of, files_of, AreTold, IsTold};
-ghost use Rattle.nova_commands.specs.inner.Found.{HasParts, IsBuilt, IsFound, IsSavable, IsSortedAs, IsWithoutBanks};
+ghost use Rattle.machine_commands.specs.Saving.{file};
+ghost use Rattle.machine_commands.specs.inner.Files.{file_of, files_of, AreTold, IsTold};
+ghost use Rattle.nova_commands.specs.inner.CompileOutcome.{HasParts, IsBuilt, IsCompileOutcome, IsSavable, IsSortedAs, IsWithoutBanks};
 ghost use Rattle.command_line.specs.inner.Words.{AreInLimits};
 
 use crate::build::{CompileError, Compiled, compile_text};
@@ -23,10 +23,10 @@ use crate::naming::exceptions_of;
 use crate::source::text_refusal;
 use command_line::{Options, Refusal, Status, compiled_line, counted_line, line};
 use label_weights::Weights;
+use machine_commands::{Made, Output, Outputs};
 use nova_back::Built;
 use nv_ast::Program;
 use nv_base::NoMemory;
-use object_commands::{Made, Output, Outputs};
 use std::alloc::Global;
 use uc_isa::Code;
 use uc_object::{Object, Tagged, encode};
@@ -35,7 +35,7 @@ use zo_model::cost;
 
 /// What the compilation of a source that isn't refused comes to.
 #[derive(Drop)]
-pub enum Found {
+pub enum CompileOutcome {
     Code(Compiled),
     /// No choice of banks meets the rows.
     Infeasible(Report),
@@ -57,33 +57,33 @@ pub fn compile_bytes<'a>(
     ensures told { IfOk result (λ m. AreTold m.outputs) }
     ensures refused { IfErr result (λ e. IsUncaused e ⊎ CompileRefuses bytes.now options.slots [] options.budget options.store e) }
 {
-    let found = found_evenly(alloc, bytes, options)?;
-    Ok(found_made(alloc, bytes, found, object, report, options.budget)?)
+    let found = outcome_evenly(alloc, bytes, options)?;
+    Ok(outcome_made(alloc, bytes, found, object, report, options.budget)?)
 }
 
 // What is saved and told of a source that isn't refused.
-fn found_made<'a>(
+fn outcome_made<'a>(
     alloc: Global,
     text: &[u8],
-    found: Found,
+    found: CompileOutcome,
     object: &'a str,
     report: &'a str,
     budget: u32,
 ) -> Result<Made<'a>, NoMemory>
     requires text { length text.now ≤ source_limit }
     requires found { IsSavable found }
-    ensures made { (slots : ℕ) (ws : List ℕ) (store : ℕ) → IsFound text.now slots ws budget store found → IfOk result (λ m. CompileMakes text.now object.now report.now slots ws budget store m.status (files_of m.outputs) m.text.items) }
+    ensures made { (slots : ℕ) (ws : List ℕ) (store : ℕ) → IsCompileOutcome text.now slots ws budget store found → IfOk result (λ m. CompileMakes text.now object.now report.now slots ws budget store m.status (files_of m.outputs) m.text.items) }
     ensures told { IfOk result (λ m. AreTold m.outputs) }
 {
     match found {
-        Found::Code(compiled) => code_made(alloc, text, compiled, object, report),
-        Found::Infeasible(without) => {
+        CompileOutcome::Code(compiled) => code_made(alloc, text, compiled, object, report),
+        CompileOutcome::Infeasible(without) => {
             let made = infeasible_made(alloc, report, &without);
             // By a call, and not at each way out, where the proof would follow each field.
             drop(without);
             made
         }
-        Found::Spent(without) => {
+        CompileOutcome::Spent(without) => {
             let made = spent_made(alloc, report, &without, budget);
             drop(without);
             made
@@ -124,41 +124,45 @@ fn no_weights(alloc: Global) -> Weights
 }
 
 /// The code of a source and the report on its banks, or the report alone, where each label weighs 1.
-pub fn found_evenly<'a>(alloc: Global, text: &[u8], options: Options) -> Result<Found, Refusal<'a>>
+pub fn outcome_evenly<'a>(
+    alloc: Global,
+    text: &[u8],
+    options: Options,
+) -> Result<CompileOutcome, Refusal<'a>>
     requires text { length text.now ≤ source_limit }
     requires options { AreInLimits options }
-    ensures found { IfOk result (IsFound text.now options.slots [] options.budget options.store) }
+    ensures found { IfOk result (IsCompileOutcome text.now options.slots [] options.budget options.store) }
     ensures refused { IfErr result (λ e. IsUncaused e ⊎ CompileRefuses text.now options.slots [] options.budget options.store e) }
 {
     let ones = no_weights(alloc);
-    found_of(alloc, text, options, &ones)
+    outcome_of_report(alloc, text, options, &ones)
 }
 
 // The same where the labels of the source's form have these weights.
-fn found_of<'a>(
+fn outcome_of_report<'a>(
     alloc: Global,
     text: &[u8],
     options: Options,
     w: &Weights,
-) -> Result<Found, Refusal<'a>>
+) -> Result<CompileOutcome, Refusal<'a>>
     requires text { length text.now ≤ source_limit }
     requires options { AreInLimits options }
-    ensures found { IfOk result (IsFound text.now options.slots w.now options.budget options.store) }
+    ensures found { IfOk result (IsCompileOutcome text.now options.slots w.now options.budget options.store) }
     ensures refused { IfErr result (λ e. IsUncaused e ⊎ CompileRefuses text.now options.slots w.now options.budget options.store e) }
 {
     match compile_text(alloc, text, options.slots, options.budget, options.store, w) {
-        Ok(compiled) => Ok(Found::Code(compiled)),
+        Ok(compiled) => Ok(CompileOutcome::Code(compiled)),
         Err(error) => sorted(error),
     }
 }
 
 // Whether it is refused, or has a report.
-fn sorted<'a>(error: CompileError) -> Result<Found, Refusal<'a>>
+fn sorted<'a>(error: CompileError) -> Result<CompileOutcome, Refusal<'a>>
     ensures { IsSortedAs error result }
 {
     match error {
-        CompileError::Infeasible(report) => Ok(Found::Infeasible(report)),
-        CompileError::Spent(report) => Ok(Found::Spent(report)),
+        CompileError::Infeasible(report) => Ok(CompileOutcome::Infeasible(report)),
+        CompileError::Spent(report) => Ok(CompileOutcome::Spent(report)),
         CompileError::NoMemory => Err(Refusal::NoMemory),
         CompileError::Text(fault) => Err(text_refusal(fault)),
         CompileError::Fault(kind, span) => Err(Refusal::SourceType(kind, span)),

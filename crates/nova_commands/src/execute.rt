@@ -5,17 +5,17 @@ ghost use Rattle.nv_meaning.specs.Meaning.{source as meaning};
 ghost use Rattle.nova_commands.specs.Executing.{ExecRefuses, IsExecuted};
 ghost use Rattle.command_line.specs.Limits.{source_limit, memory_limit};
 ghost use Rattle.command_line.specs.Lines.{IsUncaused};
-ghost use Rattle.object_commands.specs.Machine.{full_text};
+ghost use Rattle.machine_commands.specs.Machine.{full_text};
 ghost use Rattle.command_line.specs.Status.{outcome_status};
-ghost use Rattle.object_commands.specs.inner.Outcomes.{IsOutcome};
+ghost use Rattle.machine_commands.specs.inner.Outcomes.{IsOutcome};
 
 use crate::source::source_of;
 use command_line::{Refusal, Reply};
+use machine_commands::{SHOWN_WRITES, job_of, status_of};
 use nv_ast::Typed;
 use nv_base::{NoMemory, WriteLog};
 use nv_meaning::exec;
 use nv_memtext::{Job, print_outcome};
-use object_commands::{SHOWN_WRITES, job_of, status_of};
 use std::alloc::Global;
 
 /// Runs the program that the bytes are the text of on the memories and arguments of a memory text, with so many calls.

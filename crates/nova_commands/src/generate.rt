@@ -9,18 +9,18 @@ ghost use Rattle.nova_commands.specs.Headline.{CompileRefuses};
 ghost use Rattle.command_line.specs.Limits.{source_limit, slots_limit, budget_default, store_limit};
 ghost use Rattle.command_line.specs.Lines.{IsUncaused};
 ghost use Rattle.command_line.specs.declared.status.Status.{Status};
-ghost use Rattle.nova_commands.specs.inner.Found.{IsBuilt};
+ghost use Rattle.nova_commands.specs.inner.CompileOutcome.{IsBuilt};
 ghost use Rattle.nova_commands.specs.inner.Generated.{HasRoom, HasWord, AreWord, TellsOf};
 
 use crate::build::Compiled;
-use crate::compile::{Found, found_evenly};
+use crate::compile::{CompileOutcome, outcome_evenly};
 use command_line::limits::{DEFAULT_BUDGET, MOST_SLOTS, MOST_STORE, SPILL_BASE};
 use command_line::{Options, Refusal, Reply, Status, push_verdict};
 use line_text::{push_decimal, push_word};
-use made_source::made_text;
 use nv_ast::Typed;
 use nv_base::{Mem, NoMemory, Outcome, Packet, Words, WriteLog};
 use nv_meaning::exec;
+use source_generator::made_text;
 use std::alloc::Global;
 use uc_isa::Engine;
 use uc_sim::simulate;
@@ -89,9 +89,9 @@ fn compiled_of<'a>(alloc: Global, source: &[u8]) -> Result<Compiled, Refusal<'a>
         budget: DEFAULT_BUDGET,
         store: MOST_STORE,
     };
-    match found_evenly(alloc, source, options)? {
-        Found::Code(compiled) => Ok(compiled),
-        Found::Infeasible(_) | Found::Spent(_) => unreachable!(),
+    match outcome_evenly(alloc, source, options)? {
+        CompileOutcome::Code(compiled) => Ok(compiled),
+        CompileOutcome::Infeasible(_) | CompileOutcome::Spent(_) => unreachable!(),
     }
 }
 

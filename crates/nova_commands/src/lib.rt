@@ -1,5 +1,5 @@
-//! What each command makes of the contents of its files: the code and the report of a source, the outcome of a run, an object, a
-//! listing, a verdict; or why it is refused.
+//! The commands: `run` does what the words of a command line say, over any files and any sink. Each command makes code and
+//! a report, the outcome of a run, an object, a listing or a verdict from the contents of its files, or is refused.
 #![tactic(auto)]
 
 mod build;
@@ -9,10 +9,14 @@ mod generate;
 mod load;
 mod naming;
 mod perform;
+mod program;
 mod report;
 mod source;
+mod top;
 
 pub use build::{CompileError, Compiled, compile_text};
 pub use label_weights::Weights;
 pub use load::load_inputs;
 pub use perform::work;
+pub use program::exit_code;
+pub use top::run;

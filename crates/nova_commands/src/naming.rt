@@ -2,14 +2,14 @@
 ghost use Rattle.std.specs.Prelude.{◌≡◌, ◌≤◌, ◌<◌, ◌^◌, ◌∷◌, ◌++◌, List, length, map, IfOk};
 ghost use Rattle.nv_ast.specs.ProgramView.{decl_tree, program_of};
 ghost use Rattle.nv_ast.specs.Tree.{DeclTree};
-ghost use Rattle.text_place.specs.Place.{line_at};
+ghost use Rattle.line_text.specs.LineColumn.{line_at};
 ghost use Rattle.command_line.specs.Limits.{source_limit};
 ghost use Rattle.nova_commands.specs.Naming.{exceptions_in, source_exceptions};
 
+use line_text::line_after;
 use nv_ast::{Decl, Name, Program};
 use nv_base::NoMemory;
 use std::alloc::Global;
-use text_place::line_behind;
 
 /// A place of a text, and its line.
 #[derive(Clone, Copy)]
@@ -78,5 +78,5 @@ fn line_in(text: &[u8], last: Mark, place: usize) -> usize
     ensures line { result ≡ line_at text.now place }
     ensures low { result < 2 ^ 32 }
 {
-    line_behind(text, last.place, last.line, place)
+    line_after(text, last.place, last.line, place)
 }

@@ -5,16 +5,16 @@ ghost use Rattle.command_line.specs.inner.Words.{command_as, HasLimits};
 ghost use Rattle.command_line.specs.Lines.{IsUncaused};
 ghost use Rattle.nova_commands.specs.Loading.{inputs_of};
 ghost use Rattle.nova_commands.specs.inner.Contents.{contents_of, AreShort};
-ghost use Rattle.object_commands.specs.inner.Files.{files_of, AreTold};
+ghost use Rattle.machine_commands.specs.inner.Files.{files_of, AreTold};
 ghost use Rattle.nova_commands.specs.inner.Replies.{IsShown};
-ghost use Rattle.object_commands.specs.inner.Outcomes.{IsOutcome};
+ghost use Rattle.machine_commands.specs.inner.Outcomes.{IsOutcome};
 
 use crate::compile::compile_bytes;
 use crate::execute::exec_bytes;
 use crate::generate::generate;
 use crate::report::check_bytes;
 use command_line::{Command, Refusal, Reply};
-use object_commands::{
+use machine_commands::{
     Made, Outputs, assemble_bytes, contexts_bytes, lint_bytes, list_bytes, peep_bytes, run_bytes,
 };
 use std::alloc::Global;

@@ -1,9 +1,9 @@
 //! Where else a name is declared.
 
-use fault_parts::text::{Sheet, part};
+use explain_parts::text::{Message, part};
+use line_text::line_of;
 use nv_ast::{Decl, Fun, Name, Program, Span};
 use std::alloc::Global;
-use text_place::line_of;
 
 // What is declared: in which name space, and where.
 #[derive(Clone, Copy)]
@@ -23,7 +23,7 @@ const FUNCTIONS: u8 = 2;
 /// Appends where else a name is declared: for kind 2 before, and for kind 11 below.
 pub fn push_elsewhere(
     alloc: Global,
-    out: &mut Sheet,
+    out: &mut Message,
     program: &Program,
     bytes: &[u8],
     kind: u8,
@@ -38,7 +38,7 @@ pub fn push_elsewhere(
 }
 
 // All declarations in order.
-fn listed<'a>(alloc: Global, out: &mut Sheet, program: &'a Program) -> Vec<Declaration<'a>> {
+fn listed<'a>(alloc: Global, out: &mut Message, program: &'a Program) -> Vec<Declaration<'a>> {
     let mut found = Vec::new(alloc);
     for decl in program.decls.iter() {
         add(out, &mut found, decl);
@@ -46,7 +46,7 @@ fn listed<'a>(alloc: Global, out: &mut Sheet, program: &'a Program) -> Vec<Decla
     found
 }
 
-fn add<'a>(out: &mut Sheet, found: &mut Vec<Declaration<'a>>, decl: &'a Decl) {
+fn add<'a>(out: &mut Message, found: &mut Vec<Declaration<'a>>, decl: &'a Decl) {
     match decl {
         Decl::Layout(name, _, span) => {
             let space = LAYOUTS;
@@ -62,7 +62,7 @@ fn add<'a>(out: &mut Sheet, found: &mut Vec<Declaration<'a>>, decl: &'a Decl) {
     }
 }
 
-fn add_functions<'a>(out: &mut Sheet, found: &mut Vec<Declaration<'a>>, funs: &'a [Fun]) {
+fn add_functions<'a>(out: &mut Message, found: &mut Vec<Declaration<'a>>, funs: &'a [Fun]) {
     for fun in funs {
         let declared = Declaration {
             space: FUNCTIONS,
@@ -74,7 +74,7 @@ fn add_functions<'a>(out: &mut Sheet, found: &mut Vec<Declaration<'a>>, funs: &'
 }
 
 // 2: the first declaration of the name that is declared again at a span.
-fn push_earlier(out: &mut Sheet, listed: &[Declaration], bytes: &[u8], span: Span) {
+fn push_earlier(out: &mut Message, listed: &[Declaration], bytes: &[u8], span: Span) {
     let Some(again) = declared_at(listed, span) else {
         return;
     };
@@ -96,7 +96,7 @@ fn declared_at<'a>(listed: &[Declaration<'a>], span: Span) -> Option<Declaration
 }
 
 // 11: a function of the name that is called at a span.
-fn push_later(out: &mut Sheet, listed: &[Declaration], bytes: &[u8], span: Span) {
+fn push_later(out: &mut Message, listed: &[Declaration], bytes: &[u8], span: Span) {
     let call = part(bytes, span.first as usize, span.after as usize);
     for it in listed {
         if it.space == FUNCTIONS && is_call_of(call, it.name.bytes()) {
@@ -116,7 +116,7 @@ fn is_call_of(call: &[u8], name: &[u8]) -> bool {
     }
 }
 
-fn push_where(out: &mut Sheet, text: &str, bytes: &[u8], span: Span) {
+fn push_where(out: &mut Message, text: &str, bytes: &[u8], span: Span) {
     out.put(text);
     out.put(": line ");
     out.number(line_of(bytes, span.first as usize) as u64);

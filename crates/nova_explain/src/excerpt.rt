@@ -1,17 +1,17 @@
 //! The line of a source that has a fault, with carets under the fault.
 
-use fault_parts::text::{Sheet, part};
+use explain_parts::text::{Message, part};
+use line_text::{column_of, line_of};
 use nv_ast::Span;
-use text_place::{column_of, line_of};
 
 // Before each line of a source.
 const MARGIN: &str = "    ";
 
-// The most bytes of a line before and behind a fault's first byte.
+// The most bytes of a line before and after a fault's first byte.
 const REACH: usize = 120;
 
 /// Appends `NAME:LINE:COLUMN: ` for the first byte of a span.
-pub fn push_place(out: &mut Sheet, name: &str, bytes: &[u8], span: Span) {
+pub fn push_place(out: &mut Message, name: &str, bytes: &[u8], span: Span) {
     let at = span.first as usize;
     out.put(name);
     out.put(":");
@@ -23,7 +23,7 @@ pub fn push_place(out: &mut Sheet, name: &str, bytes: &[u8], span: Span) {
 
 /// Appends the line where a span begins, and a line with carets under the span, as far as it stands on that line.
 /// Of a long line the part round the span's first byte.
-pub fn push_excerpt(out: &mut Sheet, bytes: &[u8], span: Span) {
+pub fn push_excerpt(out: &mut Message, bytes: &[u8], span: Span) {
     let at = span.first as usize;
     let column = column_of(bytes, at);
     let from = at.saturating_sub(column.saturating_sub(1).min(REACH));
@@ -51,13 +51,13 @@ fn line_front(bytes: &[u8]) -> &[u8] {
 }
 
 // Appends a blank that is as wide as a part of a line.
-fn push_blank(out: &mut Sheet, bytes: &[u8]) {
+fn push_blank(out: &mut Message, bytes: &[u8]) {
     for byte in bytes {
         out.byte(if *byte == b'\t' { b'\t' } else { b' ' });
     }
 }
 
-fn push_carets(out: &mut Sheet, count: usize) {
+fn push_carets(out: &mut Message, count: usize) {
     for _ in 0..count {
         out.byte(b'^');
     }

@@ -1,6 +1,6 @@
 //! Which tokens may stand at a place of a text.
 
-use fault_parts::text::{Sheet, part};
+use explain_parts::text::{Message, part};
 use nv_base::NoMemory;
 use nv_text::{MOST_BYTES, Sort, TextError, Token, parse};
 use std::alloc::Global;
@@ -75,7 +75,7 @@ impl Expected {
     /// Those with which the text up to a place still begins a program. Each is tried by reading the text with it.
     pub fn at(
         alloc: Global,
-        out: &mut Sheet,
+        out: &mut Message,
         bytes: &[u8],
         tokens: &[Token],
         at: usize,
@@ -97,7 +97,7 @@ impl Expected {
     }
 
     /// Appends `wanted: ` and the kinds of tokens.
-    pub fn push(&self, out: &mut Sheet) {
+    pub fn push(&self, out: &mut Message) {
         out.put("wanted: ");
         if self.fitting.is_empty() {
             out.put("nothing");
@@ -113,7 +113,7 @@ impl Expected {
 // Those of some tokens with which a text still begins a program.
 fn fitting(
     alloc: Global,
-    out: &mut Sheet,
+    out: &mut Message,
     front: &[u8],
     tokens: &[&'static str],
 ) -> Vec<&'static str> {
@@ -127,7 +127,7 @@ fn fitting(
 }
 
 // Appends a kind of tokens.
-fn push_kind(out: &mut Sheet, token: &str) {
+fn push_kind(out: &mut Message, token: &str) {
     match token.as_bytes() {
         b"x" => out.put("a name"),
         b"1" => out.put("a number"),
@@ -147,7 +147,7 @@ fn declaration_before(tokens: &[Token], at: usize) -> usize {
     first
 }
 
-// Whether a token is `layout`, `exception` or `fun`, the first three keywords, which stand at the front of a declaration alone.
+// Whether a token is `layout`, `exception` or `fun`, the first three keywords, which stand at the prefix of a declaration alone.
 fn begins_declaration(sort: &Sort) -> bool {
     match sort {
         Sort::Key(number) => *number < 3,
@@ -155,9 +155,9 @@ fn begins_declaration(sort: &Sort) -> bool {
     }
 }
 
-// Whether a text and behind it a token begin a program.
-fn begins_with(alloc: Global, out: &mut Sheet, front: &[u8], token: &str) -> bool {
-    let mut text = Sheet::new(alloc);
+// Whether a text and after it a token begin a program.
+fn begins_with(alloc: Global, out: &mut Message, front: &[u8], token: &str) -> bool {
+    let mut text = Message::new(alloc);
     text.bytes(front);
     text.line("");
     text.put(token);
@@ -171,7 +171,7 @@ fn begins_with(alloc: Global, out: &mut Sheet, front: &[u8], token: &str) -> boo
 }
 
 // Whether a text begins a program.
-fn begins(alloc: Global, out: &mut Sheet, text: &[u8]) -> bool {
+fn begins(alloc: Global, out: &mut Message, text: &[u8]) -> bool {
     if text.len() > MOST_BYTES {
         return false;
     }
@@ -181,8 +181,8 @@ fn begins(alloc: Global, out: &mut Sheet, text: &[u8]) -> bool {
     }
 }
 
-// Whether a text's fault is that more is wanted behind it.
-fn is_behind(out: &mut Sheet, fault: TextError, length: usize) -> bool {
+// Whether a text's fault is that more is wanted after it.
+fn is_behind(out: &mut Message, fault: TextError, length: usize) -> bool {
     match fault {
         TextError::Syntax(at) => at as usize >= length,
         TextError::NoMemory => {

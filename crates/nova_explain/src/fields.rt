@@ -1,7 +1,7 @@
 //! Where the fields of layouts stand.
 
-use fault_parts::declared::Declared;
-use fault_parts::text::{Sheet, part};
+use explain_parts::declared::Declared;
+use explain_parts::text::{Message, part};
 use nv_ast::{FieldText, LayoutText, Name};
 use std::alloc::Global;
 
@@ -50,7 +50,7 @@ impl<'a> FieldLister<'a> {
     /// Appends a layout of so many bits: each field with its word, its first bit there and its bits.
     pub fn push_layout(
         &mut self,
-        out: &mut Sheet,
+        out: &mut Message,
         name: &'a Name,
         text: &'a LayoutText,
         bits: u64,
@@ -65,7 +65,7 @@ impl<'a> FieldLister<'a> {
         out.fail_if(self.known.is_short())
     }
 
-    fn push_parts(&mut self, out: &mut Sheet) {
+    fn push_parts(&mut self, out: &mut Message) {
         for _ in 0..self.left {
             let Some(part) = self.work.pop() else {
                 return;
@@ -77,7 +77,7 @@ impl<'a> FieldLister<'a> {
         out.line("    ..")
     }
 
-    fn push_part(&mut self, out: &mut Sheet, part: Part<'a>) {
+    fn push_part(&mut self, out: &mut Message, part: Part<'a>) {
         match part {
             Part::At(bit) => self.at = bit,
             Part::Layout(text, front) => self.queue_layout(out, text, front),
@@ -85,7 +85,7 @@ impl<'a> FieldLister<'a> {
         }
     }
 
-    fn push_field(&mut self, out: &mut Sheet, name: &'a Name, text: &'a FieldText, front: Front) {
+    fn push_field(&mut self, out: &mut Message, name: &'a Name, text: &'a FieldText, front: Front) {
         match text {
             FieldText::Bits(n) => self.push_bits(out, name, *n, front),
             FieldText::Inner(text) => {
@@ -99,8 +99,8 @@ impl<'a> FieldLister<'a> {
         }
     }
 
-    // Appends a bit field, behind which the next part begins.
-    fn push_bits(&mut self, out: &mut Sheet, name: &Name, n: u32, front: Front) {
+    // Appends a bit field, after which the next part begins.
+    fn push_bits(&mut self, out: &mut Message, name: &Name, n: u32, front: Front) {
         out.put("    ");
         out.bytes(part(&self.names, front.from, front.to));
         out.bytes(name.bytes());
@@ -114,8 +114,8 @@ impl<'a> FieldLister<'a> {
         self.at = self.at.saturating_add(u64::from(n))
     }
 
-    // The names in front with one more, behind the names that are there.
-    fn longer_front(&mut self, out: &mut Sheet, front: Front, name: &Name) -> Front {
+    // The names in front with one more, after the names that are there.
+    fn longer_front(&mut self, out: &mut Message, front: Front, name: &Name) -> Front {
         let from = self.names.len();
         for n in front.from..front.to {
             if let Some(byte) = self.names.get(n).copied() {
@@ -131,7 +131,7 @@ impl<'a> FieldLister<'a> {
     }
 
     // The parts of a layout are to be told next.
-    fn queue_layout(&mut self, out: &mut Sheet, text: &'a LayoutText, front: Front) {
+    fn queue_layout(&mut self, out: &mut Message, text: &'a LayoutText, front: Front) {
         match text {
             LayoutText::Named(x) => {
                 if let Some(it) = self.known.get(x) {
@@ -144,20 +144,20 @@ impl<'a> FieldLister<'a> {
         }
     }
 
-    fn queue_fields(&mut self, out: &mut Sheet, fs: &'a [(Name, FieldText)], front: Front) {
+    fn queue_fields(&mut self, out: &mut Message, fs: &'a [(Name, FieldText)], front: Front) {
         for f in fs.iter().rev() {
             out.keep(&mut self.work, Part::Field(&f.0, &f.1, front));
         }
     }
 
-    fn queue_joined(&mut self, out: &mut Sheet, ls: &'a [LayoutText], front: Front) {
+    fn queue_joined(&mut self, out: &mut Message, ls: &'a [LayoutText], front: Front) {
         for l in ls.iter().rev() {
             out.keep(&mut self.work, Part::Layout(l, front));
         }
     }
 
     // The alternatives of an overlay, which all begin at the bit where the overlay begins.
-    fn queue_alternatives(&mut self, out: &mut Sheet, fs: &'a [(Name, FieldText)], front: Front) {
+    fn queue_alternatives(&mut self, out: &mut Message, fs: &'a [(Name, FieldText)], front: Front) {
         let first = self.at;
         for f in fs.iter().rev() {
             out.keep(&mut self.work, Part::Field(&f.0, &f.1, front));
@@ -167,7 +167,7 @@ impl<'a> FieldLister<'a> {
 }
 
 // The line above the fields of a layout.
-fn push_heading(out: &mut Sheet, name: &Name, bits: u64) {
+fn push_heading(out: &mut Message, name: &Name, bits: u64) {
     out.put("layout ");
     out.quoted(name.bytes());
     out.put(": ");

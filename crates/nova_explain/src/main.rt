@@ -2,7 +2,7 @@
 //! such an answer means. Nothing that `novac` prints rests on it.
 //!
 //! Ends with 0 where it was told, 2 where the words are no command, 3 where the source can't be read, 4 where the output
-//! fails, 5 for want of memory.
+//! fails, 5 for memory exhaustion.
 #![tactic(auto)]
 
 mod elsewhere;

@@ -5,16 +5,16 @@ use crate::excerpt::{push_excerpt, push_place};
 use crate::expected::Expected;
 use crate::sizes::push_parts;
 use crate::slips::{Around, byte_advice};
-use fault_parts::kinds::{kind_advice, kind_sentence};
-use fault_parts::text::{Sheet, part};
-use fault_walk::Walk;
+use explain_parts::kinds::{kind_advice, kind_sentence};
+use explain_parts::text::{Message, part};
+use explain_walk::Walk;
 use nv_ast::{Program, Span};
 use nv_text::{MOST_BYTES, TextError, Token, parse, tokens};
 use nv_types::TypeError;
 use std::alloc::Global;
 
 /// Appends why a text of at most 262,144 bytes has no program.
-pub fn explain_text(alloc: Global, out: &mut Sheet, name: &str, bytes: &[u8], fault: TextError) {
+pub fn explain_text(alloc: Global, out: &mut Message, name: &str, bytes: &[u8], fault: TextError) {
     match fault {
         TextError::NoMemory => out.fail(),
         TextError::Char(at) => explain_char(out, name, bytes, at),
@@ -47,20 +47,20 @@ pub fn explain_text(alloc: Global, out: &mut Sheet, name: &str, bytes: &[u8], fa
 }
 
 // Appends a fault of the word at a place, and what helps.
-fn push_word(out: &mut Sheet, name: &str, bytes: &[u8], at: u32, sentence: &str, advice: &str) {
+fn push_word(out: &mut Message, name: &str, bytes: &[u8], at: u32, sentence: &str, advice: &str) {
     push_head(out, name, bytes, word_at(bytes, at), sentence);
     out.line(advice)
 }
 
 // Appends the place, a sentence and the line of a fault.
-fn push_head(out: &mut Sheet, name: &str, bytes: &[u8], span: Span, sentence: &str) {
+fn push_head(out: &mut Message, name: &str, bytes: &[u8], span: Span, sentence: &str) {
     push_place(out, name, bytes, span);
     out.line(sentence);
     push_excerpt(out, bytes, span)
 }
 
 // A byte that begins no token.
-fn explain_char(out: &mut Sheet, name: &str, bytes: &[u8], at: u32) {
+fn explain_char(out: &mut Message, name: &str, bytes: &[u8], at: u32) {
     let place = at as usize;
     let byte = byte_at(bytes, place);
     let span = Span {
@@ -81,7 +81,7 @@ fn explain_char(out: &mut Sheet, name: &str, bytes: &[u8], at: u32) {
     out.line(byte_advice(byte, next, place))
 }
 
-// A byte of a text, or 0 behind its end.
+// A byte of a text, or 0 after its end.
 fn byte_at(bytes: &[u8], at: usize) -> u8 {
     match bytes.get(at) {
         Some(byte) => *byte,
@@ -102,7 +102,7 @@ fn word_at(bytes: &[u8], at: u32) -> Span {
 }
 
 // A token with which the text begins no program.
-fn explain_syntax(alloc: Global, out: &mut Sheet, name: &str, bytes: &[u8], at: u32) {
+fn explain_syntax(alloc: Global, out: &mut Message, name: &str, bytes: &[u8], at: u32) {
     if bytes.len() > MOST_BYTES {
         return;
     }
@@ -116,7 +116,14 @@ fn explain_syntax(alloc: Global, out: &mut Sheet, name: &str, bytes: &[u8], at: 
 }
 
 // The same, with the tokens of the text.
-fn push_syntax(alloc: Global, out: &mut Sheet, name: &str, bytes: &[u8], at: u32, found: &[Token]) {
+fn push_syntax(
+    alloc: Global,
+    out: &mut Message,
+    name: &str,
+    bytes: &[u8],
+    at: u32,
+    found: &[Token],
+) {
     let place = at as usize;
     let around = Around::at(bytes, found, place);
     let span = Span {
@@ -131,13 +138,13 @@ fn push_syntax(alloc: Global, out: &mut Sheet, name: &str, bytes: &[u8], at: u32
 }
 
 // Appends what could stand there, and what helps.
-fn push_expected(out: &mut Sheet, expected: &Expected, around: Around) {
+fn push_expected(out: &mut Message, expected: &Expected, around: Around) {
     expected.push(out);
     out.line(around.advice(expected))
 }
 
 // Appends what token is at fault.
-fn push_found(out: &mut Sheet, found: &[u8]) {
+fn push_found(out: &mut Message, found: &[u8]) {
     if found.is_empty() {
         return out.line("the program isn't complete at the text's end (syntax syntax)");
     }
@@ -147,7 +154,7 @@ fn push_found(out: &mut Sheet, found: &[u8]) {
 }
 
 /// Appends why a program isn't typed, or too large.
-pub fn explain_type(alloc: Global, out: &mut Sheet, name: &str, bytes: &[u8], fault: TypeError) {
+pub fn explain_type(alloc: Global, out: &mut Message, name: &str, bytes: &[u8], fault: TypeError) {
     match fault {
         TypeError::NoMemory => out.fail(),
         TypeError::Fault(kind, span) => explain_kind(alloc, out, name, bytes, kind, span),
@@ -156,7 +163,7 @@ pub fn explain_type(alloc: Global, out: &mut Sheet, name: &str, bytes: &[u8], fa
 }
 
 // A fault of the types.
-fn explain_kind(alloc: Global, out: &mut Sheet, name: &str, bytes: &[u8], kind: u8, span: Span) {
+fn explain_kind(alloc: Global, out: &mut Message, name: &str, bytes: &[u8], kind: u8, span: Span) {
     push_place(out, name, bytes, span);
     out.put(kind_sentence(kind));
     out.put(" (type ");
@@ -170,7 +177,7 @@ fn explain_kind(alloc: Global, out: &mut Sheet, name: &str, bytes: &[u8], kind: 
 // Appends what is wanted and what is there, from a walk over the program up to the fault, and gives what helps.
 fn push_details(
     alloc: Global,
-    out: &mut Sheet,
+    out: &mut Message,
     bytes: &[u8],
     kind: u8,
     span: Span,
@@ -194,7 +201,7 @@ fn push_details(
 // The same of a program.
 fn push_program_details(
     alloc: Global,
-    out: &mut Sheet,
+    out: &mut Message,
     program: &Program,
     bytes: &[u8],
     kind: u8,
@@ -210,7 +217,7 @@ fn push_program_details(
 // Appends what a walk notes, and gives what helps.
 fn push_note(
     alloc: Global,
-    out: &mut Sheet,
+    out: &mut Message,
     program: &Program,
     kind: u8,
     span: Span,
@@ -222,15 +229,15 @@ fn push_note(
 }
 
 // The same, by a walk that is still to be made.
-fn push_walked<'a>(out: &mut Sheet, walk: &mut Walk<'a>, program: &'a Program) -> &'static str {
+fn push_walked<'a>(out: &mut Message, walk: &mut Walk<'a>, program: &'a Program) -> &'static str {
     walk.program(program);
-    out.sheet(&walk.note);
+    out.message_text(&walk.note);
     out.fail_if(walk.is_short());
     walk.advice.unwrap_or(kind_advice(walk.kind))
 }
 
 // A program that is too large, with the sizes of its functions.
-fn explain_size(alloc: Global, out: &mut Sheet, name: &str, bytes: &[u8], size: u32) {
+fn explain_size(alloc: Global, out: &mut Message, name: &str, bytes: &[u8], size: u32) {
     out.put(name);
     out.put(": the expanded size is ");
     out.number(u64::from(size));
@@ -240,7 +247,7 @@ fn explain_size(alloc: Global, out: &mut Sheet, name: &str, bytes: &[u8], size: 
 }
 
 // Appends the sizes of the functions of a program.
-fn push_parts_of(alloc: Global, out: &mut Sheet, bytes: &[u8], size: u32) {
+fn push_parts_of(alloc: Global, out: &mut Message, bytes: &[u8], size: u32) {
     if bytes.len() > MOST_BYTES {
         return;
     }

@@ -1,14 +1,14 @@
 //! The sizes of a program without a fault.
 
 use crate::fields::FieldLister;
-use fault_parts::cost::Cost;
-use fault_parts::text::Sheet;
-use fault_walk::Walk;
+use explain_parts::cost::Cost;
+use explain_parts::text::Message;
+use explain_walk::Walk;
 use nv_ast::{Decl, Fun, LayoutText, Name, Program, Span, Typed};
 use std::alloc::Global;
 
 /// Appends the sizes of a program: of the whole, and of each declaration.
-pub fn push_sizes(alloc: Global, out: &mut Sheet, name: &str, typed: &Typed) {
+pub fn push_sizes(alloc: Global, out: &mut Message, name: &str, typed: &Typed) {
     out.put(name);
     out.line(": a program without a fault");
     out.put("expanded size ");
@@ -25,7 +25,7 @@ pub fn push_sizes(alloc: Global, out: &mut Sheet, name: &str, typed: &Typed) {
 }
 
 // Appends the room, and whether the slots of compiled code are enough for it.
-fn push_room(out: &mut Sheet, room: u32) {
+fn push_room(out: &mut Message, room: u32) {
     out.put("room ");
     out.number(u64::from(room));
     out.put(": at most so many words are wanted at once");
@@ -39,7 +39,7 @@ fn push_room(out: &mut Sheet, room: u32) {
 /// Appends the sizes of each declaration of a program of this expanded size and room.
 pub fn push_parts(
     alloc: Global,
-    out: &mut Sheet,
+    out: &mut Message,
     program: &Program,
     expanded: u32,
     room: Option<u32>,
@@ -53,7 +53,7 @@ pub fn push_parts(
 // The same, by a walk that is still to be made.
 fn push_walked<'a>(
     alloc: Global,
-    out: &mut Sheet,
+    out: &mut Message,
     walk: &mut Walk<'a>,
     program: &'a Program,
     expanded: u32,
@@ -62,7 +62,7 @@ fn push_walked<'a>(
     walk.program(program);
     out.fail_if(walk.is_short());
     let has_costs = has_costs(walk, expanded, room);
-    let mut teller = Teller {
+    let mut teller = SizeReport {
         walk,
         fields: FieldLister::new(alloc),
         exceptions: 0,
@@ -97,7 +97,7 @@ fn main_cost<'a>(walk: &Walk<'a>) -> Option<Cost> {
 
 // What was told so far, and what it is told from.
 #[derive(Drop)]
-struct Teller<'a, 'w> {
+struct SizeReport<'a, 'w> {
     walk: &'w Walk<'a>,
     fields: FieldLister<'a>,
     exceptions: u64,
@@ -105,8 +105,8 @@ struct Teller<'a, 'w> {
     has_costs: bool,
 }
 
-impl<'a, 'w> Teller<'a, 'w> {
-    fn push_all(&mut self, out: &mut Sheet, program: &'a Program) {
+impl<'a, 'w> SizeReport<'a, 'w> {
+    fn push_all(&mut self, out: &mut Message, program: &'a Program) {
         for decl in program.decls.iter() {
             match decl {
                 Decl::Layout(name, text, _) => self.push_layout(out, name, text),
@@ -116,7 +116,7 @@ impl<'a, 'w> Teller<'a, 'w> {
         }
     }
 
-    fn push_layout(&mut self, out: &mut Sheet, name: &'a Name, text: &'a LayoutText) {
+    fn push_layout(&mut self, out: &mut Message, name: &'a Name, text: &'a LayoutText) {
         let bits = match self.walk.layouts.get(name) {
             Some(shape) => shape.bits,
             None => 0,
@@ -125,7 +125,7 @@ impl<'a, 'w> Teller<'a, 'w> {
     }
 
     // An exception, with the number that an outcome has for it.
-    fn push_exception(&mut self, out: &mut Sheet, name: &'a Name) {
+    fn push_exception(&mut self, out: &mut Message, name: &'a Name) {
         self.exceptions = self.exceptions.saturating_add(1);
         let words = match self.walk.exceptions.get(name) {
             Some(t) => self.walk.types.words_of(t),
@@ -140,14 +140,14 @@ impl<'a, 'w> Teller<'a, 'w> {
         out.line("")
     }
 
-    fn push_group(&mut self, out: &mut Sheet, funs: &'a [Fun]) {
+    fn push_group(&mut self, out: &mut Message, funs: &'a [Fun]) {
         self.groups = self.groups.saturating_add(1);
         for fun in funs {
             self.push_function(out, fun);
         }
     }
 
-    fn push_function(&mut self, out: &mut Sheet, fun: &'a Fun) {
+    fn push_function(&mut self, out: &mut Message, fun: &'a Fun) {
         out.put("function ");
         out.quoted(fun.name.bytes());
         out.put(": group ");

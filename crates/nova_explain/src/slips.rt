@@ -1,7 +1,7 @@
 //! The usual slips that end in a fault of the text, and what to write in their place.
 
 use crate::expected::Expected;
-use fault_parts::text::part;
+use explain_parts::text::part;
 use nv_text::Token;
 
 /// A token with which a text begins no program, and the three before it, the nearest first. Each is empty where there is none.

@@ -2,14 +2,14 @@
 
 use crate::refusal::{explain_text, explain_type};
 use crate::sizes::push_sizes;
-use fault_parts::text::Sheet;
+use explain_parts::text::Message;
 use nv_ast::Program;
 use nv_text::{MOST_BYTES, parse};
 use nv_types::check;
 use std::alloc::Global;
 
 /// Appends the text on a source: its fault, or its sizes.
-pub fn explain_source(alloc: Global, out: &mut Sheet, name: &str, bytes: &[u8]) {
+pub fn explain_source(alloc: Global, out: &mut Message, name: &str, bytes: &[u8]) {
     if bytes.len() > MOST_BYTES {
         return;
     }
@@ -20,7 +20,7 @@ pub fn explain_source(alloc: Global, out: &mut Sheet, name: &str, bytes: &[u8]) 
 }
 
 // The same of a source that has a program.
-fn explain_program(alloc: Global, out: &mut Sheet, name: &str, bytes: &[u8], program: Program) {
+fn explain_program(alloc: Global, out: &mut Message, name: &str, bytes: &[u8], program: Program) {
     match check(alloc, program) {
         Ok(typed) => {
             push_sizes(alloc, out, name, &typed);

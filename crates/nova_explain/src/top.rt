@@ -2,8 +2,8 @@
 
 use crate::source::explain_source;
 use crate::status::Status;
-use fault_pages::page_of;
-use fault_parts::text::Sheet;
+use explain_pages::page_of;
+use explain_parts::text::Message;
 use nv_base::NoMemory;
 use nv_outside::{Files, Loaded, Put, Sink};
 use nv_text::MOST_BYTES;
@@ -16,9 +16,9 @@ pub fn run<F: Files, K: Sink>(
     files: &mut F,
     out: &mut K,
 ) -> Status {
-    let mut sheet = Sheet::new(alloc);
-    let status = answer(alloc, words, files, &mut sheet);
-    match sheet.into_bytes() {
+    let mut message_text = Message::new(alloc);
+    let status = answer(alloc, words, files, &mut message_text);
+    match message_text.into_bytes() {
         Ok(text) => printed(status, &text, out),
         Err(NoMemory) => Status::NoMemory,
     }
@@ -37,34 +37,38 @@ fn answer<F: Files>(
     alloc: Global,
     words: &Vec<String>,
     files: &mut F,
-    sheet: &mut Sheet,
+    message_text: &mut Message,
 ) -> Status {
-    if let Some(page) = page_of_words(alloc, words, sheet) {
-        sheet.put(page);
+    if let Some(page) = page_of_words(alloc, words, message_text) {
+        message_text.put(page);
         return Status::Told;
     }
     if words.len() == 1 {
-        push_source(alloc, words[0].as_str(), files, sheet)
+        push_source(alloc, words[0].as_str(), files, message_text)
     } else {
-        push_usage(sheet, &USAGE)
+        push_usage(message_text, &USAGE)
     }
 }
 
 // The page whose name is the words.
-fn page_of_words(alloc: Global, words: &Vec<String>, sheet: &mut Sheet) -> Option<&'static str> {
-    let mut name = Sheet::new(alloc);
+fn page_of_words(
+    alloc: Global,
+    words: &Vec<String>,
+    message_text: &mut Message,
+) -> Option<&'static str> {
+    let mut name = Message::new(alloc);
     push_joined(&mut name, words);
     match name.into_bytes() {
         Ok(name) => page_of(&name),
         Err(NoMemory) => {
-            sheet.fail();
+            message_text.fail();
             None
         }
     }
 }
 
 // Appends the words with a blank between them.
-fn push_joined(name: &mut Sheet, words: &Vec<String>) {
+fn push_joined(name: &mut Message, words: &Vec<String>) {
     for word in words.iter() {
         if !name.is_empty() {
             name.put(" ");
@@ -74,35 +78,40 @@ fn push_joined(name: &mut Sheet, words: &Vec<String>) {
 }
 
 // Appends what is said of a source.
-fn push_source<F: Files>(alloc: Global, name: &str, files: &mut F, sheet: &mut Sheet) -> Status {
+fn push_source<F: Files>(
+    alloc: Global,
+    name: &str,
+    files: &mut F,
+    message_text: &mut Message,
+) -> Status {
     let mut bytes = Vec::new(alloc);
     match files.load(name, MOST_BYTES as u64, &mut bytes) {
-        Loaded::Done => explain_source(alloc, sheet, name, &bytes),
-        Loaded::TooLong => push_too_long(sheet, name),
-        Loaded::Failed => return push_unread(sheet, name),
-        Loaded::NoMemory => sheet.fail(),
+        Loaded::Done => explain_source(alloc, message_text, name, &bytes),
+        Loaded::TooLong => push_too_long(message_text, name),
+        Loaded::Failed => return push_unread(message_text, name),
+        Loaded::NoMemory => message_text.fail(),
     }
     Status::Told
 }
 
 // Appends that a source has too many bytes.
-fn push_too_long(sheet: &mut Sheet, name: &str) {
-    sheet.put(name);
-    sheet.line(": the source has more than 262,144 bytes (too large 262144)");
-    sheet.line("Every name and blank counts. Take out what `main` doesn't need.")
+fn push_too_long(message_text: &mut Message, name: &str) {
+    message_text.put(name);
+    message_text.line(": the source has more than 262,144 bytes (too large 262144)");
+    message_text.line("Every name and blank counts. Take out what `main` doesn't need.")
 }
 
 // Appends that a source can't be read.
-fn push_unread(sheet: &mut Sheet, name: &str) -> Status {
-    sheet.put("cannot read ");
-    sheet.line(name);
+fn push_unread(message_text: &mut Message, name: &str) -> Status {
+    message_text.put("cannot read ");
+    message_text.line(name);
     Status::ReadFault
 }
 
 // Appends what the words can be, here and at `novac`.
-fn push_usage(sheet: &mut Sheet, lines: &[&str]) -> Status {
+fn push_usage(message_text: &mut Message, lines: &[&str]) -> Status {
     for line in lines {
-        sheet.line(line);
+        message_text.line(line);
     }
     Status::Usage
 }

@@ -7,7 +7,7 @@ use cps_close::close;
 use cps_inline::inline;
 use cps_lower::lower;
 use flat_ir::FlatProgram;
-use form_pages::{Page, print_cps, print_flat, print_flow, print_measures, print_single_use};
+use ir_printer::{Page, print_cps, print_flat, print_flow, print_measures, print_single_use};
 use nova_front::{FrontError, front};
 use nova_middle::{middle, to_flow};
 use nv_base::NoMemory;
@@ -59,7 +59,7 @@ impl From<AllocError> for Failure {
 
 /// Which forms are to be printed.
 #[derive(Clone, Copy, Drop)]
-pub enum Wanted {
+pub enum PrintedForms {
     All,
     Flat,
     Lowered,
@@ -71,23 +71,23 @@ pub enum Wanted {
 }
 
 /// What the words ask for, if they are a command: the first word is then a source.
-pub fn wanted_of(words: &[String]) -> Option<Wanted>
+pub fn printed_forms_of(words: &[String]) -> Option<PrintedForms>
     ensures { IfSome result (λ wanted. 1 ≤ length words.now) }
 {
     if words.len() == 1 {
-        return Some(Wanted::All);
+        return Some(PrintedForms::All);
     }
     if words.len() != 2 {
         return None;
     }
     match words[1].as_str() {
-        "flat" => Some(Wanted::Flat),
-        "lowered" => Some(Wanted::Lowered),
-        "inlined" => Some(Wanted::Inlined),
-        "closed" => Some(Wanted::Closed),
-        "simplified" => Some(Wanted::Simplified),
-        "single" => Some(Wanted::Single),
-        "measures" => Some(Wanted::Measures),
+        "flat" => Some(PrintedForms::Flat),
+        "lowered" => Some(PrintedForms::Lowered),
+        "inlined" => Some(PrintedForms::Inlined),
+        "closed" => Some(PrintedForms::Closed),
+        "simplified" => Some(PrintedForms::Simplified),
+        "single" => Some(PrintedForms::Single),
+        "measures" => Some(PrintedForms::Measures),
         _ => None,
     }
 }
@@ -97,7 +97,7 @@ pub fn pages<F: Files>(
     alloc: Global,
     files: &mut F,
     source: &str,
-    wanted: Wanted,
+    wanted: PrintedForms,
 ) -> Result<Vec<u8>, Failure> {
     let mut bytes = Vec::new(alloc);
     match files.load(source, MOST_BYTES as u64, &mut bytes) {
@@ -113,8 +113,8 @@ pub fn pages<F: Files>(
     }
 }
 
-fn is_wanted(form: Wanted, wanted: Wanted) -> bool {
-    wanted == Wanted::All || wanted == form
+fn is_wanted(form: PrintedForms, wanted: PrintedForms) -> bool {
+    wanted == PrintedForms::All || wanted == form
 }
 
 // A heading with the number of the function that is main.
@@ -126,22 +126,26 @@ fn heading(page: &mut Page, form: &str, main: u32) {
     page.put("\n");
 }
 
-fn forms_of(alloc: Global, program: &FlatProgram, wanted: Wanted) -> Result<Vec<u8>, Failure> {
+fn forms_of(
+    alloc: Global,
+    program: &FlatProgram,
+    wanted: PrintedForms,
+) -> Result<Vec<u8>, Failure> {
     let mut page = Page::new(alloc);
-    if is_wanted(Wanted::Flat, wanted) {
+    if is_wanted(PrintedForms::Flat, wanted) {
         heading(&mut page, "flat", program.main);
         print_flat(alloc, &mut page, program)?;
     }
     put_continuations(alloc, &mut page, program, wanted)?;
-    if is_wanted(Wanted::Simplified, wanted) {
+    if is_wanted(PrintedForms::Simplified, wanted) {
         page.put("# simplified\n");
         print_flow(alloc, &mut page, &to_flow(alloc, program)?)?;
     }
-    if is_wanted(Wanted::Single, wanted) {
+    if is_wanted(PrintedForms::Single, wanted) {
         page.put("# single use; behind each line its point, and what is held there\n");
         print_single_use(alloc, &mut page, &middle(alloc, program)?)?;
     }
-    if is_wanted(Wanted::Measures, wanted) {
+    if is_wanted(PrintedForms::Measures, wanted) {
         print_measures(alloc, &mut page, &middle(alloc, program)?)?;
     }
     Ok(page.into_bytes()?)
@@ -152,35 +156,35 @@ fn put_continuations(
     alloc: Global,
     page: &mut Page,
     program: &FlatProgram,
-    wanted: Wanted,
+    wanted: PrintedForms,
 ) -> Result<(), Failure> {
     if !has_continuations(wanted) {
         return Ok(());
     }
     let lowered = lower(alloc, program)?;
-    if is_wanted(Wanted::Lowered, wanted) {
+    if is_wanted(PrintedForms::Lowered, wanted) {
         heading(page, "lowered", lowered.main);
         print_cps(alloc, page, &lowered)?;
     }
     let inlined = inline(alloc, lowered)?;
-    if is_wanted(Wanted::Inlined, wanted) {
+    if is_wanted(PrintedForms::Inlined, wanted) {
         heading(page, "inlined", inlined.main);
         print_cps(alloc, page, &inlined)?;
     }
     let closed = close(alloc, inlined)?;
-    if is_wanted(Wanted::Closed, wanted) {
+    if is_wanted(PrintedForms::Closed, wanted) {
         page.put("# closed\n");
         print_flow(alloc, page, &closed)?;
     }
     Ok(())
 }
 
-fn has_continuations(wanted: Wanted) -> bool {
+fn has_continuations(wanted: PrintedForms) -> bool {
     match wanted {
-        Wanted::All => true,
-        Wanted::Lowered => true,
-        Wanted::Inlined => true,
-        Wanted::Closed => true,
+        PrintedForms::All => true,
+        PrintedForms::Lowered => true,
+        PrintedForms::Inlined => true,
+        PrintedForms::Closed => true,
         _ => false,
     }
 }

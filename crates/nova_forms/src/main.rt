@@ -2,13 +2,13 @@
 //! of the forms flat, lowered, inlined, closed, simplified, single, or with their measures: the word measures.
 //!
 //! Ends with 0 where they were printed, 2 where the words are no command, 3 where the file can't be
-//! read, 4 where the output failed, 5 for want of memory, 6 where the text isn't a typed program of
+//! read, 4 where the output failed, 5 for memory exhaustion, 6 where the text isn't a typed program of
 //! limited size (`novac compile` says why).
 #![tactic(auto)]
 
 mod forms;
 
-use forms::{Failure, Wanted, pages, wanted_of};
+use forms::{Failure, PrintedForms, pages, printed_forms_of};
 use nv_outside::{DiskFiles, Put, Sink, StdSink};
 use std::env;
 use std::process::ExitCode;
@@ -21,7 +21,7 @@ fn main(rt: HostRuntime) -> ExitCode {
     let Ok(words) = words else {
         return ExitCode::from(Failure::Memory.code());
     };
-    let Some(wanted) = wanted_of(&words) else {
+    let Some(wanted) = printed_forms_of(&words) else {
         return ExitCode::from(Failure::Words.code());
     };
     let mut files = DiskFiles::new(&rt);

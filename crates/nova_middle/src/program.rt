@@ -32,7 +32,7 @@ use std::alloc::Global;
 
 /// The flow of a flat program, which has its outcomes and is neither wider nor larger: in continuation form, in
 /// one function, in labels without free variables, and simplified by the rules. No `Let` is left that a rule
-/// answers, that is just another operand, or whose variable nothing uses. Want of memory is also the answer
+/// answers, that is just another operand, or whose variable nothing uses. Memory exhaustion is also the answer
 /// where a form would need 2^32 labels or variables.
 pub fn to_flow(alloc: Global, f: &FlatProgram) -> Result<Flow, NoMemory>
     ensures kept { IfOk result (λ g. KeepsOutcomes (flat_params f.now.funs.items f.now.main) (flow_params (map label_view g.labels.items)) (flat_meaning f.now.funs.items f.now.main) (flow_meaning (map label_view g.labels.items))) }

@@ -6,9 +6,8 @@
 mod tests;
 
 pub use command_line::Status;
-pub use nova_commands::{CompileError, Compiled, Weights, compile_text};
-use nova_top::exit_code;
-pub use nova_top::run;
+use nova_commands::exit_code;
+pub use nova_commands::{CompileError, Compiled, Weights, compile_text, run};
 use nv_outside::{DiskFiles, StdSink};
 use std::process::ExitCode;
 use std::rt::Env;

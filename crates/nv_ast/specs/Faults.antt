@@ -1,6 +1,6 @@
 -- The faults of a program: for each of the 24 kinds its condition on one node, and all faults in the order of the walk.
 -- The walk takes the declarations in order, and in an expression the parts from left to right and then the node itself.
--- A node's faults stand in the order of their kinds. The program's fault is the first of the list; what stands behind it has no meaning of its own.
+-- A node's faults stand in the order of their kinds. The program's fault is the first of the list; what stands after it has no meaning of its own.
 use Rattle.std.specs.Prelude.{◌≡◌, ℕ, ◌+◌, nat_lt, Bool, true, false, not, ◌&&◌, ◌||◌, if◌then◌else◌, List, [], ◌∷◌, ◌++◌, map, Option, Some, None, is_none, bytes_eq, option_map, codes}
 pub use Rattle.nv_base.specs.Access.{can_move}
 use Rattle.nv_base.specs.Memories.{source_scratch}
@@ -15,7 +15,7 @@ use Rattle.nv_ast.specs.Tests.{where_true, within, is_among, has_twice, names_of
 use Rattle.nv_ast.specs.Outline.{OutlineTree, Layouts}
 use Rattle.nv_ast.specs.LayoutFaults.{unknown_layout, declared_faults}
 use Rattle.nv_ast.specs.Types.{Ty, WordTy, BoolTy, TupleTy, Tys, no_tys, ty_and, same_type, words, total_words, words_of_value, is_too_large, some_named_bool, total_named_words, packed_ty, form_of, can_pack, type_of, types_of, named_types_of}
-use Rattle.nv_ast.specs.Scope.{Signature, Known, nothing_known, callable, Vars, Place, inside, with_vars, plain_tys, bind_raised, param_vars, fits, fits_all, names_in, names_in_all, signature, in_group, known_after}
+use Rattle.nv_ast.specs.Scope.{Signature, Known, nothing_known, callable, Vars, Context, inside, with_vars, plain_tys, bind_raised, param_vars, fits, fits_all, names_in, names_in_all, signature, in_group, known_after}
 use Rattle.nv_ast.specs.Typing.{field_ty, operand_ty, type_at, vars_after, vars_behind}
 
 -- a kind, and where it lies
@@ -27,24 +27,24 @@ abbrev pub at_span : Span → List ℕ → List Fault
 at_span s kinds = map (λ kind. (kind, s)) kinds
 
 -- ---- what is wanted of a part: whether it must have a value, and which types are right
-pub record Wanted : Type 0 where
+pub record Expected : Type 0 where
   pub value : Bool
   pub right : Ty → Bool
 
 -- it may have no value, and any type is right
-abbrev pub anything : Wanted
+abbrev pub anything : Expected
 anything = record { value = false; right = λ t. true }
 
 -- a value of any type
-abbrev pub a_value : Wanted
+abbrev pub a_value : Expected
 a_value = record { value = true; right = λ t. true }
 
 -- a value of this type
-abbrev pub of_type : Ty → Wanted
+abbrev pub of_type : Ty → Expected
 of_type want = record { value = true; right = λ t. same_type t want }
 
 -- where it has a value, one of the type of another part, if that has one
-abbrev pub same_as : Option Ty → Wanted
+abbrev pub same_as : Option Ty → Expected
 same_as None = anything
 same_as (Some want) = record { value = false; right = λ t. same_type t want }
 
@@ -88,7 +88,7 @@ abbrev pub unknown_function : Known → List ℕ → List ℕ
 unknown_function k f = where_true (is_none (look_up f (callable k))) 11
 
 -- 12: a function of the own group outside tail position
-abbrev pub not_in_tail : Place → List ℕ → List ℕ
+abbrev pub not_in_tail : Context → List ℕ → List ℕ
 not_in_tail p f = where_true (is_among f (names_of p.known.own) && not p.tail) 12
 
 -- whether there are as many expressions, or patterns, as types
@@ -113,7 +113,7 @@ wrong_number_of_patterns None ps = []
 wrong_number_of_patterns (Some ts) ps = where_true (not (as_many_patterns ts ps)) 13
 
 -- 14: another type than a right one, at the part
-abbrev pub other_type : Wanted → Option Ty → List ℕ
+abbrev pub other_type : Expected → Option Ty → List ℕ
 other_type w None = []
 other_type w (Some t) = where_true (not (w.right t)) 14
 
@@ -155,7 +155,7 @@ abbrev pub wrong_count : ℕ → List ℕ
 wrong_count n = where_true (nat_lt 31 n) 21
 
 -- 22: no value where one is wanted, at the part
-abbrev pub no_value : Wanted → Option Ty → List ℕ
+abbrev pub no_value : Expected → Option Ty → List ℕ
 no_value w None = where_true w.value 22
 no_value w (Some t) = []
 
@@ -202,22 +202,22 @@ abbrev mutual
 -- ---- expressions
 
 -- what is wanted of arguments: their types where the types are known and as many, else nothing but values
-abbrev pub all_wanted : Tys → List Wanted
+abbrev pub all_wanted : Tys → List Expected
 all_wanted no_tys = []
 all_wanted (ty_and t ts) = of_type t ∷ all_wanted ts
 
-abbrev pub wanted_arguments : Option Tys → Trees → List Wanted
-wanted_arguments None es = []
-wanted_arguments (Some ts) es = if as_many ts es then all_wanted ts else []
+abbrev pub expected_arguments : Option Tys → Trees → List Expected
+expected_arguments None es = []
+expected_arguments (Some ts) es = if as_many ts es then all_wanted ts else []
 
 -- what unpack wants of its operand: the layout's packed value; and pack: what can be packed
-abbrev pub wanted_packed : Option OutlineTree → Wanted
-wanted_packed None = a_value
-wanted_packed (Some o) = of_type (packed_ty o)
+abbrev pub expected_packed : Option OutlineTree → Expected
+expected_packed None = a_value
+expected_packed (Some o) = of_type (packed_ty o)
 
-abbrev pub wanted_unpacked : Option OutlineTree → Wanted
-wanted_unpacked None = a_value
-wanted_unpacked (Some o) = record { value = true; right = can_pack (form_of o) }
+abbrev pub expected_unpacked : Option OutlineTree → Expected
+expected_unpacked None = a_value
+expected_unpacked (Some o) = record { value = true; right = can_pack (form_of o) }
 
 -- what a store wants of its value: a word, or a tuple of words alone
 abbrev pub words_alone : Tys → Bool
@@ -229,8 +229,8 @@ can_store WordTy = true
 can_store (TupleTy ts) = words_alone ts
 can_store _ = false
 
-abbrev pub wanted_stored : Wanted
-wanted_stored = record { value = true; right = can_store }
+abbrev pub expected_stored : Expected
+expected_stored = record { value = true; right = can_store }
 
 -- the types of a function's parameters, if it is known
 abbrev pub params_of : Known → List ℕ → Option Tys
@@ -242,7 +242,7 @@ member_names no_named_trees = []
 member_names (named_tree_and x e es) = x ∷ member_names es
 
 -- the kinds below 14 of one node
-abbrev pub low_kinds : Place → Tree → List ℕ
+abbrev pub low_kinds : Context → Tree → List ℕ
 low_kinds p (VarTree s x) = unknown_variable p.vars x
 low_kinds p (CallTree s f es) = unknown_function p.known f ++ (not_in_tail p f ++ wrong_number (params_of p.known f) es)
 low_kinds p (UnpackTree s l e) = unknown_layout p.known.layouts l
@@ -251,7 +251,7 @@ low_kinds p (RaiseTree s x es) = wrong_number (look_up x p.known.exceptions) es
 low_kinds p _ = []
 
 -- its kinds from 15 to 21
-abbrev pub middle_kinds : Place → Tree → List ℕ
+abbrev pub middle_kinds : Context → Tree → List ℕ
 middle_kinds p (DotTree s e x) = no_field x (type_at p.known p.vars e)
 middle_kinds p (RaiseTree s x es) = unknown_exception p.known x
 middle_kinds p (FieldsTree s es) = field_twice (member_names es)
@@ -260,7 +260,7 @@ middle_kinds p (ShiftTree s op e n) = wrong_count n
 middle_kinds p _ = []
 
 -- all faults of one node: its own, and as a part of the node above those of another type and of no value
-abbrev pub node_faults : Place → Wanted → Tree → List Fault
+abbrev pub node_faults : Context → Expected → Tree → List Fault
 node_faults p w e =
     let t = type_at p.known p.vars e in
     at_span (span_of e) (low_kinds p e ++ (other_type w t ++ (middle_kinds p e ++ (no_value w t ++ too_large_value t))))
@@ -273,7 +273,7 @@ raised_kinds k x ps =
 
 -- ---- the walk: the parts of an expression from left to right, and then the node
 abbrev mutual
-  pub faults : Place → Wanted → Tree → List Fault
+  pub faults : Context → Expected → Tree → List Fault
   faults p w (NumberTree s n) = node_faults p w (NumberTree s n)
   faults p w (TruthTree s b) = node_faults p w (TruthTree s b)
   faults p w (VarTree s x) = node_faults p w (VarTree s x)
@@ -285,10 +285,10 @@ abbrev mutual
   faults p w (NegateTree s e) = faults (inside p) (of_type BoolTy) e ++ node_faults p w (NegateTree s e)
   faults p w (BinaryTree s op a b) = faults (inside p) (of_type (operand_ty op)) a ++ (faults (inside p) (of_type (operand_ty op)) b ++ node_faults p w (BinaryTree s op a b))
   faults p w (ShiftTree s op e n) = faults (inside p) (of_type WordTy) e ++ node_faults p w (ShiftTree s op e n)
-  faults p w (CallTree s f es) = list_faults (inside p) (wanted_arguments (params_of p.known f) es) es ++ node_faults p w (CallTree s f es)
-  faults p w (UnpackTree s l e) = faults (inside p) (wanted_packed (look_up l p.known.layouts)) e ++ node_faults p w (UnpackTree s l e)
-  faults p w (PackTree s l e) = faults (inside p) (wanted_unpacked (look_up l p.known.layouts)) e ++ node_faults p w (PackTree s l e)
-  faults p w (RaiseTree s x es) = list_faults (inside p) (wanted_arguments (look_up x p.known.exceptions) es) es ++ node_faults p w (RaiseTree s x es)
+  faults p w (CallTree s f es) = list_faults (inside p) (expected_arguments (params_of p.known f) es) es ++ node_faults p w (CallTree s f es)
+  faults p w (UnpackTree s l e) = faults (inside p) (expected_packed (look_up l p.known.layouts)) e ++ node_faults p w (UnpackTree s l e)
+  faults p w (PackTree s l e) = faults (inside p) (expected_unpacked (look_up l p.known.layouts)) e ++ node_faults p w (PackTree s l e)
+  faults p w (RaiseTree s x es) = list_faults (inside p) (expected_arguments (look_up x p.known.exceptions) es) es ++ node_faults p w (RaiseTree s x es)
   faults p w (IfTree s c a b) = faults (inside p) (of_type BoolTy) c ++ (faults p anything a ++ (faults p (same_as (type_at p.known p.vars a)) b ++ node_faults p w (IfTree s c a b)))
   faults p w (TryTree s a x ps h) =
       faults (inside p) anything a
@@ -299,29 +299,29 @@ abbrev mutual
   faults p w (BlockTree s sts e) = statements_faults (inside p) sts ++ (faults (with_vars (vars_behind p.known p.vars sts) p) anything e ++ node_faults p w (BlockTree s sts e))
 
   -- of each a value is wanted, and of the first ones what the list says
-  pub list_faults : Place → List Wanted → Trees → List Fault
+  pub list_faults : Context → List Expected → Trees → List Fault
   list_faults p ws no_trees = []
   list_faults p [] (tree_and e es) = faults p a_value e ++ list_faults p [] es
   list_faults p (w ∷ ws) (tree_and e es) = faults p w e ++ list_faults p ws es
 
-  pub named_faults : Place → NamedTrees → List Fault
+  pub named_faults : Context → NamedTrees → List Fault
   named_faults p no_named_trees = []
   named_faults p (named_tree_and x e es) = faults p a_value e ++ named_faults p es
 
-  -- the pattern of a let is reached behind its expression
-  pub statement_faults : Place → StatementTree → List Fault
+  -- the pattern of a let is reached after its expression
+  pub statement_faults : Context → StatementTree → List Fault
   statement_faults p (LetStatement s q e) = faults p a_value e ++ at_span s (variable_twice (names_in q) ++ not_fitting q (type_at p.known p.vars e))
   statement_faults p (StoreStatement s m a e) =
       let n = words_of_value (type_at p.known p.vars e) in
-      faults p (of_type WordTy) a ++ (faults p wanted_stored e ++ at_span s (wrong_access m n ++ wrong_scratch m a n))
+      faults p (of_type WordTy) a ++ (faults p expected_stored e ++ at_span s (wrong_access m n ++ wrong_scratch m a n))
 
-  pub statements_faults : Place → StatementTrees → List Fault
+  pub statements_faults : Context → StatementTrees → List Fault
   statements_faults p no_statements = []
   statements_faults p (statement_and st sts) = statement_faults p st ++ statements_faults (with_vars (vars_after p.known p.vars st) p) sts
 
 -- ---- declarations; a group is one: all its names, then the types in the text of each function, then the bodies
 
--- the names of a group, each behind the earlier ones
+-- the names of a group, each after the earlier ones
 abbrev pub name_faults : List (List ℕ) → List FunTree → List Fault
 name_faults names [] = []
 name_faults names (f ∷ fs) = at_span f.span (declared_before f.name names) ++ name_faults (f.name ∷ names) fs

@@ -40,12 +40,12 @@ mutual
     no_field : {k : List Token} → IsMoreFields no_fields k k
     next_field : {s t u : Span} {x : List ℕ} {f : FieldTree} {fs : FieldTrees} {us vs k : List Token} → IsField f us vs → IsMoreFields fs vs k → IsMoreFields (field_and x f fs) (sign_comma s ∷ a_name t x ∷ sign_colon u ∷ us) k
 
-  -- field = NAME ':' (NUM | layout | 'overlay' '{' alt ('|' alt)+ '}')      the part behind the ':'
+  -- field = NAME ':' (NUM | layout | 'overlay' '{' alt ('|' alt)+ '}')      the part after the ':'
   pub data IsField : FieldTree → List Token → List Token → Type 0 where
     plain_field : {f : FieldTree} {ts k : List Token} → IsAlternative f ts k → IsField f ts k
     overlay_field : {s t u v w : Span} {x y : List ℕ} {f g : FieldTree} {fs : FieldTrees} {us vs k : List Token} → IsAlternative f us vs → IsMoreAlternatives (field_and y g fs) vs (sign_close_brace w ∷ k) → IsField (OverlayField (field_and x f (field_and y g fs))) (key_overlay s ∷ sign_open_brace t ∷ a_name u x ∷ sign_colon v ∷ us) k
 
-  -- alt = NAME ':' (NUM | layout)      the part behind the ':'
+  -- alt = NAME ':' (NUM | layout)      the part after the ':'
   pub data IsAlternative : FieldTree → List Token → List Token → Type 0 where
     bits_field : {s : Span} {n : ℕ} {k : List Token} → IsAlternative (BitsField n) (a_number s n ∷ k) k
     inner_field : {l : LayoutTree} {ts k : List Token} → IsLayout l ts k → IsAlternative (InnerField l) ts k
@@ -158,7 +158,7 @@ mutual
     una : {e : Tree} {ts k : List Token} → IsUna e ts k → IsLevel zero e ts k
     chain : {l : ℕ} {a e : Tree} {ts us k : List Token} → IsLevel l a ts us → IsRest l a e us k → IsLevel (suc l) e ts k
 
-  -- (operator operand)*, behind the operand a; a comparison stands alone
+  -- (operator operand)*, after the operand a; a comparison stands alone
   pub data IsRest : ℕ → Tree → Tree → List Token → List Token → Type 0 where
     no_operator : {l : ℕ} {a : Tree} {k : List Token} → IsRest l a a k k
     operator : {l : ℕ} {op : Op} {t : Token} {a b e : Tree} {us vs k : List Token} → t.sort ≡ Sign (sign_of op) → level_of op ≡ l → l ≢ 5 → IsLevel l b us vs → IsRest l (BinaryTree (to (span_of a) (span_of b)) op a b) e vs k → IsRest l a e (t ∷ us) k
@@ -171,7 +171,7 @@ mutual
     negate : {s : Span} {e : Tree} {us k : List Token} → IsUna e us k → IsUna (NegateTree (to s (span_of e)) e) (sign_bang s ∷ us) k
     post : {a e : Tree} {ts us k : List Token} → IsAtom a ts us → IsDots a e us k → IsUna e ts k
 
-  -- post = atom ('.' NAME)*      the part behind the atom a
+  -- post = atom ('.' NAME)*      the part after the atom a
   pub data IsDots : Tree → Tree → List Token → List Token → Type 0 where
     no_dot : {a : Tree} {k : List Token} → IsDots a a k k
     dot : {s t : Span} {x : List ℕ} {a e : Tree} {us k : List Token} → IsDots (DotTree (to (span_of a) t) a x) e us k → IsDots a e (sign_dot s ∷ a_name t x ∷ us) k
@@ -222,7 +222,7 @@ pub data IsDecls : List DeclTree → List Token → List Token → Type 0 where
   no_decl : {k : List Token} → IsDecls [] k k
   next_decl : {d : DeclTree} {ds : List DeclTree} {ts us k : List Token} → IsDecl d ts us → IsDecls ds us k → IsDecls (d ∷ ds) ts k
 
--- the tokens of a text of so many bytes are this program
+-- the tokens of a text of N bytes are this program
 pub record IsProgram (ts : List Token) (length : ℕ) (p : ProgramTree) : Type 0 where
   pub long : p.length ≡ length
   pub spelled : IsDecls p.decls ts []

@@ -41,7 +41,7 @@ sum = record {
   length = 42;
 }
 
--- it has no fault, this expanded size, this room, and so many words of parameters
+-- it has no fault, this expanded size, this room, and N words of parameters
 pub record HasSizes (p : ProgramTree) (size words params : ℕ) : Type 0 where
   pub typed : IsTyped p
   pub sized : expanded_size p ≡ size

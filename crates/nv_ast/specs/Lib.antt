@@ -9,7 +9,7 @@ pub mod ExprView
 pub mod ProgramView
 pub mod Tokens
 pub mod Grammar
-pub mod Places
+pub mod Positions
 pub mod Laws
 pub mod Bits
 pub mod Tests

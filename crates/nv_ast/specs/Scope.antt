@@ -28,17 +28,17 @@ abbrev pub Vars : Type 0
 Vars = List (List ℕ × Ty)
 
 -- what an expression stands in; `tail` says that its value is the function's
-pub record Place : Type 0 where
+pub record Context : Type 0 where
   pub known : Known
   pub vars : Vars
   pub tail : Bool
 
 -- a place inside, whose value isn't the function's
-abbrev pub inside : Place → Place
+abbrev pub inside : Context → Context
 inside p = record { known = p.known; vars = p.vars; tail = false }
 
 -- the same place with other variables
-abbrev pub with_vars : Vars → Place → Place
+abbrev pub with_vars : Vars → Context → Context
 with_vars vars p = record { known = p.known; vars = vars; tail = p.tail }
 
 -- ---- the types of a list, without names
@@ -113,7 +113,7 @@ signatures layouts (f ∷ fs) = (f.name, signature layouts f) ∷ signatures lay
 abbrev pub in_group : Known → List FunTree → Known
 in_group k fs = record { layouts = k.layouts; exceptions = k.exceptions; functions = k.functions; own = signatures k.layouts fs }
 
--- what is known behind a declaration
+-- what is known after a declaration
 abbrev pub known_after : Known → DeclTree → Known
 known_after k (LayoutDecl x l s) = record { layouts = k.layouts ++ (x, outline k.layouts l) ∷ []; exceptions = k.exceptions; functions = k.functions; own = k.own }
 known_after k (ExceptionDecl x ts s) = record { layouts = k.layouts; exceptions = k.exceptions ++ (x, types_of k.layouts ts) ∷ []; functions = k.functions; own = k.own }

@@ -216,7 +216,7 @@ abbrev mutual
   need_statement needs k vars (LetStatement s p e) = words_at k vars e + need needs k vars e
   need_statement needs k vars (StoreStatement s m a e) = 2 + ((words_at k vars a + words_at k vars e) + max (need needs k vars a) (need needs k vars e))
 
-  -- the greatest need of some statements of a block behind these lets, where these variables are written in its tail: of each its own, and the words of the lets that are still wanted in it or behind it
+  -- the greatest need of some statements of a block after these lets, where these variables are written in its tail: of each its own, and the words of the lets that are still wanted in it or after it
   pub need_statements : GroupNumbers → Known → Vars → Lets → StatementTrees → List (List ℕ) → ℕ
   need_statements needs k vars lets no_statements written = 0
   need_statements needs k vars lets (statement_and st sts) written =

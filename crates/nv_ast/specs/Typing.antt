@@ -76,7 +76,7 @@ abbrev mutual
   named_types_at k vars no_named_trees = Some no_named_tys
   named_types_at k vars (named_tree_and x e es) = and_named_ty x (type_at k vars e) (named_types_at k vars es)
 
-  -- the variables behind a statement: those of a let's pattern hide earlier ones
+  -- the variables after a statement: those of a let's pattern hide earlier ones
   pub vars_after : Known → Vars → StatementTree → Vars
   vars_after k vars (LetStatement s p e) = bind_value p (type_at k vars e) vars
   vars_after k vars (StoreStatement s m a e) = vars

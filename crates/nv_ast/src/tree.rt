@@ -100,7 +100,7 @@ pub enum Kind {
     If(Box<Expr>, Box<Expr>, Box<Expr>),
     /// The body, the exception with the patterns of its words, and the handler.
     Try(Box<Expr>, Name, Vec<Pat>, Box<Expr>),
-    /// So many words from an address.
+    /// N words from an address.
     Fetch(Mem, u32, Box<Expr>),
     Block(Vec<Stmt>, Box<Expr>),
 }

@@ -102,7 +102,7 @@ order-if true true Scratch Scratch at at' ws vs p (inl other) e f = absurd (othe
 order-if true true Scratch Scratch at at' ws vs p (inr apart) e f =
     ap (with_words Scratch p) (swapped at at' ws vs p.scratch apart (leb-true (at + length ws) (length p.scratch) e) (leb-true (at' + length vs) (length p.scratch) f))
 
--- the fitting of a write behind another
+-- the fitting of a write after another
 behind : (w v : Write) (p : Memories) → applied w (applied v p) ≡ spliced (nat_le (first_word w.mem w.at + length w.words) (length (words_at w.mem p))) w.mem (first_word w.mem w.at) w.words (applied v p)
 behind w v p = ap (λ k. spliced (nat_le (first_word w.mem w.at + length w.words) k) w.mem (first_word w.mem w.at) w.words (applied v p)) (applied-size w.mem v p)
 
@@ -136,7 +136,7 @@ stored-applied m at ws p q e = ap (λ o. unwrap_or o p) e
 not-below : (at : ℕ) → 512 ≤ at → is_source_write Scratch at ≡ false
 not-below at le = grind arith
 
--- a write behind the source's scratch words changes nothing that a source sees
+-- a write after the source's scratch words changes nothing that a source sees
 pub hidden-store : (at : ℕ) (ws : List ℕ) (p q : Memories) → 512 ≤ at → stored Scratch at ws p ≡ Some q → source_memories q ≡ source_memories p
 hidden-store at ws p q le e =
     ap source_memories (sym (stored-applied Scratch at ws p q e)) ∙ alike-cut (unwrap_or (stored Scratch at ws p) p) p (hidden-at Scratch at ws p (not-below at le))

@@ -85,7 +85,7 @@ left-alike (w ∷ ws) p q h = alike-step (is_source_write w.mem w.at) w ws p q r
 pub seen_follows : (p : Memories) (m : Meaning) → FollowsAll p m → FollowsWrites p m
 seen_follows p m follows = λ i. ap source_memories (follows i) ∙ alike-cut _ _ (left-alike (m i).writes p p (alike-refl p))
 
--- one write more, behind the others
+-- one write more, after the others
 pub left-last : (ws : List Write) (w : Write) (p : Memories) → left_by (ws ++ w ∷ []) p ≡ applied w (left_by ws p)
 left-last [] w p = refl
 left-last (x ∷ ws) w p = left-last ws w (applied x p)

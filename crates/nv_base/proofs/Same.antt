@@ -8,7 +8,7 @@ use Rattle.nv_base.specs.declared.outcome.Outcome.TheVariants.{Ended, Raised, Fa
 use Rattle.nv_base.specs.declared.outcome.Write.{Write}
 use Rattle.nv_base.specs.Memories.{Memories, HasSizes}
 use Rattle.nv_base.specs.Meanings.{FullOutcome, Meaning, Same, IsOver, IsPrefix, KeepsOutcomes, AreEqual, AreArguments, left_by, seen, source_writes, is_source_write}
-use Rattle.nv_base.specs.Progress.{Before, Reaches, Grows, Lands, FollowsAll}
+use Rattle.nv_base.specs.Progress.{Before, IsSimulatedBy, IsMonotone, IsMatchedBy, FollowsAll}
 
 pub prefix-refl : (a : List Write) → IsPrefix a a
 prefix-refl a = ([], sym (append-nil a))
@@ -76,8 +76,8 @@ pub before-second : (f g g' : FullOutcome) → Before f g → seen g ≡ seen g'
 before-second f g g' q e = before-trans f g g' q (inl e)
 
 -- from each step to the next is enough to grow
-pub grows_by_steps : (m : Meaning) → ((i : ℕ) → Before (m i) (m (suc i))) → Grows m
-grows_by_steps m step = λ i j le. grows-by m step (j - i) i j (omega arith)
+pub monotone_by_steps : (m : Meaning) → ((i : ℕ) → Before (m i) (m (suc i))) → IsMonotone m
+monotone_by_steps m step = λ i j le. grows-by m step (j - i) i j (omega arith)
   where
     grows-by : (m : Meaning) → ((i : ℕ) → Before (m i) (m (suc i))) → (k i j : ℕ) → j ≡ i + k → Before (m i) (m j)
     grows-by m step zero i j e = let same : i ≡ j = omega arith in before-equal (m i) (m j) (ap m same)
@@ -86,7 +86,7 @@ grows_by_steps m step = λ i j le. grows-by m step (j - i) i j (omega arith)
         before-trans (m i) (m (i + k)) (m j) (grows-by m step k i (i + k) refl) (before-second (m (i + k)) (m (suc (i + k))) (m j) (step (i + k)) (ap (λ x. seen (m x)) next))
 
 -- each gets as far as the other
-pub same_from : (m n : Meaning) → Reaches m n → Reaches n m → Same m n
+pub same_from : (m n : Meaning) → IsSimulatedBy m n → IsSimulatedBy n m → Same m n
 same_from m n f g = record {
   ends = λ i over. let a = f i in (a.0, before-over (m i) (n a.0) a.1 over);
   ends_only = λ j over. let a = g j in (a.0, sym (before-over (n j) (m a.0) a.1 over));
@@ -103,10 +103,10 @@ pub same_equal : (m n : Meaning) → ((i : ℕ) → m i ≡ n i) → Same m n
 same_equal m n e = same_seen m n (λ i. ap seen (e i))
 
 -- the second comes to where the first is, equal to it in all
-pub lands_at : (m n : Meaning) → ((i : ℕ) → (j : ℕ) × ((m i).outcome ≡ Going → i ≤ j) × (n j ≡ m i)) → Lands m n
+pub lands_at : (m n : Meaning) → ((i : ℕ) → (j : ℕ) × ((m i).outcome ≡ Going → i ≤ j) × (n j ≡ m i)) → IsMatchedBy m n
 lands_at m n f = λ i. let a = f i in (a.0, a.1, ap seen a.2)
 
-lands-back : (m n : Meaning) → Grows n → (i j : ℕ) → ((m i).outcome ≡ Going → i ≤ j) → seen (n j) ≡ seen (m i) → Before (n i) (m i)
+lands-back : (m n : Meaning) → IsMonotone n → (i j : ℕ) → ((m i).outcome ≡ Going → i ≤ j) → seen (n j) ≡ seen (m i) → Before (n i) (m i)
 lands-back m n grows i j far e =
     ⊎_elim
     (λ less. ⊎_elim
@@ -117,7 +117,7 @@ lands-back m n grows i j far e =
     (cases_lt j i)
 
 -- the second follows the first, and grows
-pub same_lands : (m n : Meaning) → Lands m n → Grows n → Same m n
+pub same_lands : (m n : Meaning) → IsMatchedBy m n → IsMonotone n → Same m n
 same_lands m n f grows =
     same_from m n
     (λ i. let a = f i in (a.0, inl (sym a.2)))

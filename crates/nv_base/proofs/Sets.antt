@@ -123,7 +123,7 @@ within-right a b = λ x e. in-append x a b ∙ or_right (is_in x a) (is_in x b) 
 pub within-both : (a b c : List ℕ) → Within a c → Within b c → Within (a ++ b) c
 within-both a b c p q = λ x e. ⊎_elim (p x) (q x) (or_cases (is_in x a) (is_in x b) (sym (in-append x a b) ∙ e))
 
--- what is left without some is known before, if all of it is known behind them
+-- what is left without some is known before, if all of it is known after them
 pub within-without : (a gone known : List ℕ) → Within a (gone ++ known) → Within (without a gone) known
 within-without a gone known h =
     λ x e.

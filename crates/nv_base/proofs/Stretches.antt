@@ -44,7 +44,7 @@ splice-front (suc k) (suc a) ws (c ∷ x) (d ∷ y) e l fits =
 splice-front (suc k) (suc a) ws [] y e l fits = absurd (omega arith)
 splice-front (suc k) (suc a) ws (c ∷ x) [] e l fits = absurd (omega arith)
 
--- a stretch behind the first k elements leaves them
+-- a stretch after the first k elements leaves them
 pub splice-behind : (k a : ℕ) (ws x : List ℕ) → k ≤ a → a ≤ length x → take k (splice a ws x) ≡ take k x
 splice-behind zero a ws x le fits = refl
 splice-behind (suc k) zero ws x le fits = absurd (omega arith)

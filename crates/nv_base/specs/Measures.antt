@@ -5,7 +5,7 @@ use Rattle.nv_base.specs.Sets.{different, without, all_vars}
 
 -- ---- widths of places
 
--- of a node with operands, where these variables are live behind it or outside: each operand counts, however often it stands, and 1 for
+-- of a node with operands, where these variables are live after it or outside: each operand counts, however often it stands, and 1 for
 -- the second half of a literal
 abbrev pub operands_wide : List ℕ → List Atom → ℕ
 operands_wide held [] = different held
@@ -15,7 +15,7 @@ operands_wide held (a ∷ as') = different (without held (all_vars (a ∷ as')))
 abbrev pub let_wide : List ℕ → ℕ
 let_wide held = different held + 3
 
--- where so many words get variables at once, used or not: the other live variables, and 1 for the second half of a literal
+-- where N words get variables at once, used or not: the other live variables, and 1 for the second half of a literal
 abbrev pub entry_wide : List ℕ → ℕ → ℕ
 entry_wide held n = different held + (n + 1)
 
@@ -41,7 +41,7 @@ a_label = record { labels = 1; jumps = 0; nodes = 0; defined = 0; used = 0 }
 abbrev pub a_jump : Bulk
 a_jump = record { labels = 0; jumps = 1; nodes = 0; defined = 0; used = 0 }
 
--- a node that defines and uses so many words
+-- a node that defines and uses N words
 abbrev pub a_node : ℕ → ℕ → Bulk
 a_node defined used = record { labels = 0; jumps = 0; nodes = 1; defined = defined; used = used }
 

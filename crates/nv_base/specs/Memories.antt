@@ -3,7 +3,7 @@ use Rattle.std.specs.Prelude.{◌≡◌, ℕ, ◌+◌, ◌*◌, ◌/◌, ◌^◌
 use Rattle.nv_base.specs.declared.term.Mem.{Mem}
 use Rattle.nv_base.specs.declared.term.Mem.TheVariants.{Sram, Sdram, Scratch}
 
--- the words of each memory; a quadword of SDRAM is two words, one behind the other
+-- the words of each memory; a quadword of SDRAM is two words, one after the other
 pub record Memories : Type 0 where
   pub sram : List ℕ
   pub sdram : List ℕ
@@ -23,7 +23,7 @@ pub record HasSizes (p : Memories) : Type 0 where
   pub sdram : (quadwords : ℕ) × (quadwords ≤ size_limit) × (length p.sdram ≡ 2 * quadwords) × All (λ w. w < 2 ^ 32) p.sdram
   pub scratch : (length p.scratch ≡ 1024) × All (λ w. w < 2 ^ 32) p.scratch
 
--- memories of zeros: so many words of SRAM, so many quadwords of SDRAM, and 1,024 words of scratch
+-- memories of zeros: N words of SRAM, so many quadwords of SDRAM, and 1,024 words of scratch
 abbrev pub blank : ℕ → ℕ → Memories
 blank sram sdram = record { sram = replicate sram 0; sdram = replicate (2 * sdram) 0; scratch = replicate 1024 0 }
 
@@ -74,7 +74,7 @@ IsAccess Sram n = (1 ≤ n) × (n ≤ 8)
 IsAccess Sdram n = (half : ℕ) × (n ≡ 2 * half) × (1 ≤ half) × (half ≤ 4)
 IsAccess Scratch n = (1 ≤ n) × (n ≤ 8)
 
--- two stretches, each of so many words from an address on, have no word in common
+-- two stretches, each of N words from an address on, have no word in common
 abbrev pub AreApart : Mem → ℕ → ℕ → Mem → ℕ → ℕ → Type 0
 AreApart m at n m' at' n' = (m ≡ m' → ⊥) ⊎ ((first_word m at + n ≤ first_word m' at') ⊎ (first_word m' at' + n' ≤ first_word m at))
 

@@ -10,16 +10,16 @@ abbrev pub Before : FullOutcome → FullOutcome → Type 0
 Before f g = (seen f ≡ seen g) ⊎ ((f.outcome ≡ Going) × IsPrefix (seen f).writes (seen g).writes)
 
 -- the second meaning gets at least as far as the first
-abbrev pub Reaches : Meaning → Meaning → Type 0
-Reaches m n = (i : ℕ) → (j : ℕ) × Before (m i) (n j)
+abbrev pub IsSimulatedBy : Meaning → Meaning → Type 0
+IsSimulatedBy m n = (i : ℕ) → (j : ℕ) × Before (m i) (n j)
 
 -- with more steps a run gets at least as far
-abbrev pub Grows : Meaning → Type 0
-Grows m = (i j : ℕ) → i ≤ j → Before (m i) (m j)
+abbrev pub IsMonotone : Meaning → Type 0
+IsMonotone m = (i j : ℕ) → i ≤ j → Before (m i) (m j)
 
 -- the second meaning comes to where the first is, and where the first goes on it takes at least as many steps
-abbrev pub Lands : Meaning → Meaning → Type 0
-Lands m n = (i : ℕ) → (j : ℕ) × ((m i).outcome ≡ Going → i ≤ j) × (seen (n j) ≡ seen (m i))
+abbrev pub IsMatchedBy : Meaning → Meaning → Type 0
+IsMatchedBy m n = (i : ℕ) → (j : ℕ) × ((m i).outcome ≡ Going → i ≤ j) × (seen (n j) ≡ seen (m i))
 
 -- the second is the first with no write more, or with one more after which it goes on
 abbrev pub OneMore : FullOutcome → FullOutcome → Type 0

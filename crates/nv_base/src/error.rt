@@ -1,4 +1,4 @@
-// Want of memory, and the refusals of a new packet.
+// Memory exhaustion, and the refusals of a new packet.
 ghost use Rattle.std.specs.Prelude.{◌≡◌};
 ghost use Rattle.nv_base.specs.declared.error.PacketError.TheVariants.{NoMemory as WantOfMemory};
 

@@ -4,7 +4,7 @@ ghost use Rattle.nv_base.specs.Log.{Log, empty_log, noted_all};
 ghost use Rattle.nv_base.specs.Measures.{Bulk, operands_wide, let_wide, entry_wide, nothing, both, IsAtMost};
 ghost use Rattle.nv_base.specs.Memories.{Memories, HasSizes, IsAccess, AreApart, IsSourceStretch, source_scratch, words_at, fetched, stored};
 ghost use Rattle.nv_base.specs.Meanings.{Meaning, Same, KeepsOutcomes, AreEqual, AreArguments, seen, applied, left_by, source_memories};
-ghost use Rattle.nv_base.specs.Progress.{Before, Reaches, Grows, Lands, IsStepwise, FollowsAll, FollowsWrites};
+ghost use Rattle.nv_base.specs.Progress.{Before, IsSimulatedBy, IsMonotone, IsMatchedBy, IsStepwise, FollowsAll, FollowsWrites};
 ghost use Rattle.nv_base.specs.Access.{can_move, has_count, is_primitive, is_address};
 ghost use Rattle.nv_base.specs.Running.{Running};
 ghost use Rattle.nv_base.specs.Sets.{Within, is_in, all_different, different};
@@ -27,7 +27,7 @@ pub fn same_is_an_equivalence()
 
 /// Two meanings each of which gets as far as the other are the same.
 pub fn same_where_each_reaches_the_other()
-    ensures { (m n : Meaning) → Reaches m n → Reaches n m → Same m n }
+    ensures { (m n : Meaning) → IsSimulatedBy m n → IsSimulatedBy n m → Same m n }
 {}
 
 /// Two meanings that are seen alike at every number are the same.
@@ -38,7 +38,7 @@ pub fn same_where_seen_alike()
 /// It is enough to follow a meaning forward into one that gets further with more steps, counting
 /// progress where it goes on: the way back is free.
 pub fn same_where_it_lands()
-    ensures { (m n : Meaning) → Lands m n → Grows n → Same m n }
+    ensures { (m n : Meaning) → IsMatchedBy m n → IsMonotone n → Same m n }
 {}
 
 /// Where memories are told by the first ones and the writes, and the second meaning writes at most
@@ -75,8 +75,8 @@ pub fn a_primitive_depends_on_its_variables()
 {}
 
 /// A run that gets further from each step to the next gets further with more steps.
-pub fn grows_by_steps()
-    ensures { (m : Meaning) → ((i : ℕ) → Before (m i) (m (suc i))) → Grows m }
+pub fn monotone_by_steps()
+    ensures { (m : Meaning) → ((i : ℕ) → Before (m i) (m (suc i))) → IsMonotone m }
 {}
 
 /// Memories keep their sizes when words are written, and what is fetched is as many words as were
@@ -144,7 +144,7 @@ pub fn equal_meanings_keep()
     ensures memories { (params : ℕ) (m n : List ℕ → Memories → Meaning) (args : List ℕ) (p : Memories) → AreEqual params m n → AreArguments params args → HasSizes p → FollowsAll p (n args p) → FollowsAll p (m args p) }
 {}
 
-/// Where the memories of a run are the first ones after its writes, they are so behind a store.
+/// Where the memories of a run are the first ones after its writes, they are so after a store.
 pub fn stores_are_followed()
     ensures { (m : Mem) (at : ℕ) (ws : List ℕ) (q : Memories) (now : Running) (p : Memories) → stored m at ws now.packet ≡ Some q → now.packet ≡ left_by now.writes p → q ≡ left_by (now.writes ++ record { mem = m; at = at; words = ws } ∷ []) p }
 {}

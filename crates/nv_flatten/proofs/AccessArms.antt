@@ -12,9 +12,9 @@ use Rattle.nv_ast.specs.Outline.{OutlineTree, outline, IsSound}
 use Rattle.nv_ast.specs.Tests.{is_among, names_of, look_up}
 use Rattle.nv_ast.specs.Tree.{Tree, FetchTree, UnpackTree, PackTree, NamedLayout}
 use Rattle.nv_ast.specs.Types.{WordTy, TupleTy, ty_and, words, total_words, total_named_words, word_parts, words_ty, packed_words, packed_ty, unpacked_ty, form_of, can_pack}
-use Rattle.nv_ast.specs.Scope.{Place, inside}
+use Rattle.nv_ast.specs.Scope.{Context, inside}
 use Rattle.nv_ast.specs.Typing.{type_at}
-use Rattle.nv_ast.specs.Faults.{Wanted, faults, node_faults, of_type, can_move, wrong_access, wrong_scratch, wanted_packed, wanted_unpacked}
+use Rattle.nv_ast.specs.Faults.{Expected, faults, node_faults, of_type, can_move, wrong_access, wrong_scratch, expected_packed, expected_unpacked}
 use Rattle.nv_meaning.specs.Values.{Value, word_of, words_value}
 use Rattle.nv_meaning.specs.Values as meaning
 use Rattle.nv_meaning.specs.Packing.{value_at, unpacked_value, packed_value}
@@ -23,19 +23,19 @@ use Rattle.flat_ir.specs.Running as flat
 use Rattle.flat_ir.specs.Meaning as code
 use Rattle.flat_ir.specs.Spine.{Act, step_does}
 use Rattle.flat_ir.specs.declared.spine.Step.{Step}
-use Rattle.flat_code.specs.inner.Code.{Computes, variables}
-use Rattle.flat_code.specs.inner.Symbols.{Symbol, Word, Truth, Tuple, Record, Symbols, no_symbols, symbol_and, NamedSymbols, no_named_symbols, named_symbol_and, SymbolScope, operands, all_operands, named_operands, form, forms, named_forms, value_in, Fits, AreOlder, word_operand, word_symbols, words_symbol, numbers_from}
-use Rattle.flat_code.specs.inner.Runs.{flat_run, onward}
-use Rattle.flat_code.specs.inner.Soundness.{AreWords}
-use Rattle.flat_code.specs.inner.Whole.{Whole}
-use Rattle.flat_code.specs.inner.Simulation.{Names, Done, IsValue}
-use Rattle.flat_code.proofs.Keeping.{keeps-then, words-fit, are-words}
-use Rattle.flat_code.proofs.Fresh.{numbers-keep, numbers-older, words-read, words-read-fit}
-use Rattle.flat_code.proofs.NoFaults.{value-has-type, clean as is-clean, is-right, wanted-type, among-known}
-use Rattle.flat_code.proofs.Following.{stands-inside, word-of}
-use Rattle.flat_code.proofs.ValueArms.{unary}
-use Rattle.flat_code.proofs.PackedWords.{symbol-operands}
-use Rattle.flat_code.proofs.WellBasics.{words-ty-words}
+use Rattle.flat_values.specs.inner.Code.{Computes, variables}
+use Rattle.flat_values.specs.inner.Symbols.{Symbol, Word, Truth, Tuple, Record, Symbols, no_symbols, symbol_and, NamedSymbols, no_named_symbols, named_symbol_and, SymbolScope, operands, all_operands, named_operands, form, forms, named_forms, value_in, Fits, AreOlder, word_operand, word_symbols, words_symbol, numbers_from}
+use Rattle.flat_values.specs.inner.Runs.{flat_run, onward}
+use Rattle.flat_values.specs.inner.Soundness.{AreWords}
+use Rattle.flat_values.specs.inner.Whole.{Whole}
+use Rattle.flat_values.specs.inner.Simulation.{Names, Done, IsValue}
+use Rattle.flat_values.proofs.Keeping.{keeps-then, words-fit, are-words}
+use Rattle.flat_values.proofs.Fresh.{numbers-keep, numbers-older, words-read, words-read-fit}
+use Rattle.flat_values.proofs.NoFaults.{value-has-type, clean as is-clean, is-right, wanted-type, among-known}
+use Rattle.flat_values.proofs.Following.{stands-inside, word-of}
+use Rattle.flat_values.proofs.ValueArms.{unary}
+use Rattle.flat_values.proofs.PackedWords.{symbol-operands}
+use Rattle.flat_values.proofs.WellBasics.{words-ty-words}
 use Rattle.nv_ast.proofs.Faultless.{no_front}
 use Rattle.nv_layout.proofs.Sound.{where_not}
 
@@ -113,10 +113,10 @@ module _ (w : Whole) (names : Names) (low high : ℕ) (scope : SymbolScope) (sp 
 
 -- ---- a layout that is known
 
-unpack-known : (p : Place) (wanted : Wanted) (sp : Span) (l : List ℕ) (a : Tree) → faults p wanted (UnpackTree sp l a) ≡ [] → (o : OutlineTree) × (look_up l p.known.layouts ≡ Some o)
+unpack-known : (p : Context) (wanted : Expected) (sp : Span) (l : List ℕ) (a : Tree) → faults p wanted (UnpackTree sp l a) ≡ [] → (o : OutlineTree) × (look_up l p.known.layouts ≡ Some o)
 unpack-known p wanted sp l a none = among-known l p.known.layouts (where_not (is_among l (names_of p.known.layouts)) 3 (is-clean p wanted (UnpackTree sp l a) none).low)
 
-pack-known : (p : Place) (wanted : Wanted) (sp : Span) (l : List ℕ) (a : Tree) → faults p wanted (PackTree sp l a) ≡ [] → (o : OutlineTree) × (look_up l p.known.layouts ≡ Some o)
+pack-known : (p : Context) (wanted : Expected) (sp : Span) (l : List ℕ) (a : Tree) → faults p wanted (PackTree sp l a) ≡ [] → (o : OutlineTree) × (look_up l p.known.layouts ≡ Some o)
 pack-known p wanted sp l a none = among-known l p.known.layouts (where_not (is_among l (names_of p.known.layouts)) 3 (is-clean p wanted (PackTree sp l a) none).low)
 
 -- ---- packing and unpacking by a layout
@@ -129,14 +129,14 @@ module _ (w : Whole) (names : Names) (low mid high : ℕ) (scope : SymbolScope) 
       → form r ≡ unpacked_ty layout → (AreOlder mid (operands s) → AreOlder high (operands r))
       → IsValue w names low high scope (UnpackTree sp l a) (ss ++ ts) r
   unpack-value le v unpacks formed older =
-      unary w names low mid high scope (UnpackTree sp l a) a ss ts s r (λ y last. Gives (unpacked_value layout y) last) (λ p. wanted_packed (look_up l p.known.layouts)) v
+      unary w names low mid high scope (UnpackTree sp l a) a ss ts s r (λ y last. Gives (unpacked_value layout y) last) (λ p. expected_packed (look_up l p.known.layouts)) v
       (λ call m now. refl) (λ p wanted. refl)
       (λ own p wanted stands none o call env new last done rest next same.
-      let clean = no_front (faults (inside p) (wanted_packed (look_up l p.known.layouts)) a) (node_faults p wanted (UnpackTree sp l a)) none in
+      let clean = no_front (faults (inside p) (expected_packed (look_up l p.known.layouts)) a) (node_faults p wanted (UnpackTree sp l a)) none in
       let found = unpack-known p wanted sp l a none in
       let known = stands.part.layouts l found.0 found.1 in
-      let typed = wanted-type (inside p) (packed_ty found.0) a (subst (λ q. faults (inside p) (wanted_packed q) a ≡ []) found.1 clean) in
-      let shaped = v.formed.by own (inside p) (wanted_packed (look_up l p.known.layouts)) (stands-inside w own scope p stands) clean (packed_ty found.0) typed in
+      let typed = wanted-type (inside p) (packed_ty found.0) a (subst (λ q. faults (inside p) (expected_packed q) a ≡ []) found.1 clean) in
+      let shaped = v.formed.by own (inside p) (expected_packed (look_up l p.known.layouts)) (stands-inside w own scope p stands) clean (packed_ty found.0) typed in
       let count : length (operands s) ≡ packed_words layout = operands-count s ∙ ap words shaped ∙ words-ty-words (packed_words found.0) ∙ ap packed_words (sym known.0) in
       let spelled = words-fit new s done.fits in
       let does = unpacks (subst IsSound (sym known.0) known.1) count (v.older o) new (subst AreWords spelled (are-words new s done.fits)) in
@@ -156,16 +156,16 @@ module _ (w : Whole) (names : Names) (low mid high : ℕ) (scope : SymbolScope) 
       → form r ≡ packed_ty layout → (AreOlder mid (operands s) → AreOlder high (operands r))
       → IsValue w names low high scope (PackTree sp l a) (ss ++ ts) r
   pack-value le v packs formed older =
-      unary w names low mid high scope (PackTree sp l a) a ss ts s r (λ y last. Gives (packed_value layout y) last) (λ p. wanted_unpacked (look_up l p.known.layouts)) v
+      unary w names low mid high scope (PackTree sp l a) a ss ts s r (λ y last. Gives (packed_value layout y) last) (λ p. expected_unpacked (look_up l p.known.layouts)) v
       (λ call m now. refl) (λ p wanted. refl)
       (λ own p wanted stands none o call env new last done rest next same.
-      let clean = no_front (faults (inside p) (wanted_unpacked (look_up l p.known.layouts)) a) (node_faults p wanted (PackTree sp l a)) none in
+      let clean = no_front (faults (inside p) (expected_unpacked (look_up l p.known.layouts)) a) (node_faults p wanted (PackTree sp l a)) none in
       let found = pack-known p wanted sp l a none in
       let known = stands.part.layouts l found.0 found.1 in
-      let here = subst (λ q. faults (inside p) (wanted_unpacked q) a ≡ []) found.1 clean in
-      let typed = value-has-type (inside p) (wanted_unpacked (Some found.0)) a refl here in
-      let right = is-right (wanted_unpacked (Some found.0)) (type_at p.known p.vars a) typed.0 (is-clean (inside p) (wanted_unpacked (Some found.0)) a here).other typed.1 in
-      let shaped = v.formed.by own (inside p) (wanted_unpacked (look_up l p.known.layouts)) (stands-inside w own scope p stands) clean typed.0 typed.1 in
+      let here = subst (λ q. faults (inside p) (expected_unpacked q) a ≡ []) found.1 clean in
+      let typed = value-has-type (inside p) (expected_unpacked (Some found.0)) a refl here in
+      let right = is-right (expected_unpacked (Some found.0)) (type_at p.known p.vars a) typed.0 (is-clean (inside p) (expected_unpacked (Some found.0)) a here).other typed.1 in
+      let shaped = v.formed.by own (inside p) (expected_unpacked (look_up l p.known.layouts)) (stands-inside w own scope p stands) clean typed.0 typed.1 in
       let may : can_pack (form_of layout) (form s) ≡ true = ap (λ q. can_pack (form_of q) (form s)) known.0 ∙ ap (can_pack (form_of found.0)) shaped ∙ right in
       let does = packs (subst IsSound (sym known.0) known.1) may (v.older o) new done.fits in
       does.does call rest (flat_run last)

@@ -1,4 +1,4 @@
--- The variables that names stand for behind a pattern, and how many more they are.
+-- The variables that names stand for after a pattern, and how many more they are.
 use Rattle.std.proofs.Common.{◌≡◌, ℕ, ◌+◌, Bool, true, false, ◌||◌, if◌then◌else◌, List, [], ◌∷◌, ◌++◌, refl, sym, ap, subst, ◌∙◌, length, bytes_eq, arith, tests}
 use Rattle.std.specs.List.{list_any}
 use Rattle.std.proofs.lemmas.Bool.{or_parts, or_from}
@@ -9,15 +9,15 @@ use Rattle.nv_ast.specs.Tests.{is_among}
 use Rattle.nv_ast.specs.Scope.{names_in, names_in_all}
 use Rattle.nv_ast.specs.Sizes.{Lets, pending}
 use Rattle.nv_base.specs.Sets.{all_vars}
-use Rattle.flat_code.specs.inner.Symbols.{Symbol, Symbols, Word, Truth, Tuple, Record, no_symbols, symbol_and, SymbolScope, operands, all_operands, symbol_in, bound, all_bound}
-use Rattle.flat_code.specs.inner.Narrow.{IsWithin, Grows, written, Pends}
-use Rattle.flat_code.proofs.Within.{itself, of-none, one, both, unions, into-left, into-right, through, behind-same, both-same, grows-by, grows-not, grows-further, all-vars-append, vars-length}
+use Rattle.flat_values.specs.inner.Symbols.{Symbol, Symbols, Word, Truth, Tuple, Record, no_symbols, symbol_and, SymbolScope, operands, all_operands, symbol_in, bound, all_bound}
+use Rattle.flat_values.specs.inner.Narrow.{IsWithin, AddsAtMost, written, Pends}
+use Rattle.flat_values.proofs.Within.{itself, of-none, one, both, unions, into-left, into-right, through, behind-same, both-same, grows-by, grows-not, grows-further, all-vars-append, vars-length}
 
 -- the variables of one name
 abbrev at_name : SymbolScope → List ℕ → List ℕ
 at_name scope x = all_vars (operands (symbol_in scope x))
 
--- ---- behind a pattern a name stands for variables of its value, or for what it did
+-- ---- after a pattern a name stands for variables of its value, or for what it did
 
 pub choice-of : (b : Bool) (s t : Symbol) → IsWithin (all_vars (operands (if b then s else t))) (all_vars (operands s) ++ all_vars (operands t))
 choice-of true s t = into-left (all_vars (operands s)) (all_vars (operands s)) (all_vars (operands t)) itself
@@ -102,7 +102,7 @@ written-kept q s scope (x ∷ names) e =
 
 -- ---- lets
 bound-grows : (b : Bool) (q : PatternTree) (s : Symbol) (scope : SymbolScope) (n : ℕ) (names : List (List ℕ)) → length (operands s) ≡ n → list_any (λ y. is_among y names) (names_in q) ≡ b
-    → Grows (written scope names) (written (bound q s scope) names) ((if b then n else 0) + 0)
+    → AddsAtMost (written scope names) (written (bound q s scope) names) ((if b then n else 0) + 0)
 bound-grows true q s scope n names e h =
     grows-by (all_vars (operands s)) (written scope names) (written (bound q s scope) names) (n + 0) (written-bound q s scope names) (omega (arith, vars-length (operands s)))
 bound-grows false q s scope n names e h =
@@ -124,6 +124,6 @@ pending-append ((ns, n) ∷ l) m names = let here = if list_any (λ x. is_among 
 pub pends-further : (outer scope inner : SymbolScope) (l m : Lets) → Pends outer scope l → Pends scope inner m → Pends outer inner (l ++ m)
 pends-further outer scope inner l m p q = record {
   by = λ names.
-      subst (Grows (written outer names) (written inner names)) (sym (pending-append l m names))
+      subst (AddsAtMost (written outer names) (written inner names)) (sym (pending-append l m names))
       (grows-further (written outer names) (written scope names) (written inner names) (pending l names) (pending m names) (p.by names) (q.by names));
 }

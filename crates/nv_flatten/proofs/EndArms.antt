@@ -10,9 +10,9 @@ use Rattle.nv_ast.specs.declared.token.Span.{Span}
 use Rattle.nv_ast.specs.declared.tree.Op.TheVariants.{Add, Sub, And, Or, Xor, Eq, Ne, Lt, Le, Gt, Ge, Both, Either}
 use Rattle.nv_ast.specs.Tree.{Tree, NumberTree, TruthTree, VarTree, ParenTree, TupleTree, FieldsTree, DotTree, InvertTree, NegateTree, BinaryTree, ShiftTree, CallTree, UnpackTree, PackTree, RaiseTree, IfTree, TryTree, FetchTree, BlockTree}
 use Rattle.nv_ast.specs.Types.{BoolTy}
-use Rattle.nv_ast.specs.Scope.{Place, inside}
+use Rattle.nv_ast.specs.Scope.{Context, inside}
 use Rattle.nv_ast.specs.Typing.{type_at, or_ty}
-use Rattle.nv_ast.specs.Faults.{Wanted, a_value, anything, of_type, same_as, faults, node_faults}
+use Rattle.nv_ast.specs.Faults.{Expected, a_value, anything, of_type, same_as, faults, node_faults}
 use Rattle.nv_meaning.specs.Values.{words_of, truth_of}
 use Rattle.nv_meaning.specs.Values as meaning
 use Rattle.nv_meaning.specs.Running.{Running, Result, Gives, and_then}
@@ -23,16 +23,16 @@ use Rattle.flat_ir.specs.Spine.{steps_do, IsJoined}
 use Rattle.flat_ir.specs.declared.flat.Flat.{Flat}
 use Rattle.flat_ir.specs.declared.flat.Flat.TheVariants.{Give}
 use Rattle.flat_ir.specs.declared.spine.Step.{Step}
-use Rattle.flat_code.specs.inner.Symbols.{Symbol, Truth, SymbolScope, operands, form, scope_in, ScopeOlder}
-use Rattle.flat_code.specs.inner.Code.{chosen, is_given, is_comparison}
-use Rattle.flat_code.specs.declared.symbol.Symbol as declared
-use Rattle.flat_code.specs.inner.View.{view}
-use Rattle.flat_code.specs.inner.Runs.{flat_run, ended}
-use Rattle.flat_code.specs.inner.Whole.{Whole, Stands}
-use Rattle.flat_code.specs.inner.Simulation.{Names, Extends, Setting, Begins, Done, IsValue, IsTest, IsEnd}
-use Rattle.flat_code.proofs.Keeping.{scope-later, keeps-scope, begins-then, extends-then, words-fit}
-use Rattle.flat_code.proofs.NoFaults.{wanted-type, given-has-type}
-use Rattle.flat_code.proofs.Following.{onward-then, stands-inside}
+use Rattle.flat_values.specs.inner.Symbols.{Symbol, Truth, SymbolScope, operands, form, scope_in, ScopeOlder}
+use Rattle.flat_values.specs.inner.Code.{chosen, is_given, is_comparison}
+use Rattle.flat_values.specs.declared.symbol.Symbol as declared
+use Rattle.flat_values.specs.inner.View.{view}
+use Rattle.flat_values.specs.inner.Runs.{flat_run, ended}
+use Rattle.flat_values.specs.inner.Whole.{Whole, Stands}
+use Rattle.flat_values.specs.inner.Simulation.{Names, Extends, Setting, Begins, Done, IsValue, IsTest, IsEnd}
+use Rattle.flat_values.proofs.Keeping.{scope-later, keeps-scope, begins-then, extends-then, words-fit}
+use Rattle.flat_values.proofs.NoFaults.{wanted-type, given-has-type}
+use Rattle.flat_values.proofs.Following.{onward-then, stands-inside}
 use Rattle.nv_flatten.proofs.TestArms.{test-more}
 use Rattle.nv_ast.proofs.Faultless.{no_front, no_rest}
 
@@ -44,7 +44,7 @@ end-more w names more h low high scope e t o v = record {
 }
 
 pub end-later : (w : Whole) (names : Names) (low mid high : ℕ) (scope : SymbolScope) (e : Tree) (t : Flat) (o : Option Symbol) → IsEnd w names mid high scope e t o → low ≤ mid
-    → (own : ℕ) (p : Place) (wanted : Wanted) → Stands w own scope p → faults p wanted e ≡ [] → ScopeOlder low scope
+    → (own : ℕ) (p : Context) (wanted : Expected) → Stands w own scope p → faults p wanted e ≡ [] → ScopeOlder low scope
     → (c : Setting w names) (env new : Env) (now last : Running) (fit : Type 0) → Begins env scope now → Done low env new fit last
     → code.does c.fcall t new (flat_run last) ≡ ended (eval w.declared c.call e (scope_in env scope) last)
 end-later w names low mid high scope e t o end le own p wanted stands none older c env new now last fit begins done =
@@ -80,7 +80,7 @@ truth-given : (b : Bool) (call : code.Calls) (first second : Flat) (env : Env) (
 truth-given true call first second env now f g = f call env now
 truth-given false call first second env now f g = g call env now
 
-compared-type : (p : Place) (e : Tree) → is_comparison e ≡ true → type_at p.known p.vars e ≡ Some BoolTy
+compared-type : (p : Context) (e : Tree) → is_comparison e ≡ true → type_at p.known p.vars e ≡ Some BoolTy
 compared-type p (BinaryTree s Eq a b) h = refl
 compared-type p (BinaryTree s Ne a b) h = refl
 compared-type p (BinaryTree s Lt a b) h = refl
@@ -133,7 +133,7 @@ chosen-ends true first second x y f g = f
 chosen-ends false first second x y f g = g
 
 pub branch-ends : (w : Whole) (names : Names) (low high : ℕ) (scope : SymbolScope) (e : Tree) (steps : List Step) (c : Cmp) (a b : Atom) → IsTest w names low high scope e steps c a b
-    → (own : ℕ) (p : Place) → Stands w own scope p → faults p (of_type BoolTy) e ≡ [] → ScopeOlder low scope
+    → (own : ℕ) (p : Context) → Stands w own scope p → faults p (of_type BoolTy) e ≡ [] → ScopeOlder low scope
     → (s : Setting w names) (env : Env) (now : Running) → Begins env scope now
     → (t first second : Flat) → ((call : code.Calls) → code.does call t ≡ steps_do call steps (chosen c a b (code.does call first) (code.does call second)))
     → (holds fails : Running → Result)
@@ -207,13 +207,13 @@ choose-end w names between later low mid mid' high scope sp e a b steps c x y fi
           ∙ sym (first-form o u);
     }
   where
-    none-parts : (p : Place) (wanted : Wanted) → faults p wanted (IfTree sp e a b) ≡ [] → faults p anything a ++ (faults p (same_as (type_at p.known p.vars a)) b ++ node_faults p wanted (IfTree sp e a b)) ≡ []
+    none-parts : (p : Context) (wanted : Expected) → faults p wanted (IfTree sp e a b) ≡ [] → faults p anything a ++ (faults p (same_as (type_at p.known p.vars a)) b ++ node_faults p wanted (IfTree sp e a b)) ≡ []
     none-parts p wanted none = no_rest (faults (inside p) (of_type BoolTy) e) (faults p anything a ++ (faults p (same_as (type_at p.known p.vars a)) b ++ node_faults p wanted (IfTree sp e a b))) none
 
-    none-first : (p : Place) (wanted : Wanted) → faults p wanted (IfTree sp e a b) ≡ [] → faults p anything a ≡ []
+    none-first : (p : Context) (wanted : Expected) → faults p wanted (IfTree sp e a b) ≡ [] → faults p anything a ≡ []
     none-first p wanted none = no_front (faults p anything a) (faults p (same_as (type_at p.known p.vars a)) b ++ node_faults p wanted (IfTree sp e a b)) (none-parts p wanted none)
 
-    none-second : (p : Place) (wanted : Wanted) → faults p wanted (IfTree sp e a b) ≡ [] → faults p (same_as (type_at p.known p.vars a)) b ≡ []
+    none-second : (p : Context) (wanted : Expected) → faults p wanted (IfTree sp e a b) ≡ [] → faults p (same_as (type_at p.known p.vars a)) b ≡ []
     none-second p wanted none = no_front (faults p (same_as (type_at p.known p.vars a)) b) (node_faults p wanted (IfTree sp e a b)) (no_rest (faults p anything a) (faults p (same_as (type_at p.known p.vars a)) b ++ node_faults p wanted (IfTree sp e a b)) (none-parts p wanted none))
 
     le-then : (l m n : ℕ) → l ≤ m → m ≤ n → l ≤ n

@@ -7,13 +7,13 @@ use Rattle.nv_ast.specs.Types.{Ty, WordTy, BoolTy, TupleTy, RecordTy, Tys, no_ty
 use Rattle.nv_ast.specs.Scope.{plain_tys, param_vars}
 use Rattle.nv_meaning.specs.Values.{Value, Word, Truth, Tuple, Record, Values, no_values, value_and, NamedValues, no_named_values, named_value_and, words_of, all_words, all_named_words, value_from, values_from, named_values_from, Scope}
 use Rattle.nv_meaning.specs.Meaning.{entered, named_scope}
-use Rattle.flat_code.specs.inner.Symbols.{SymbolScope, operands, values_in, AllFit, fresh, all_fresh, named_fresh, ScopeFits, ScopeOlder, scope_in, vars_of, params_bound}
-use Rattle.flat_code.specs.inner.Soundness.{AreWords, ScopeWords, value_ty, value_tys, named_value_tys, scope_tys}
-use Rattle.flat_code.proofs.Keeping.{older-later}
-use Rattle.flat_code.proofs.Fresh.{fresh-form, fresh-older}
+use Rattle.flat_values.specs.inner.Symbols.{SymbolScope, operands, values_in, AllFit, fresh, all_fresh, named_fresh, ScopeFits, ScopeOlder, scope_in, vars_of, params_bound}
+use Rattle.flat_values.specs.inner.Soundness.{AreWords, ScopeWords, value_ty, value_tys, named_value_tys, scope_tys}
+use Rattle.flat_values.proofs.Keeping.{older-later}
+use Rattle.flat_values.proofs.Fresh.{fresh-form, fresh-older}
 use Rattle.std.proofs.lemmas.List.{length-append}
 use Rattle.std.proofs.lemmas.Bool.{and_parts, or_parts}
-use Rattle.flat_code.proofs.NoFaults.{is-name}
+use Rattle.flat_values.proofs.NoFaults.{is-name}
 
 -- ---- types are the same where the test says so
 
@@ -132,7 +132,7 @@ mutual
   from-named-types no_named_tys ws = refl
   from-named-types (named_ty_and x t ts) ws = ap (λ u. named_ty_and x u (named_value_tys (named_values_from ts (drop (words t) ws)))) (from-type t ws) ∙ ap (named_ty_and x t) (from-named-types ts (drop (words t) ws))
 
--- some words, and then those behind them
+-- some words, and then those after them
 take-empty : (k : ℕ) (ws : List ℕ) → ws ≡ [] → take k ws ≡ []
 take-empty zero ws e = refl
 take-empty (suc k) [] e = refl

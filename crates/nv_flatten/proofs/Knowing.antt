@@ -1,4 +1,4 @@
--- What is known behind some declarations of a program without faults.
+-- What is known after some declarations of a program without faults.
 use Rattle.std.proofs.Common.{◌≡◌, ◌∙◌, refl, sym, ap, subst, ℕ, zero, suc, ◌+◌, ◌≤◌, Bool, true, false, ◌||◌, List, [], ◌∷◌, ◌++◌, map, length, All, Some, None, bytes_eq, append_assoc, append-nil, arith, if◌then◌else◌}
 use Rattle.std.specs.Prelude.{nat_lt, slice_get, replicate}
 use Rattle.std.proofs.lemmas.Bool.{ltb-false}

@@ -7,32 +7,32 @@ use Rattle.nv_ast.specs.declared.tree.Expr.{Expr}
 use Rattle.nv_ast.specs.ExprView.{tree_of, list_trees, list_named_trees}
 use Rattle.nv_ast.specs.Tree.{Tree, TupleTree, FieldsTree, Trees, no_trees, tree_and, NamedTrees, no_named_trees, named_tree_and}
 use Rattle.nv_ast.specs.Types.{Ty, TupleTy, RecordTy, Tys, no_tys, ty_and, named_ty_and}
-use Rattle.nv_ast.specs.Scope.{Place, inside}
+use Rattle.nv_ast.specs.Scope.{Context, inside}
 use Rattle.nv_ast.specs.Typing.{type_at, types_at, named_types_at, and_ty, and_named_ty}
-use Rattle.nv_ast.specs.Faults.{Wanted, faults, list_faults, named_faults, node_faults, a_value}
+use Rattle.nv_ast.specs.Faults.{Expected, faults, list_faults, named_faults, node_faults, a_value}
 use Rattle.nv_meaning.specs.Values.{Value, Values, value_and, NamedValues, named_value_and}
 use Rattle.nv_meaning.specs.Values as meaning
-use Rattle.nv_meaning.specs.Running.{Running, Result, Gives, Raises, Stops, Results, GiveAll, Breaks, NamedResults, GiveNamed, BreaksNamed, then_more, then_named, before_rest, before_named}
+use Rattle.nv_meaning.specs.Running.{Running, Result, Gives, Raises, Halts, Results, GiveAll, Breaks, NamedResults, GiveNamed, BreaksNamed, then_more, then_named, before_rest, before_named}
 use Rattle.nv_meaning.specs.Meaning.{eval, eval_all, eval_named}
 use Rattle.flat_ir.specs.Running as flat
 use Rattle.flat_ir.specs.Spine.{steps_do}
 use Rattle.flat_ir.specs.declared.spine.Step.{Step}
-use Rattle.flat_code.specs.declared.symbol.Symbol as coded
-use Rattle.flat_code.specs.inner.Symbols.{Symbol, Tuple, Record, Symbols, no_symbols, symbol_and, NamedSymbols, no_named_symbols, named_symbol_and, SymbolScope, operands, all_operands, named_operands, form, forms, named_forms, value_in, values_in, named_values_in, Fits, AllFit, NamedFit, IsOlder, scope_in}
-use Rattle.flat_code.specs.inner.View.{view, list_symbols, Named, list_named_symbols}
-use Rattle.flat_code.specs.inner.Runs.{flat_run, onward}
-use Rattle.flat_code.specs.inner.Whole.{Whole}
-use Rattle.flat_code.specs.inner.Simulation.{Names, Extends, IsValue, AreValues, AreFields, onward_all, onward_named}
-use Rattle.flat_code.proofs.Keeping.{older-later, scope-later, keeps-value, keeps-fit, keeps-scope, begins-then, begins-done, done-then, extends-itself, extends-then}
-use Rattle.flat_code.proofs.NoFaults.{value-has-type}
-use Rattle.flat_code.proofs.Following.{onward-all, onward-named, steps-then, stands-inside, fewer}
+use Rattle.flat_values.specs.declared.symbol.Symbol as coded
+use Rattle.flat_values.specs.inner.Symbols.{Symbol, Tuple, Record, Symbols, no_symbols, symbol_and, NamedSymbols, no_named_symbols, named_symbol_and, SymbolScope, operands, all_operands, named_operands, form, forms, named_forms, value_in, values_in, named_values_in, Fits, AllFit, NamedFit, IsOlder, scope_in}
+use Rattle.flat_values.specs.inner.View.{view, list_symbols, Named, list_named_symbols}
+use Rattle.flat_values.specs.inner.Runs.{flat_run, onward}
+use Rattle.flat_values.specs.inner.Whole.{Whole}
+use Rattle.flat_values.specs.inner.Simulation.{Names, Extends, IsValue, AreValues, AreFields, onward_all, onward_named}
+use Rattle.flat_values.proofs.Keeping.{older-later, scope-later, keeps-value, keeps-fit, keeps-scope, begins-then, begins-done, done-then, extends-itself, extends-then}
+use Rattle.flat_values.proofs.NoFaults.{value-has-type}
+use Rattle.flat_values.proofs.Following.{onward-all, onward-named, steps-then, stands-inside, fewer}
 use Rattle.nv_ast.proofs.Faultless.{no_front, no_rest}
 
 -- ---- what follows the first of some values
 onward-more : (r : Result) (k : Value → Running → Results) (next : Values → Running → flat.Result) (never : Value → Running → flat.Result) → onward_all (then_more r k) next never ≡ onward r (λ v now. onward_all (k v now) next never)
 onward-more (Gives v now) k next never = refl
 onward-more (Raises j vs now) k next never = refl
-onward-more (Stops how now) k next never = refl
+onward-more (Halts how now) k next never = refl
 
 onward-before : (v : Value) (r : Results) (next : Values → Running → flat.Result) (never : Value → Running → flat.Result) → onward_all (before_rest v r) next never ≡ onward_all r (λ vs now. next (value_and v vs) now) never
 onward-before v (GiveAll vs now) next never = refl
@@ -41,22 +41,22 @@ onward-before v (Breaks how) next never = refl
 onward-more_named : (r : Result) (k : Value → Running → NamedResults) (next : NamedValues → Running → flat.Result) (never : Value → Running → flat.Result) → onward_named (then_named r k) next never ≡ onward r (λ v now. onward_named (k v now) next never)
 onward-more_named (Gives v now) k next never = refl
 onward-more_named (Raises j vs now) k next never = refl
-onward-more_named (Stops how now) k next never = refl
+onward-more_named (Halts how now) k next never = refl
 
 onward-before_named : (x : List ℕ) (v : Value) (r : NamedResults) (next : NamedValues → Running → flat.Result) (never : Value → Running → flat.Result) → onward_named (before_named x v r) next never ≡ onward_named r (λ vs now. next (named_value_and x v vs) now) never
 onward-before_named x v (GiveNamed vs now) next never = refl
 onward-before_named x v (BreaksNamed how) next never = refl
 
 -- ---- what is wanted of the first, and of the others
-abbrev first_wanted : List Wanted → Wanted
+abbrev first_wanted : List Expected → Expected
 first_wanted [] = a_value
 first_wanted (w ∷ ws) = w
 
-abbrev other_wanted : List Wanted → List Wanted
+abbrev other_wanted : List Expected → List Expected
 other_wanted [] = []
 other_wanted (w ∷ ws) = ws
 
-list-split : (p : Place) (ws : List Wanted) (e : Tree) (es : Trees) → list_faults p ws (tree_and e es) ≡ faults p (first_wanted ws) e ++ list_faults p (other_wanted ws) es
+list-split : (p : Context) (ws : List Expected) (e : Tree) (es : Trees) → list_faults p ws (tree_and e es) ≡ faults p (first_wanted ws) e ++ list_faults p (other_wanted ws) es
 list-split p [] e es = refl
 list-split p (w ∷ ws) e es = refl
 

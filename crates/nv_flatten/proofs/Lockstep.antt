@@ -13,24 +13,24 @@ use Rattle.nv_base.proofs.Same.{same_seen}
 use Rattle.nv_ast.specs.Tree.{FunTree, ProgramTree}
 use Rattle.nv_ast.specs.Types.{Ty, Tys, type_of, named_types_of, words, total_words, total_named_words, some_named_bool}
 use Rattle.nv_ast.specs.Sizes.{main_words}
-use Rattle.nv_ast.specs.Scope.{Known, Place, plain_tys, param_vars, signature}
+use Rattle.nv_ast.specs.Scope.{Known, Context, plain_tys, param_vars, signature}
 use Rattle.nv_ast.specs.Typing.{type_at}
-use Rattle.nv_ast.specs.Faults.{Wanted, same_as, named_types_faults, type_faults, type_names, variable_twice, wide_main, program_faults, main_name}
+use Rattle.nv_ast.specs.Faults.{Expected, same_as, named_types_faults, type_faults, type_names, variable_twice, wide_main, program_faults, main_name}
 use Rattle.nv_meaning.specs.Values.{Values, values_from, words_of, all_words}
-use Rattle.nv_meaning.specs.Running.{Running, Result, Gives, Raises, Stops, taken, closed}
+use Rattle.nv_meaning.specs.Running.{Running, Result, Gives, Raises, Halts, taken, closed}
 use Rattle.nv_meaning.specs.Meaning.{Calls, eval, enter, entered, calls_within, function_in, run_main, source}
 use Rattle.flat_ir.specs.declared.flat.FlatFun.{FlatFun}
 use Rattle.flat_ir.specs.Running as flat
 use Rattle.flat_ir.specs.Meaning as code
-use Rattle.flat_code.specs.inner.Symbols.{values_in, AllFit, all_fresh, numbers_from, scope_in}
-use Rattle.flat_code.specs.inner.Runs.{flat_run, ended}
-use Rattle.flat_code.specs.inner.Whole.{Whole, whole_of, raised_tys}
-use Rattle.flat_code.specs.inner.Soundness.{AreWords, value_ty, value_tys, ComesTo, CallsTyped}
-use Rattle.flat_code.specs.inner.Simulation.{Names, CallsAgree}
-use Rattle.flat_code.specs.inner.Made.{params_in, entry, IsMade, AllMade, IsComplete}
+use Rattle.flat_values.specs.inner.Symbols.{values_in, AllFit, all_fresh, numbers_from, scope_in}
+use Rattle.flat_values.specs.inner.Runs.{flat_run, ended}
+use Rattle.flat_values.specs.inner.Whole.{Whole, whole_of, raised_tys}
+use Rattle.flat_values.specs.inner.Soundness.{AreWords, value_ty, value_tys, ComesTo, CallsTyped}
+use Rattle.flat_values.specs.inner.Simulation.{Names, CallsAgree}
+use Rattle.flat_values.specs.inner.Made.{params_in, entry, IsMade, AllMade, IsComplete}
 use Rattle.flat_ir.specs.Reached as flattened
-use Rattle.flat_code.proofs.Fresh.{fresh-values, all-fresh-fit, numbers-length}
-use Rattle.flat_code.proofs.Sound.{typed-eval}
+use Rattle.flat_values.proofs.Fresh.{fresh-values, all-fresh-fit, numbers-length}
+use Rattle.flat_values.proofs.Sound.{typed-eval}
 use Rattle.nv_flatten.proofs.Knowing.{function-named}
 use Rattle.nv_flatten.proofs.Bodies.{IsBody, bodies, narrow-raised, has-main}
 use Rattle.nv_flatten.proofs.Entering.{type-same, word-count, all-word-count, entered-types, entered-words, params-values, params-types, params-fit, params-older, arguments-scope, from-types, all-from-words}
@@ -43,13 +43,13 @@ use Rattle.nv_ast.proofs.TypeWords.{plain_words, plain_bool}
 retyped : (w : Whole) (o : Option Ty) (want : Ty) (r : Result) → ((t : Ty) → o ≡ Some t → t ≡ want) → ComesTo w o r → ComesTo w (Some want) r
 retyped w o want (Gives v now) h c = (ap (λ t. Some t) (sym (h (value_ty v) c.0)), c.1, c.2)
 retyped w o want (Raises k vs now) h c = c
-retyped w o want (Stops how now) h c = c
+retyped w o want (Halts how now) h c = c
 
 -- ---- a function's body
-abbrev pub body_place : Known → FunTree → Place
+abbrev pub body_place : Known → FunTree → Context
 body_place k g = record { known = k; vars = param_vars (named_types_of k.layouts g.params) []; tail = true }
 
-abbrev pub body_wanted : Known → FunTree → Wanted
+abbrev pub body_wanted : Known → FunTree → Expected
 body_wanted k g = same_as (Some (type_of k.layouts g.result))
 
 body-typed : (w : Whole) (f : List ℕ) (g : FunTree) → IsBody w f g → (call : Calls) → CallsTyped w call → (vs : Values) (now : Running) → value_tys vs ≡ plain_tys (params_in w g) → AreWords (all_words vs) → HasSizes now.packet
@@ -148,7 +148,7 @@ closed-same w t few narrow (Raises k vs now) c =
     let count : length (all_words vs) ≡ total_words (value_tys vs) = all-word-count vs in
     let most : total_words (value_tys vs) ≤ 8 = narrow k (value_tys vs) c.0 in
     ap (λ ws. record { outcome = outcome.Raised k ws; packet = now.packet; writes = now.writes }) (take_all 8 (all_words vs) (omega arith))
-closed-same w t few narrow (Stops how now) c = refl
+closed-same w t few narrow (Halts how now) c = refl
 
 -- main's parameters and result
 pub record IsNarrow (w : Whole) (g : FunTree) : Type 0 where

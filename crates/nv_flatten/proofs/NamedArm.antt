@@ -6,21 +6,21 @@ use Rattle.nv_ast.specs.Tree.{Tree}
 use Rattle.nv_ast.specs.Types.{Ty, words}
 use Rattle.nv_ast.specs.Typing.{type_at}
 use Rattle.nv_meaning.specs.Values.{Value, words_of}
-use Rattle.nv_meaning.specs.Running.{Running, Result, Gives, Raises, Stops}
+use Rattle.nv_meaning.specs.Running.{Running, Result, Gives, Raises, Halts}
 use Rattle.nv_meaning.specs.Meaning.{eval}
 use Rattle.flat_ir.specs.Running as flat
 use Rattle.flat_ir.specs.Spine.{Act}
 use Rattle.flat_ir.specs.declared.flat.Flat.{Flat}
 use Rattle.flat_ir.specs.declared.spine.Step.TheVariants.{Bind}
-use Rattle.flat_code.specs.inner.Code.{form_or_unit}
-use Rattle.flat_code.specs.inner.Symbols.{Symbol, SymbolScope, form, value_in, scope_in, Fits, fresh, numbers_from}
-use Rattle.flat_code.specs.inner.Runs.{flat_run, onward, ended}
-use Rattle.flat_code.specs.inner.Soundness.{ComesTo, AreWords, value_ty}
-use Rattle.flat_code.specs.inner.Whole.{Whole}
-use Rattle.flat_code.specs.inner.Simulation.{Names, Done, IsValue, IsEnd}
-use Rattle.flat_code.proofs.Keeping.{keeps-earlier, types-of-scope, scope-words}
-use Rattle.flat_code.proofs.Fresh.{fresh-form, fresh-older, numbers-keep, fresh-value, fresh-fits}
-use Rattle.flat_code.proofs.Sound.{typed-eval}
+use Rattle.flat_values.specs.inner.Code.{form_or_unit}
+use Rattle.flat_values.specs.inner.Symbols.{Symbol, SymbolScope, form, value_in, scope_in, Fits, fresh, numbers_from}
+use Rattle.flat_values.specs.inner.Runs.{flat_run, onward, ended}
+use Rattle.flat_values.specs.inner.Soundness.{ComesTo, AreWords, value_ty}
+use Rattle.flat_values.specs.inner.Whole.{Whole}
+use Rattle.flat_values.specs.inner.Simulation.{Names, Done, IsValue, IsEnd}
+use Rattle.flat_values.proofs.Keeping.{keeps-earlier, types-of-scope, scope-words}
+use Rattle.flat_values.proofs.Fresh.{fresh-form, fresh-older, numbers-keep, fresh-value, fresh-fits}
+use Rattle.flat_values.proofs.Sound.{typed-eval}
 
 -- what follows the words of a result of some type
 named-run : (w : Whole) (t : Option Ty) (r : Result) → ComesTo w t r → (k : List ℕ → flat.Running → flat.Result) (next : Value → Running → flat.Result)
@@ -28,7 +28,7 @@ named-run : (w : Whole) (t : Option Ty) (r : Result) → ComesTo w t r → (k : 
     → flat.and_then (ended r) k ≡ onward r next
 named-run w t (Gives v now) c k next h = h v now c.0 c.1 c.2
 named-run w t (Raises j vs now) c k next h = refl
-named-run w t (Stops how now) c k next h = refl
+named-run w t (Halts how now) c k next h = refl
 
 -- new variables with a value's words stand for it
 named-step : (low mid : ℕ) (env : Env) (rest : Act) (next : Value → Running → flat.Result) (v : Value) (last : Running) → low ≤ mid → AreWords (words_of v) → HasSizes last.packet

@@ -6,9 +6,9 @@ use Rattle.nv_ast.specs.Tree.{NamedLayout, Tree, CallTree, UnpackTree, PackTree,
 use Rattle.nv_ast.specs.Tests.{look_up, value_at}
 use Rattle.nv_ast.specs.Outline.{OutlineTree, outline}
 use Rattle.nv_ast.specs.Types.{Ty, packed_ty, unpacked_ty, TupleTy, Tys, no_tys, words, total_words, words_of_value, type_of}
-use Rattle.nv_ast.specs.Scope.{Signature, Place, inside, with_vars, callable, bind_all, bind_raised, names_in_all}
+use Rattle.nv_ast.specs.Scope.{Signature, Context, inside, with_vars, callable, bind_all, bind_raised, names_in_all}
 use Rattle.nv_ast.specs.Typing.{type_at}
-use Rattle.nv_ast.specs.Faults.{Fault, Wanted, anything, same_as, at_span, faults, list_faults, node_faults, wanted_arguments, params_of, raised_kinds, unknown_function, not_in_tail, wrong_number, variable_twice, wrong_number_of_patterns, not_all_fitting, unknown_exception, wanted_packed, wanted_unpacked}
+use Rattle.nv_ast.specs.Faults.{Fault, Expected, anything, same_as, at_span, faults, list_faults, node_faults, expected_arguments, params_of, raised_kinds, unknown_function, not_in_tail, wrong_number, variable_twice, wrong_number_of_patterns, not_all_fitting, unknown_exception, expected_packed, expected_unpacked}
 use Rattle.nv_ast.specs.Sizes.{words_at, words_all, raised_words, handler_vars, need, need_all, variables, variables_all}
 use Rattle.nv_meaning.specs.Running.{exception_number}
 use Rattle.nv_meaning.specs.Meaning.{function_in}
@@ -18,26 +18,26 @@ use Rattle.flat_ir.specs.declared.flat.FlatFun.{FlatFun}
 use Rattle.flat_ir.specs.declared.spine.Step.{Step}
 use Rattle.flat_ir.specs.Spine.{AreNodes}
 use Rattle.nv_base.specs.Sets.{all_vars}
-use Rattle.flat_code.specs.inner.Symbols.{Symbol, Symbols, SymbolScope, form, operands, all_operands, all_fresh, numbers_from, vars_of, all_bound}
-use Rattle.flat_code.specs.inner.Whole.{Whole, Stands, raised_or_none}
-use Rattle.flat_code.specs.inner.Simulation.{Names, HasForm, AreValues}
-use Rattle.flat_code.specs.inner.Narrow.{IsWithin, written, NarrowSteps, NarrowCode, AreNarrowLets, Room, IsNarrowValue, AreNarrowValues, IsNarrowEnd}
-use Rattle.flat_code.proofs.Fresh.{fresh-forms, fresh-operands, all-bound-types, numbers-length}
-use Rattle.flat_code.proofs.Sound.{arguments-are-values}
+use Rattle.flat_values.specs.inner.Symbols.{Symbol, Symbols, SymbolScope, form, operands, all_operands, all_fresh, numbers_from, vars_of, all_bound}
+use Rattle.flat_values.specs.inner.Whole.{Whole, Stands, raised_or_none}
+use Rattle.flat_values.specs.inner.Simulation.{Names, HasForm, AreValues}
+use Rattle.flat_values.specs.inner.Narrow.{IsWithin, written, NarrowSteps, NarrowCode, AreNarrowLets, Room, IsNarrowValue, AreNarrowValues, IsNarrowEnd}
+use Rattle.flat_values.proofs.Fresh.{fresh-forms, fresh-operands, all-bound-types, numbers-length}
+use Rattle.flat_values.proofs.Sound.{arguments-are-values}
 use Rattle.nv_flatten.proofs.WellTypes.{some-where, low-of}
-use Rattle.flat_code.proofs.Within.{itself, of-none, into-left, into-right, through, behind-same, grows-not}
-use Rattle.flat_code.proofs.NarrowSteps.{last, handled, recast, follow, joined, recast-code, raise-code, call-code, CallAtMost, try-code}
-use Rattle.flat_code.proofs.NarrowFacts.{written-append, counted, counted-given, vars-of-variables, need-least}
+use Rattle.flat_values.proofs.Within.{itself, of-none, into-left, into-right, through, behind-same, grows-not}
+use Rattle.flat_values.proofs.NarrowSteps.{last, handled, recast, follow, joined, recast-code, raise-code, call-code, CallAtMost, try-code}
+use Rattle.flat_values.proofs.NarrowFacts.{written-append, counted, counted-given, vars-of-variables, need-least}
 use Rattle.nv_flatten.proofs.Bound.{written-all-bound}
 use Rattle.nv_flatten.proofs.NarrowValues.{roomier}
 use Rattle.nv_flatten.proofs.NarrowEnds.{arguments-counted}
-use Rattle.flat_code.proofs.CallArms.{get-append}
-use Rattle.flat_code.proofs.Following.{stands-inside}
+use Rattle.flat_values.proofs.CallArms.{get-append}
+use Rattle.flat_values.proofs.Following.{stands-inside}
 use Rattle.nv_ast.proofs.Faultless.{no_front, no_rest, no_kinds}
 
 module _ (w : Whole) (names others : Names) (low high : ℕ) (scope : SymbolScope) (sp : Span) (es : Trees) (ss : List Step) (us : Symbols) where
   -- arguments, and then code that takes their words
-  arguments-code : (c : Room w names) (p : Place) (o : Option Tys) (t code : Flat) (all : ℕ) → AreNarrowValues w names scope es ss us → Stands w c.own scope p → list_faults (inside p) (wanted_arguments o es) es ≡ []
+  arguments-code : (c : Room w names) (p : Context) (o : Option Tys) (t code : Flat) (all : ℕ) → AreNarrowValues w names scope es ss us → Stands w c.own scope p → list_faults (inside p) (expected_arguments o es) es ≡ []
       → words_all p.known p.vars es + need_all c.needs p.known p.vars es ≤ all → NarrowCode c.funs c.widths c.own t (all_vars (last t)) [] all → last t ≡ all_operands us → AreNodes ss t code
       → NarrowCode c.funs c.widths c.own code (written scope (variables_all es)) (written scope (variables_all es)) all
   arguments-code c p o t code all v stands none le d same nodes =
@@ -45,7 +45,7 @@ module _ (w : Whole) (names others : Names) (low high : ℕ) (scope : SymbolScop
       let u0 = all_vars (all_operands us) in
       joined c.funs c.widths c.own ss t code v0 v0 u0 all
       (roomier c.funs c.widths c.own ss v0 v0 u0 (words_all p.known p.vars es + need_all c.needs p.known p.vars es) all
-      (v.by c (inside p) (wanted_arguments o es) (arguments-are-values o es) (stands-inside w c.own scope p stands) none) le)
+      (v.by c (inside p) (expected_arguments o es) (arguments-are-values o es) (stands-inside w c.own scope p stands) none) le)
       (recast-code c.funs c.widths c.own t (all_vars (last t)) [] u0 v0 0 all all d (subst (λ l. IsWithin (all_vars (last t)) (all_vars l)) same itself) (grows-not v0 [] (of-none v0)) (omega arith)) nodes
 
   pub raise-narrow : (x : List ℕ) (k : ℕ) (bs : _) (code : Flat) → AreValues w others low high scope es ss us → AreNarrowValues w names scope es ss us → last (Raise k bs) ≡ all_operands us → AreNodes ss (Raise k bs) code
@@ -53,8 +53,8 @@ module _ (w : Whole) (names others : Names) (low high : ℕ) (scope : SymbolScop
   raise-narrow x k bs code f v same nodes = record {
     by = λ c p wanted stands none.
         let o = look_up x p.known.exceptions in
-        let first = no_front (list_faults (inside p) (wanted_arguments o es) es) (node_faults p wanted (RaiseTree sp x es)) none in
-        let many : length bs.items ≡ words_all p.known p.vars es = ap length same ∙ arguments-counted w others low high scope es ss us f c.own (inside p) (wanted_arguments o es) (arguments-are-values o es) (stands-inside w c.own scope p stands) first in
+        let first = no_front (list_faults (inside p) (expected_arguments o es) es) (node_faults p wanted (RaiseTree sp x es)) none in
+        let many : length bs.items ≡ words_all p.known p.vars es = ap length same ∙ arguments-counted w others low high scope es ss us f c.own (inside p) (expected_arguments o es) (arguments-are-values o es) (stands-inside w c.own scope p stands) first in
         let all = need c.needs p.known p.vars (RaiseTree sp x es) in
         arguments-code c p o (Raise k bs) code all v stands first (omega arith) (raise-code c.funs c.widths c.own k bs all (omega arith)) same nodes;
   }
@@ -74,8 +74,8 @@ module _ (w : Whole) (names others : Names) (low high : ℕ) (scope : SymbolScop
   call-narrow f i bs code t v named same nodes = record {
     by = λ c p wanted stands none.
         let o = params_of p.known f in
-        let first = no_front (list_faults (inside p) (wanted_arguments o es) es) (node_faults p wanted (CallTree sp f es)) none in
-        let many : length bs.items ≡ words_all p.known p.vars es = ap length same ∙ arguments-counted w others low high scope es ss us t c.own (inside p) (wanted_arguments o es) (arguments-are-values o es) (stands-inside w c.own scope p stands) first in
+        let first = no_front (list_faults (inside p) (expected_arguments o es) es) (node_faults p wanted (CallTree sp f es)) none in
+        let many : length bs.items ≡ words_all p.known p.vars es = ap length same ∙ arguments-counted w others low high scope es ss us t c.own (inside p) (expected_arguments o es) (arguments-are-values o es) (stands-inside w c.own scope p stands) first in
         let all = need c.needs p.known p.vars (CallTree sp f es) in
         let known = some-where (look_up f (callable p.known)) 11 (no_front (unknown_function p.known f) (not_in_tail p f ++ wrong_number o es) (low-of p wanted (CallTree sp f es) none)) in
         let callable' = stands.part.functions f known.0 known.1 in
@@ -87,22 +87,22 @@ module _ (w : Whole) (names others : Names) (low high : ℕ) (scope : SymbolScop
 
 -- ---- a body with a handler
 module _ (w : Whole) (names : Names) (scope : SymbolScope) (sp : Span) (a : Tree) (x : List ℕ) (ps : PatternTrees) (h : Tree) where
-  abbrev pub around : Place → List Fault
+  abbrev pub around : Context → List Fault
   around p = at_span sp (raised_kinds p.known x ps)
 
-  abbrev pub behind : Place → Place
+  abbrev pub behind : Context → Context
   behind p = with_vars (bind_raised ps (look_up x p.known.exceptions) p.vars) p
 
-  abbrev pub handler_faults : Place → List Fault
+  abbrev pub handler_faults : Context → List Fault
   handler_faults p = faults (behind p) (same_as (type_at p.known p.vars a)) h
 
-  rest-none : (p : Place) (wanted : Wanted) → faults p wanted (TryTree sp a x ps h) ≡ [] → around p ++ (handler_faults p ++ node_faults p wanted (TryTree sp a x ps h)) ≡ []
+  rest-none : (p : Context) (wanted : Expected) → faults p wanted (TryTree sp a x ps h) ≡ [] → around p ++ (handler_faults p ++ node_faults p wanted (TryTree sp a x ps h)) ≡ []
   rest-none p wanted none = no_rest (faults (inside p) anything a) (around p ++ (handler_faults p ++ node_faults p wanted (TryTree sp a x ps h))) none
 
-  pub handler-none : (p : Place) (wanted : Wanted) → faults p wanted (TryTree sp a x ps h) ≡ [] → handler_faults p ≡ []
+  pub handler-none : (p : Context) (wanted : Expected) → faults p wanted (TryTree sp a x ps h) ≡ [] → handler_faults p ≡ []
   handler-none p wanted none = no_front (handler_faults p) (node_faults p wanted (TryTree sp a x ps h)) (no_rest (around p) (handler_faults p ++ node_faults p wanted (TryTree sp a x ps h)) (rest-none p wanted none))
 
-  pub unknown-none : (p : Place) (wanted : Wanted) → faults p wanted (TryTree sp a x ps h) ≡ [] → unknown_exception p.known x ≡ []
+  pub unknown-none : (p : Context) (wanted : Expected) → faults p wanted (TryTree sp a x ps h) ≡ [] → unknown_exception p.known x ≡ []
   unknown-none p wanted none =
       let o = look_up x p.known.exceptions in
       no_rest (not_all_fitting ps o) (unknown_exception p.known x)
@@ -159,7 +159,7 @@ pack-form w scope sp l a r e = record { by = λ own p wanted stands none t is. e
 
 module _ (w : Whole) (names : Names) (scope : SymbolScope) (sp : Span) (l : List ℕ) (a : Tree) (ss ts : List Step) (s r : Symbol) where
   -- the steps of the operand, and then steps that compute the words of the whole
-  bits-steps : (c : Room w names) (p : Place) (all : ℕ) → NarrowSteps c.funs c.widths c.own ss (written scope (variables a)) (written scope (variables a)) (all_vars (operands s)) (need c.needs p.known p.vars a) → AreNarrowLets (operands s) ts (operands r)
+  bits-steps : (c : Room w names) (p : Context) (all : ℕ) → NarrowSteps c.funs c.widths c.own ss (written scope (variables a)) (written scope (variables a)) (all_vars (operands s)) (need c.needs p.known p.vars a) → AreNarrowLets (operands s) ts (operands r)
       → need c.needs p.known p.vars a ≤ all → length (operands s) + (length (operands r) + 4) ≤ all → NarrowSteps c.funs c.widths c.own (ss ++ ts) (written scope (variables a)) (written scope (variables a)) (all_vars (operands r)) all
   bits-steps c p all v t p1 p2 =
       let v0 = written scope (variables a) in
@@ -170,7 +170,7 @@ module _ (w : Whole) (names : Names) (scope : SymbolScope) (sp : Span) (l : List
   pub unpack-narrow : HasForm w scope a s → HasForm w scope (UnpackTree sp l a) r → IsNarrowValue w names scope a ss s → AreNarrowLets (operands s) ts (operands r) → IsNarrowValue w names scope (UnpackTree sp l a) (ss ++ ts) r
   unpack-narrow f g v t = record {
     by = λ c p wanted stands none.
-        let right = wanted_packed (look_up l p.known.layouts) in
+        let right = expected_packed (look_up l p.known.layouts) in
         let first = no_front (faults (inside p) right a) (node_faults p wanted (UnpackTree sp l a)) none in
         let stands' = stands-inside w c.own scope p stands in
         let least : 2 + words_at p.known p.vars a ≤ need c.needs p.known p.vars a = need-least c.needs p.known p.vars a in
@@ -179,14 +179,14 @@ module _ (w : Whole) (names : Names) (scope : SymbolScope) (sp : Span) (l : List
         bits-steps c p (need c.needs p.known p.vars (UnpackTree sp l a)) (v.by c (inside p) right stands' first) t (omega arith) (omega arith);
   }
     where
-      packed-value : (o : Option _) → (wanted_packed o).value ≡ true
+      packed-value : (o : Option _) → (expected_packed o).value ≡ true
       packed-value None = refl
       packed-value (Some o) = refl
 
   pub pack-narrow : HasForm w scope a s → HasForm w scope (PackTree sp l a) r → IsNarrowValue w names scope a ss s → AreNarrowLets (operands s) ts (operands r) → IsNarrowValue w names scope (PackTree sp l a) (ss ++ ts) r
   pack-narrow f g v t = record {
     by = λ c p wanted stands none.
-        let right = wanted_unpacked (look_up l p.known.layouts) in
+        let right = expected_unpacked (look_up l p.known.layouts) in
         let first = no_front (faults (inside p) right a) (node_faults p wanted (PackTree sp l a)) none in
         let stands' = stands-inside w c.own scope p stands in
         let least : 2 + words_at p.known p.vars a ≤ need c.needs p.known p.vars a = need-least c.needs p.known p.vars a in
@@ -195,6 +195,6 @@ module _ (w : Whole) (names : Names) (scope : SymbolScope) (sp : Span) (l : List
         bits-steps c p (need c.needs p.known p.vars (PackTree sp l a)) (v.by c (inside p) right stands' first) t (omega arith) (omega arith);
   }
     where
-      unpacked-value : (o : Option _) → (wanted_unpacked o).value ≡ true
+      unpacked-value : (o : Option _) → (expected_unpacked o).value ≡ true
       unpacked-value None = refl
       unpacked-value (Some o) = refl

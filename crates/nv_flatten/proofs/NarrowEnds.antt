@@ -11,9 +11,9 @@ use Rattle.nv_ast.specs.declared.token.Span.{Span}
 use Rattle.nv_ast.specs.declared.tree.Op.{Op}
 use Rattle.nv_ast.specs.Tree.{Tree, NumberTree, TruthTree, VarTree, ParenTree, TupleTree, FieldsTree, DotTree, InvertTree, NegateTree, BinaryTree, ShiftTree, CallTree, UnpackTree, PackTree, RaiseTree, IfTree, TryTree, FetchTree, BlockTree, Trees, no_trees, tree_and}
 use Rattle.nv_ast.specs.Types.{Ty, BoolTy, Tys, no_tys, ty_and, words, total_words, words_of_value}
-use Rattle.nv_ast.specs.Scope.{Known, Vars, Place, inside}
+use Rattle.nv_ast.specs.Scope.{Known, Vars, Context, inside}
 use Rattle.nv_ast.specs.Typing.{type_at, types_at, and_ty, operand_ty, result_ty}
-use Rattle.nv_ast.specs.Faults.{Wanted, anything, a_value, of_type, same_as, faults, list_faults, node_faults}
+use Rattle.nv_ast.specs.Faults.{Expected, anything, a_value, of_type, same_as, faults, list_faults, node_faults}
 use Rattle.nv_ast.specs.Sizes.{words_at, words_all, need, variables}
 use Rattle.flat_ir.specs.declared.flat.Flat.{Flat}
 use Rattle.flat_ir.specs.declared.flat.Flat.TheVariants.{If', Give}
@@ -22,18 +22,18 @@ use Rattle.flat_ir.specs.declared.spine.Step.{Step}
 use Rattle.flat_ir.specs.Spine.{AreNodes}
 use Rattle.nv_base.specs.Sets.{all_vars}
 use Rattle.flat_ir.specs.Wide.{Widths}
-use Rattle.flat_code.specs.inner.Code.{is_given, is_comparison}
-use Rattle.flat_code.specs.inner.Symbols.{Symbol, Symbols, SymbolScope, operands, all_operands, truth_operand}
-use Rattle.flat_code.specs.inner.Whole.{Whole, Stands}
-use Rattle.flat_code.specs.inner.Simulation.{Names, HasForm, AreValues}
-use Rattle.flat_code.specs.inner.Narrow.{IsWithin, written, NarrowSteps, NarrowCode, IsNarrowValue, IsNarrowTest, IsNarrowEnd}
-use Rattle.flat_code.specs.inner.Well.{GivesLiteral}
-use Rattle.flat_code.proofs.Sound.{values-have-types}
-use Rattle.flat_code.proofs.Within.{itself, of-none, one, both, unions, together, behind-same, grows-not}
-use Rattle.flat_code.proofs.NarrowSteps.{last, beside, joined, recast-code, give-code, if-code}
-use Rattle.flat_code.proofs.NarrowFacts.{written-append, counted-given, words-of-forms, truth-operand-within, need-least}
+use Rattle.flat_values.specs.inner.Code.{is_given, is_comparison}
+use Rattle.flat_values.specs.inner.Symbols.{Symbol, Symbols, SymbolScope, operands, all_operands, truth_operand}
+use Rattle.flat_values.specs.inner.Whole.{Whole, Stands}
+use Rattle.flat_values.specs.inner.Simulation.{Names, HasForm, AreValues}
+use Rattle.flat_values.specs.inner.Narrow.{IsWithin, written, NarrowSteps, NarrowCode, IsNarrowValue, IsNarrowTest, IsNarrowEnd}
+use Rattle.flat_values.specs.inner.Well.{GivesLiteral}
+use Rattle.flat_values.proofs.Sound.{values-have-types}
+use Rattle.flat_values.proofs.Within.{itself, of-none, one, both, unions, together, behind-same, grows-not}
+use Rattle.flat_values.proofs.NarrowSteps.{last, beside, joined, recast-code, give-code, if-code}
+use Rattle.flat_values.proofs.NarrowFacts.{written-append, counted-given, words-of-forms, truth-operand-within, need-least}
 use Rattle.nv_flatten.proofs.NarrowValues.{roomier, less-behind, operands-narrow, result-words}
-use Rattle.flat_code.proofs.Following.{stands-inside}
+use Rattle.flat_values.proofs.Following.{stands-inside}
 use Rattle.nv_ast.proofs.Faultless.{no_front, no_rest}
 
 module _ (funs : List FlatFun) (widths : Widths) (own : ℕ) where
@@ -79,7 +79,7 @@ words-of-types k vars no_trees ts e = empty ts e
 words-of-types k vars (tree_and x es) ts e = words-and (type_at k vars x) (types_at k vars es) ts (words_all k vars es) (λ u h. words-of-types k vars es u h) e
 
 -- the words of arguments are their operands
-pub arguments-counted : (w : Whole) (names : Names) (low high : ℕ) (scope : SymbolScope) (es : Trees) (ss : List Step) (us : Symbols) → AreValues w names low high scope es ss us → (own : ℕ) (p : Place) (wanted : List Wanted) → All (λ x. x.value ≡ true) wanted → Stands w own scope p → list_faults p wanted es ≡ []
+pub arguments-counted : (w : Whole) (names : Names) (low high : ℕ) (scope : SymbolScope) (es : Trees) (ss : List Step) (us : Symbols) → AreValues w names low high scope es ss us → (own : ℕ) (p : Context) (wanted : List Expected) → All (λ x. x.value ≡ true) wanted → Stands w own scope p → list_faults p wanted es ≡ []
     → length (all_operands us) ≡ words_all p.known p.vars es
 arguments-counted w names low high scope es ss us f own p wanted values stands none =
     let typed = values-have-types p wanted es values none in
@@ -176,10 +176,10 @@ module _ (w : Whole) (names : Names) (scope : SymbolScope) where
         back (grows-not v0 (v0 ++ ([] ++ [])) back) (omega arith);
   }
 
-  pub first-none : (p : Place) (wanted : Wanted) (sp : Span) (op : Op) (a b : Tree) → faults p wanted (BinaryTree sp op a b) ≡ [] → faults (inside p) (of_type (operand_ty op)) a ≡ []
+  pub first-none : (p : Context) (wanted : Expected) (sp : Span) (op : Op) (a b : Tree) → faults p wanted (BinaryTree sp op a b) ≡ [] → faults (inside p) (of_type (operand_ty op)) a ≡ []
   first-none p wanted sp op a b none = no_front (faults (inside p) (of_type (operand_ty op)) a) (faults (inside p) (of_type (operand_ty op)) b ++ node_faults p wanted (BinaryTree sp op a b)) none
 
-  pub second-none : (p : Place) (wanted : Wanted) (sp : Span) (op : Op) (a b : Tree) → faults p wanted (BinaryTree sp op a b) ≡ [] → faults (inside p) (of_type (operand_ty op)) b ≡ []
+  pub second-none : (p : Context) (wanted : Expected) (sp : Span) (op : Op) (a b : Tree) → faults p wanted (BinaryTree sp op a b) ≡ [] → faults (inside p) (of_type (operand_ty op)) b ≡ []
   second-none p wanted sp op a b none =
       no_front (faults (inside p) (of_type (operand_ty op)) b) (node_faults p wanted (BinaryTree sp op a b))
       (no_rest (faults (inside p) (of_type (operand_ty op)) a) (faults (inside p) (of_type (operand_ty op)) b ++ node_faults p wanted (BinaryTree sp op a b)) none)

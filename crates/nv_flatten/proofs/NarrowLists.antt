@@ -7,25 +7,25 @@ use Rattle.nv_base.specs.Words.{atom_vars}
 use Rattle.nv_ast.specs.declared.token.Span.{Span}
 use Rattle.nv_ast.specs.Tree.{Tree, BlockTree, Trees, no_trees, tree_and, NamedTrees, no_named_trees, named_tree_and, PatternTree, StatementTree, LetStatement, StoreStatement, StatementTrees, no_statements, statement_and}
 use Rattle.nv_ast.specs.Types.{WordTy, words_of_value}
-use Rattle.nv_ast.specs.Scope.{Place, inside, with_vars, names_in}
+use Rattle.nv_ast.specs.Scope.{Context, inside, with_vars, names_in}
 use Rattle.nv_ast.specs.Typing.{type_at, vars_after, vars_behind}
-use Rattle.nv_ast.specs.Faults.{Wanted, a_value, of_type, anything, wanted_stored, at_span, variable_twice, not_fitting, wrong_access, wrong_scratch, faults, list_faults, named_faults, statement_faults, statements_faults, node_faults}
+use Rattle.nv_ast.specs.Faults.{Expected, a_value, of_type, anything, expected_stored, at_span, variable_twice, not_fitting, wrong_access, wrong_scratch, faults, list_faults, named_faults, statement_faults, statements_faults, node_faults}
 use Rattle.nv_ast.specs.Sizes.{Lets, words_at, words_all, words_named, need, need_all, need_named, need_statement, need_statements, variables, variables_all, variables_named, variables_statement, variables_statements, let_of, lets_behind, pending}
 use Rattle.flat_ir.specs.declared.flat.Flat.{Flat}
 use Rattle.flat_ir.specs.declared.spine.Step.{Step}
 use Rattle.flat_ir.specs.declared.spine.Step.TheVariants.{Store}
 use Rattle.flat_ir.specs.Spine.{AreNodes}
 use Rattle.nv_base.specs.Sets.{all_vars}
-use Rattle.flat_code.specs.inner.Symbols.{Symbol, Symbols, NamedSymbols, no_symbols, symbol_and, no_named_symbols, named_symbol_and, SymbolScope, operands, all_operands, named_operands, word_operand, bound}
-use Rattle.flat_code.specs.inner.Whole.{Whole, Stands}
-use Rattle.flat_code.specs.inner.Simulation.{Names, Extends, HasForm, IsStated}
-use Rattle.flat_code.specs.inner.Narrow.{IsWithin, Grows, written, Pends, NarrowSteps, Room, IsNarrowValue, AreNarrowValues, AreNarrowFields, IsNarrowEnd, IsNarrowStatement, IsNarrowStated}
-use Rattle.flat_code.proofs.Within.{itself, of-none, both-same, grows-not, grows-more, grows-further, all-vars-append}
-use Rattle.flat_code.proofs.NarrowSteps.{no-steps, recast, beside, follow, store-step, stored, joined, recast-code}
-use Rattle.flat_code.proofs.NarrowFacts.{written-append, written-right, counted, vars-at-most, word-operand-within}
+use Rattle.flat_values.specs.inner.Symbols.{Symbol, Symbols, NamedSymbols, no_symbols, symbol_and, no_named_symbols, named_symbol_and, SymbolScope, operands, all_operands, named_operands, word_operand, bound}
+use Rattle.flat_values.specs.inner.Whole.{Whole, Stands}
+use Rattle.flat_values.specs.inner.Simulation.{Names, Extends, HasForm, IsStated}
+use Rattle.flat_values.specs.inner.Narrow.{IsWithin, AddsAtMost, written, Pends, NarrowSteps, Room, IsNarrowValue, AreNarrowValues, AreNarrowFields, IsNarrowEnd, IsNarrowStatement, IsNarrowStated}
+use Rattle.flat_values.proofs.Within.{itself, of-none, both-same, grows-not, grows-more, grows-further, all-vars-append}
+use Rattle.flat_values.proofs.NarrowSteps.{no-steps, recast, beside, follow, store-step, stored, joined, recast-code}
+use Rattle.flat_values.proofs.NarrowFacts.{written-append, written-right, counted, vars-at-most, word-operand-within}
 use Rattle.nv_flatten.proofs.Bound.{written-bound, bound-pends, same-pends, pends-further}
 use Rattle.nv_flatten.proofs.NarrowValues.{roomier, two-parts, fewer}
-use Rattle.flat_code.proofs.Following.{stands-inside}
+use Rattle.flat_values.proofs.Following.{stands-inside}
 use Rattle.nv_ast.proofs.Faultless.{no_front, no_rest}
 
 module _ (w : Whole) (names : Names) (scope : SymbolScope) where
@@ -37,7 +37,7 @@ module _ (w : Whole) (names : Names) (scope : SymbolScope) where
   fields-nil = record { by = λ c p stands none. no-steps c.funs c.widths c.own [] [] [] (words_named p.known p.vars no_named_trees + need_named c.needs p.known p.vars no_named_trees) itself }
 
   -- one more in front
-  front : (c : Room w names) (p : Place) (x : Wanted) (e : Tree) (xs : List (List ℕ)) (ss ts : List Step) (s : Symbol) (u : List Atom) (words m : ℕ) → x.value ≡ true → HasForm w scope e s → IsNarrowValue w names scope e ss s
+  front : (c : Room w names) (p : Context) (x : Expected) (e : Tree) (xs : List (List ℕ)) (ss ts : List Step) (s : Symbol) (u : List Atom) (words m : ℕ) → x.value ≡ true → HasForm w scope e s → IsNarrowValue w names scope e ss s
       → NarrowSteps c.funs c.widths c.own ts (written scope xs) (written scope xs) (all_vars u) (words + m) → Stands w c.own scope p → faults p x e ≡ []
       → NarrowSteps c.funs c.widths c.own (ss ++ ts) (written scope (variables e ++ xs)) (written scope (variables e ++ xs)) (all_vars (operands s ++ u)) ((words_at p.known p.vars e + words) + max (need c.needs p.known p.vars e) m)
   front c p x e xs ss ts s u words m value f v rest stands none =
@@ -48,14 +48,14 @@ module _ (w : Whole) (names : Names) (scope : SymbolScope) where
       (v.by c p x stands none) rest (vars-at-most s (words_at p.known p.vars e) many) (omega arith) (omega arith))
 
   cons-by : (e : Tree) (es : Trees) (ss ts : List Step) (s : Symbol) (us : Symbols) → HasForm w scope e s → IsNarrowValue w names scope e ss s → AreNarrowValues w names scope es ts us
-      → (c : Room w names) (p : Place) (wanted : List Wanted) → All (λ x. x.value ≡ true) wanted → Stands w c.own scope p → list_faults p wanted (tree_and e es) ≡ []
+      → (c : Room w names) (p : Context) (wanted : List Expected) → All (λ x. x.value ≡ true) wanted → Stands w c.own scope p → list_faults p wanted (tree_and e es) ≡ []
       → NarrowSteps c.funs c.widths c.own (ss ++ ts) (written scope (variables e ++ variables_all es)) (written scope (variables e ++ variables_all es)) (all_vars (operands s ++ all_operands us)) (words_all p.known p.vars (tree_and e es) + need_all c.needs p.known p.vars (tree_and e es))
   cons-by e es ss ts s us f v rest c p [] values stands none =
       front c p a_value e (variables_all es) ss ts s (all_operands us) (words_all p.known p.vars es) (need_all c.needs p.known p.vars es) refl f v
       (rest.by c p [] values stands (no_rest (faults p a_value e) (list_faults p [] es) none)) stands (no_front (faults p a_value e) (list_faults p [] es) none)
   cons-by e es ss ts s us f v rest c p (x ∷ xs) values stands none =
-      front c p x e (variables_all es) ss ts s (all_operands us) (words_all p.known p.vars es) (need_all c.needs p.known p.vars es) (All-head (λ (y : Wanted). y.value ≡ true) x xs values) f v
-      (rest.by c p xs (All-tail (λ (y : Wanted). y.value ≡ true) x xs values) stands (no_rest (faults p x e) (list_faults p xs es) none)) stands (no_front (faults p x e) (list_faults p xs es) none)
+      front c p x e (variables_all es) ss ts s (all_operands us) (words_all p.known p.vars es) (need_all c.needs p.known p.vars es) (All-head (λ (y : Expected). y.value ≡ true) x xs values) f v
+      (rest.by c p xs (All-tail (λ (y : Expected). y.value ≡ true) x xs values) stands (no_rest (faults p x e) (list_faults p xs es) none)) stands (no_front (faults p x e) (list_faults p xs es) none)
 
   pub values-cons : (e : Tree) (es : Trees) (ss ts : List Step) (s : Symbol) (us : Symbols) → HasForm w scope e s → IsNarrowValue w names scope e ss s → AreNarrowValues w names scope es ts us
       → AreNarrowValues w names scope (tree_and e es) (ss ++ ts) (symbol_and s us)
@@ -71,7 +71,7 @@ module _ (w : Whole) (names : Names) (scope : SymbolScope) where
 
   -- ---- statements
 
-  -- what is wanted behind a statement is kept beside it, and counted from outside the block
+  -- what is wanted after a statement is kept beside it, and counted from outside the block
   behind-lets : (c : Room w names) (outer inner : SymbolScope) (lets : Lets) (xs tail : List (List ℕ)) (ss : List Step) (u : List ℕ) (m : ℕ) → Pends outer scope lets
       → NarrowSteps c.funs c.widths c.own ss (written scope xs) (written scope xs) u m → IsWithin (written inner tail) (u ++ written scope tail)
       → NarrowSteps c.funs c.widths c.own ss (written scope (xs ++ tail)) (written outer (xs ++ tail)) (written inner tail) (pending lets (xs ++ tail) + m)
@@ -81,7 +81,7 @@ module _ (w : Whole) (names : Names) (scope : SymbolScope) where
       let same : written scope (xs ++ tail) ≡ here = written-append scope xs tail in
       recast c.funs c.widths c.own ss here here (u ++ f) (written scope (xs ++ tail)) (written outer (xs ++ tail)) (written inner tail) (pending lets (xs ++ tail)) m (pending lets (xs ++ tail) + m)
       (beside c.funs c.widths c.own f ss (written scope xs) (written scope xs) u m v) (subst (IsWithin here) (sym same) itself)
-      (subst (λ l. Grows (written outer (xs ++ tail)) l (pending lets (xs ++ tail))) same (pends.by (xs ++ tail))) back (omega arith)
+      (subst (λ l. AddsAtMost (written outer (xs ++ tail)) l (pending lets (xs ++ tail))) same (pends.by (xs ++ tail))) back (omega arith)
 
   pub let-narrow : (sp : Span) (q : PatternTree) (e : Tree) (ss : List Step) (s : Symbol) → HasForm w scope e s → IsNarrowValue w names scope e ss s → IsNarrowStatement w names scope (LetStatement sp q e) ss (bound q s scope)
   let-narrow sp q e ss s f v = record {
@@ -93,7 +93,7 @@ module _ (w : Whole) (names : Names) (scope : SymbolScope) where
         (behind-lets c outer (bound q s scope) lets (variables e) tail ss (all_vars (operands s)) n pends (v.by c p a_value stands (expression-none p none)) (written-bound q s scope tail)) (omega arith);
   }
     where
-      expression-none : (p : Place) → statement_faults p (LetStatement sp q e) ≡ [] → faults p a_value e ≡ []
+      expression-none : (p : Context) → statement_faults p (LetStatement sp q e) ≡ [] → faults p a_value e ≡ []
       expression-none p none = no_front (faults p a_value e) (at_span sp (variable_twice (names_in q) ++ not_fitting q (type_at p.known p.vars e))) none
 
   pub store-narrow : (sp : Span) (m : _) (a e : Tree) (ss ts : List Step) (s u : Symbol) (bs : _) → HasForm w scope a s → HasForm w scope e u → IsNarrowValue w names scope a ss s → IsNarrowValue w names scope e ts u
@@ -103,21 +103,21 @@ module _ (w : Whole) (names : Names) (scope : SymbolScope) where
     by = λ c p stands none outer lets pends tail.
         let n = words_of_value (type_at p.known p.vars e) in
         let last = at_span sp (wrong_access m n ++ wrong_scratch m a n) in
-        let first = no_front (faults p (of_type WordTy) a) (faults p wanted_stored e ++ last) none in
-        let second = no_front (faults p wanted_stored e) last (no_rest (faults p (of_type WordTy) a) (faults p wanted_stored e ++ last) none) in
+        let first = no_front (faults p (of_type WordTy) a) (faults p expected_stored e ++ last) none in
+        let second = no_front (faults p expected_stored e) last (no_rest (faults p (of_type WordTy) a) (faults p expected_stored e ++ last) none) in
         let wa = words_at p.known p.vars a in
         let we = words_at p.known p.vars e in
         let na = need c.needs p.known p.vars a in
         let ne = need c.needs p.known p.vars e in
         let many : length (operands s) ≡ wa = counted w scope a s f c.own p (of_type WordTy) stands first refl in
-        let others : length bs.items ≡ we = ap length same ∙ counted w scope e u g c.own p wanted_stored stands second refl in
+        let others : length bs.items ≡ we = ap length same ∙ counted w scope e u g c.own p expected_stored stands second refl in
         let v0 = written scope (variables a ++ variables e) in
         let s0 = all_vars (operands s) in
         let u0 = all_vars (operands u) in
         let all = 2 + ((wa + we) + max na ne) in
         behind-lets c outer scope lets (variables a ++ variables e) tail ((ss ++ ts) ++ Store m (word_operand s) bs ∷ []) [] all pends
         (follow c.funs c.widths c.own (ss ++ ts) (Store m (word_operand s) bs ∷ []) v0 v0 (s0 ++ u0) [] all
-        (two-parts c.funs c.widths c.own scope ss ts (variables a) (variables e) s0 u0 na ne wa all (v.by c p (of_type WordTy) stands first) (t.by c p wanted_stored stands second) (vars-at-most s wa many) (omega arith) (omega arith))
+        (two-parts c.funs c.widths c.own scope ss ts (variables a) (variables e) s0 u0 na ne wa all (v.by c p (of_type WordTy) stands first) (t.by c p expected_stored stands second) (vars-at-most s wa many) (omega arith) (omega arith))
         (recast c.funs c.widths c.own (Store m (word_operand s) bs ∷ []) (all_vars (word_operand s ∷ bs.items)) [] [] (s0 ++ u0) v0 [] 0 (we + 2) all (store-step c.funs c.widths c.own m (word_operand s) bs (we + 2) (omega arith))
         (both-same (atom_vars (word_operand s)) s0 (all_vars bs.items) u0 (word-operand-within s) (subst (λ l. IsWithin (all_vars l) u0) (sym same) itself)) (grows-not v0 [] (of-none v0)) itself (omega arith)))
         itself;
@@ -130,7 +130,7 @@ module _ (w : Whole) (names : Names) (scope : SymbolScope) where
   }
 
   pub stands-after : (others : Names) (low high : ℕ) (mid : SymbolScope) (st : StatementTree) (ss : List Step) → IsStated w others low high scope (statement_and st no_statements) ss mid
-      → (own : ℕ) (p : Place) → Stands w own scope p → statement_faults p st ≡ [] → Stands w own mid (with_vars (vars_after p.known p.vars st) p)
+      → (own : ℕ) (p : Context) → Stands w own scope p → statement_faults p st ≡ [] → Stands w own mid (with_vars (vars_after p.known p.vars st) p)
   stands-after others low high mid st ss v own p stands none = record { part = stands.part; vars = v.formed own p stands (ap (λ l. l ++ []) none) }
 
   pub stated-cons : (others : Names) (low high : ℕ) (mid inner : SymbolScope) (st : StatementTree) (sts : StatementTrees) (ss ts : List Step) → IsStated w others low high scope (statement_and st no_statements) ss mid → IsNarrowStatement w names scope st ss mid
@@ -168,16 +168,16 @@ statement-narrow-more w names more h scope st ss inner v = record { pends = v.pe
 
 -- ---- blocks
 module _ (w : Whole) (names others : Names) (low high : ℕ) (scope inner : SymbolScope) (sp : Span) (sts : StatementTrees) (e : Tree) (ss : List Step) where
-  pub stands-behind : IsStated w others low high scope sts ss inner → (own : ℕ) (p : Place) → Stands w own scope p → statements_faults (inside p) sts ≡ [] → Stands w own inner (with_vars (vars_behind p.known p.vars sts) p)
+  pub stands-behind : IsStated w others low high scope sts ss inner → (own : ℕ) (p : Context) → Stands w own scope p → statements_faults (inside p) sts ≡ [] → Stands w own inner (with_vars (vars_behind p.known p.vars sts) p)
   stands-behind v own p stands none = record { part = stands.part; vars = v.formed own (inside p) (stands-inside w own scope p stands) none }
 
   -- the statements, and the tail's variables counted from outside the block
-  statements-first : (c : Room w names) (p : Place) → IsNarrowStated w names scope sts ss inner → Stands w c.own scope p → statements_faults (inside p) sts ≡ []
+  statements-first : (c : Room w names) (p : Context) → IsNarrowStated w names scope sts ss inner → Stands w c.own scope p → statements_faults (inside p) sts ≡ []
       → NarrowSteps c.funs c.widths c.own ss (written scope (variables_statements sts ++ variables e)) (written scope (variables_statements sts ++ variables e)) (written inner (variables e)) (need_statements c.needs p.known p.vars [] sts (variables e))
   statements-first c p t stands none = t.by c (inside p) (stands-inside w c.own scope p stands) none scope [] (same-pends scope) (variables e)
 
-  tail-grows : (own : ℕ) (p : Place) → IsNarrowStated w names scope sts ss inner → Stands w own scope p → statements_faults (inside p) sts ≡ []
-      → Grows (written scope (variables_statements sts ++ variables e)) (written inner (variables e)) (pending (lets_behind p.known p.vars sts) (variables e))
+  tail-grows : (own : ℕ) (p : Context) → IsNarrowStated w names scope sts ss inner → Stands w own scope p → statements_faults (inside p) sts ≡ []
+      → AddsAtMost (written scope (variables_statements sts ++ variables e)) (written inner (variables e)) (pending (lets_behind p.known p.vars sts) (variables e))
   tail-grows own p t stands none =
       let pends = t.pends own (inside p) (stands-inside w own scope p stands) none in
       let all = written scope (variables_statements sts ++ variables e) in
@@ -186,10 +186,10 @@ module _ (w : Whole) (names others : Names) (low high : ℕ) (scope inner : Symb
       (grows-further all (written scope (variables e)) (written inner (variables e)) 0 k
       (grows-not all (written scope (variables e)) (written-right scope (variables_statements sts) (variables e))) (pends.by (variables e)))
 
-  pub statements-none : (p : Place) (wanted : Wanted) → faults p wanted (BlockTree sp sts e) ≡ [] → statements_faults (inside p) sts ≡ []
+  pub statements-none : (p : Context) (wanted : Expected) → faults p wanted (BlockTree sp sts e) ≡ [] → statements_faults (inside p) sts ≡ []
   statements-none p wanted none = no_front (statements_faults (inside p) sts) (faults (with_vars (vars_behind p.known p.vars sts) p) anything e ++ node_faults p wanted (BlockTree sp sts e)) none
 
-  pub last-none : (p : Place) (wanted : Wanted) → faults p wanted (BlockTree sp sts e) ≡ [] → faults (with_vars (vars_behind p.known p.vars sts) p) anything e ≡ []
+  pub last-none : (p : Context) (wanted : Expected) → faults p wanted (BlockTree sp sts e) ≡ [] → faults (with_vars (vars_behind p.known p.vars sts) p) anything e ≡ []
   last-none p wanted none =
       no_front (faults (with_vars (vars_behind p.known p.vars sts) p) anything e) (node_faults p wanted (BlockTree sp sts e))
       (no_rest (statements_faults (inside p) sts) (faults (with_vars (vars_behind p.known p.vars sts) p) anything e ++ node_faults p wanted (BlockTree sp sts e)) none)

@@ -7,8 +7,8 @@ use Rattle.nv_ast.specs.Tests.{value_at}
 use Rattle.nv_ast.specs.Tree.{FunTree, ProgramTree}
 use Rattle.nv_ast.specs.Types.{RecordTy, NamedTys, words, total_named_words, named_types_of, type_of}
 use Rattle.nv_ast.specs.Sizes.{param_words, body_vars, need, needs_behind, room, variables}
-use Rattle.nv_ast.specs.Scope.{Place, nothing_known, param_vars}
-use Rattle.nv_ast.specs.Faults.{Wanted, same_as, main_name, program_faults}
+use Rattle.nv_ast.specs.Scope.{Context, nothing_known, param_vars}
+use Rattle.nv_ast.specs.Faults.{Expected, same_as, main_name, program_faults}
 use Rattle.nv_meaning.specs.Meaning.{function_in}
 use Rattle.flat_ir.specs.declared.flat.FlatFun.{FlatFun}
 use Rattle.nv_base.specs.Sets.{different, all_vars}
@@ -16,16 +16,16 @@ use Rattle.nv_base.specs.Measures.{operands_wide}
 use Rattle.flat_ir.specs.Wide.{Widths, code_wide, function_wide, wide, main_wide, AreWidths}
 use Rattle.nv_base.proofs.Sets.{different-length}
 use Rattle.flat_ir.proofs.Widths.{main-bounded}
-use Rattle.flat_code.specs.inner.Symbols.{NamedSymbols, no_named_symbols, named_symbol_and, SymbolScope, operands, named_operands, named_fresh, symbol_in, params_bound}
-use Rattle.flat_code.specs.inner.Whole.{Whole, whole_of, group_of, Stands}
-use Rattle.flat_code.specs.inner.Simulation.{Names}
-use Rattle.flat_code.specs.inner.Made.{params_in, entry}
-use Rattle.flat_code.specs.inner.Narrow.{IsWithin, written, NarrowCode, CallsNarrow, Room, IsNarrowFun, IsEmptyFun, IsNarrowOf, AreNarrowFuns}
-use Rattle.flat_code.proofs.Fresh.{fresh-form}
+use Rattle.flat_values.specs.inner.Symbols.{NamedSymbols, no_named_symbols, named_symbol_and, SymbolScope, operands, named_operands, named_fresh, symbol_in, params_bound}
+use Rattle.flat_values.specs.inner.Whole.{Whole, whole_of, group_of, Stands}
+use Rattle.flat_values.specs.inner.Simulation.{Names}
+use Rattle.flat_values.specs.inner.Made.{params_in, entry}
+use Rattle.flat_values.specs.inner.Narrow.{IsWithin, written, NarrowCode, CallsNarrow, Room, IsNarrowFun, IsEmptyFun, IsNarrowOf, AreNarrowFuns}
+use Rattle.flat_values.proofs.Fresh.{fresh-form}
 use Rattle.nv_flatten.proofs.Entering.{params-types}
 use Rattle.nv_flatten.proofs.Bodies.{has-main}
-use Rattle.flat_code.proofs.Within.{itself, of-none, one, both, unions, together, through, behind-same, at-most, all-vars-append, vars-length}
-use Rattle.flat_code.proofs.NarrowFacts.{words-of-named, need-least}
+use Rattle.flat_values.proofs.Within.{itself, of-none, one, both, unions, together, through, behind-same, at-most, all-vars-append, vars-length}
+use Rattle.flat_values.proofs.NarrowFacts.{words-of-named, need-least}
 use Rattle.nv_flatten.proofs.NarrowNeeds.{IsNeeded, need_of_group, needed, need-of}
 use Rattle.nv_flatten.proofs.Bound.{choice-of}
 
@@ -97,8 +97,8 @@ module _ (t : ProgramTree) (h : program_faults t ≡ []) (all : Names) (funs : L
       let w = whole_of t in
       let n = needed t h f g found in
       let own : n.own ≡ fun.group = same_Some _ _ (sym n.grouped ∙ m.group) in
-      let p : Place = record { known = n.known; vars = param_vars (named_types_of n.known.layouts g.params) []; tail = true } in
-      let wanted : Wanted = same_as (Some (type_of n.known.layouts g.result)) in
+      let p : Context = record { known = n.known; vars = param_vars (named_types_of n.known.layouts g.params) []; tail = true } in
+      let wanted : Expected = same_as (Some (type_of n.known.layouts g.result)) in
       let stands : Stands w n.own (entry w g) p = record { part = n.part; vars = ap (λ ts. param_vars ts []) n.params ∙ sym (params-types 0 (params_in w g) []) } in
       let c : Room w m.names = record { own = n.own; needs = n.needs; all = all; more = m.more; funs = funs; widths = widths_of t; calls = calls-narrow f g n } in
       let code : NarrowCode funs (widths_of t) n.own fun.body (written (entry w g) (variables g.body)) (written (entry w g) (variables g.body)) (need n.needs n.known (body_vars n.known g) g.body) = m.end.by c p wanted stands n.none in

@@ -12,9 +12,9 @@ use Rattle.nv_ast.specs.declared.tree.Op.TheVariants.{Add, Sub, And, Or, Xor, Eq
 use Rattle.nv_ast.specs.declared.tree.ShiftOp.{ShiftOp}
 use Rattle.nv_ast.specs.Tree.{Tree, NumberTree, TruthTree, VarTree, ParenTree, TupleTree, FieldsTree, DotTree, InvertTree, NegateTree, BinaryTree, ShiftTree, FetchTree, Trees, NamedTrees}
 use Rattle.nv_ast.specs.Types.{WordTy, BoolTy, words, words_of_value, words_ty}
-use Rattle.nv_ast.specs.Scope.{Place, inside}
+use Rattle.nv_ast.specs.Scope.{Context, inside}
 use Rattle.nv_ast.specs.Typing.{operand_ty, result_ty}
-use Rattle.nv_ast.specs.Faults.{Wanted, a_value, of_type, faults, list_faults, named_faults, node_faults}
+use Rattle.nv_ast.specs.Faults.{Expected, a_value, of_type, faults, list_faults, named_faults, node_faults}
 use Rattle.nv_ast.specs.Sizes.{words_at, need, variables, variables_all, variables_named}
 use Rattle.flat_ir.specs.declared.flat.Flat.{Flat}
 use Rattle.flat_ir.specs.declared.flat.FlatFun.{FlatFun}
@@ -23,21 +23,21 @@ use Rattle.flat_ir.specs.declared.spine.Step.TheVariants.{Let, Fetch, Bind}
 use Rattle.flat_ir.specs.Pieces.{new_vars}
 use Rattle.nv_base.specs.Sets.{all_vars}
 use Rattle.flat_ir.specs.Wide.{Widths}
-use Rattle.flat_code.specs.inner.Code.{variables as var_operands, form_or_unit, shift_of}
-use Rattle.flat_code.specs.inner.Symbols.{Symbol, Symbols, NamedSymbols, Word, Truth, Tuple, Record, SymbolScope, operands, all_operands, named_operands, fresh, numbers_from, words_symbol, word_operand, truth_operand, fields_of, field_named, symbol_in}
-use Rattle.flat_code.specs.inner.Whole.{Whole, Stands}
-use Rattle.flat_code.specs.inner.Simulation.{Names, Extends, HasForm, IsEnd}
-use Rattle.flat_code.specs.inner.Narrow.{IsWithin, written, NarrowSteps, Room, IsNarrowValue, AreNarrowValues, AreNarrowFields, IsNarrowTest, IsNarrowEnd}
-use Rattle.flat_code.proofs.Fresh.{fresh-operands, numbers-length}
-use Rattle.flat_code.proofs.Within.{itself, of-none, into-left, together, through, both-same, grows-by, grows-not}
-use Rattle.flat_code.proofs.NarrowSteps.{no-steps, recast, follow, in-turn, let-step, fetch-step, bind-step}
-use Rattle.flat_code.proofs.NarrowFacts.{written-append, counted, words-of-or-unit, vars-at-most, word-operand-within, truth-operand-within, field-within, fields-within, vars-of-variables, need-least}
-use Rattle.flat_code.proofs.PackedWords.{symbol-operands}
-use Rattle.flat_code.proofs.Following.{stands-inside}
-use Rattle.flat_code.proofs.Keeping.{extends-then}
-use Rattle.flat_code.proofs.WellBasics.{words-ty-words}
+use Rattle.flat_values.specs.inner.Code.{variables as var_operands, form_or_unit, shift_of}
+use Rattle.flat_values.specs.inner.Symbols.{Symbol, Symbols, NamedSymbols, Word, Truth, Tuple, Record, SymbolScope, operands, all_operands, named_operands, fresh, numbers_from, words_symbol, word_operand, truth_operand, fields_of, field_named, symbol_in}
+use Rattle.flat_values.specs.inner.Whole.{Whole, Stands}
+use Rattle.flat_values.specs.inner.Simulation.{Names, Extends, HasForm, IsEnd}
+use Rattle.flat_values.specs.inner.Narrow.{IsWithin, written, NarrowSteps, Room, IsNarrowValue, AreNarrowValues, AreNarrowFields, IsNarrowTest, IsNarrowEnd}
+use Rattle.flat_values.proofs.Fresh.{fresh-operands, numbers-length}
+use Rattle.flat_values.proofs.Within.{itself, of-none, into-left, together, through, both-same, grows-by, grows-not}
+use Rattle.flat_values.proofs.NarrowSteps.{no-steps, recast, follow, in-turn, let-step, fetch-step, bind-step}
+use Rattle.flat_values.proofs.NarrowFacts.{written-append, counted, words-of-or-unit, vars-at-most, word-operand-within, truth-operand-within, field-within, fields-within, vars-of-variables, need-least}
+use Rattle.flat_values.proofs.PackedWords.{symbol-operands}
+use Rattle.flat_values.proofs.Following.{stands-inside}
+use Rattle.flat_values.proofs.Keeping.{extends-then}
+use Rattle.flat_values.proofs.WellBasics.{words-ty-words}
 use Rattle.nv_ast.proofs.Faultless.{no_front, no_rest}
-use Rattle.flat_code.proofs.WordSteps.{shift-vars}
+use Rattle.flat_values.proofs.WordSteps.{shift-vars}
 
 -- ---- steps and then a primitive of their results
 prim-length : (q : Primitive) → length (prim_vars q) ≤ 2
@@ -55,7 +55,7 @@ module _ (funs : List FlatFun) (widths : Widths) (own : ℕ) where
   pub roomier : (ss : List Step) (v base behind : List ℕ) (m all : ℕ) → NarrowSteps funs widths own ss v base behind m → m ≤ all → NarrowSteps funs widths own ss v base behind all
   roomier ss v base behind m all n le = recast funs widths own ss v base behind v base behind 0 m all n itself (grows-not base base itself) itself (omega arith)
 
-  -- less behind them
+  -- less after them
   pub less-behind : (ss : List Step) (v base behind behind' : List ℕ) (m all : ℕ) → NarrowSteps funs widths own ss v base behind m → IsWithin behind' behind → m ≤ all → NarrowSteps funs widths own ss v base behind' all
   less-behind ss v base behind behind' m all n inside le = recast funs widths own ss v base behind v base behind' 0 m all n itself (grows-not base base itself) inside (omega arith)
 
@@ -120,7 +120,7 @@ module _ (w : Whole) (names : Names) (scope : SymbolScope) where
   tuple-narrow sp es ss us v = record {
     by = λ c p wanted stands none.
         roomier c.funs c.widths c.own ss (written scope (variables_all es)) (written scope (variables_all es)) (all_vars (all_operands us)) _ (need c.needs p.known p.vars (TupleTree sp es))
-        (v.by c (inside p) [] (All-nil (λ (x : Wanted). x.value ≡ true)) (stands-inside w c.own scope p stands) (no_front (list_faults (inside p) [] es) (node_faults p wanted (TupleTree sp es)) none)) (omega arith);
+        (v.by c (inside p) [] (All-nil (λ (x : Expected). x.value ≡ true)) (stands-inside w c.own scope p stands) (no_front (list_faults (inside p) [] es) (node_faults p wanted (TupleTree sp es)) none)) (omega arith);
   }
 
   pub record-narrow : (sp : Span) (es : NamedTrees) (ss : List Step) (us : NamedSymbols) → AreNarrowFields w names scope es ss us → IsNarrowValue w names scope (FieldsTree sp es) ss (Record us)
@@ -140,7 +140,7 @@ module _ (w : Whole) (names : Names) (scope : SymbolScope) where
   }
 
   -- a node whose one operand is a word or truth
-  one-let : (c : Room w names) (p : Place) (a : Tree) (ss : List Step) (s : Symbol) (x : ℕ) (q : Primitive) (all : ℕ)
+  one-let : (c : Room w names) (p : Context) (a : Tree) (ss : List Step) (s : Symbol) (x : ℕ) (q : Primitive) (all : ℕ)
       → NarrowSteps c.funs c.widths c.own ss (written scope (variables a)) (written scope (variables a)) (all_vars (operands s)) (need c.needs p.known p.vars a)
       → IsWithin (prim_vars q) (all_vars (operands s)) → 3 + need c.needs p.known p.vars a ≤ all
       → NarrowSteps c.funs c.widths c.own (ss ++ Let x q ∷ []) (written scope (variables a)) (written scope (variables a)) (x ∷ []) all
@@ -183,7 +183,7 @@ module _ (w : Whole) (names : Names) (scope : SymbolScope) where
   }
 
   -- two operands of an operator, both wanted behind
-  pub operands-narrow : (c : Room w names) (p : Place) (wanted : Wanted) (sp : Span) (op : Op) (a b : Tree) (ss ts : List Step) (s u : Symbol) → HasForm w scope a s → IsNarrowValue w names scope a ss s → IsNarrowValue w names scope b ts u
+  pub operands-narrow : (c : Room w names) (p : Context) (wanted : Expected) (sp : Span) (op : Op) (a b : Tree) (ss ts : List Step) (s u : Symbol) → HasForm w scope a s → IsNarrowValue w names scope a ss s → IsNarrowValue w names scope b ts u
       → Stands w c.own scope p → faults p wanted (BinaryTree sp op a b) ≡ [] → (all : ℕ) → (words_at p.known p.vars a + words_at p.known p.vars b) + max (need c.needs p.known p.vars a) (need c.needs p.known p.vars b) ≤ all
       → NarrowSteps c.funs c.widths c.own (ss ++ ts) (written scope (variables a ++ variables b)) (written scope (variables a ++ variables b)) (all_vars (operands s) ++ all_vars (operands u)) all
   operands-narrow c p wanted sp op a b ss ts s u f v t stands none all le =

@@ -1,4 +1,4 @@
--- Bulks put together, and the words that are left behind them.
+-- Bulks put together, and the words that are left after them.
 use Rattle.std.proofs.Common.{ℕ, ◌+◌, ◌*◌, ◌≤◌, Bool, true, false, if◌then◌else◌, List, [], ◌∷◌, ◌++◌, sym, subst, arith}
 use Rattle.nv_ast.specs.Tree.{Tree}
 use Rattle.flat_ir.specs.declared.flat.Flat.{Flat}
@@ -11,16 +11,16 @@ use Rattle.flat_ir.specs.Pieces.{steps_bulk}
 use Rattle.flat_ir.proofs.Parts.{nodes-bulk}
 use Rattle.flat_ir.proofs.Appended.{bulk-append}
 use Rattle.nv_base.proofs.Measures.{most-refl}
-use Rattle.flat_code.specs.inner.Code.{is_given}
-use Rattle.flat_code.specs.inner.Small.{of_parts, uses, lets, value_rest}
+use Rattle.flat_values.specs.inner.Code.{is_given}
+use Rattle.flat_values.specs.inner.Small.{of_parts, uses, lets, value_rest}
 
--- what is left behind a comparison
+-- what is left after a comparison
 abbrev pub decision : Bulk
 decision = record { labels = 1; jumps = 2; nodes = 1; defined = 0; used = 3 }
 
 -- ---- bounds
 
--- something more, and of it this is left behind it
+-- something more, and of it this is left after it
 pub then-most : (whole s r more rest : Bulk) (m k all : ℕ) → IsAtMost whole (both s more) → IsAtMost (both s r) (of_parts m) → IsAtMost (both more rest) (both r (of_parts k)) → k + m ≤ all → IsAtMost (both whole rest) (of_parts all)
 then-most whole s r more rest m k all w p q le = record {
   labels = omega (arith, w.labels, p.labels, q.labels);
@@ -162,7 +162,7 @@ both-most whole a b m k all w p q le = record {
   used = omega (arith, w.used, p.used, q.used);
 }
 
--- what is left behind the second is left behind both
+-- what is left after the second is left behind both
 pub after-most : (whole a b r : Bulk) (m k all : ℕ) → IsAtMost whole (both a b) → IsAtMost a (of_parts m) → IsAtMost (both b r) (of_parts k) → m + k ≤ all → IsAtMost (both whole r) (of_parts all)
 after-most whole a b r m k all w p q le = record {
   labels = omega (arith, w.labels, p.labels, q.labels);
@@ -225,7 +225,7 @@ jump-most whole s call n m k all w p q le = record {
   used = omega (arith, w.used, p.used, q.used);
 }
 
--- a choice between two endings behind a test
+-- a choice between two endings after a test
 pub branch-most : (whole s t u : Bulk) (a b n size first second all : ℕ) → IsAtMost whole (both s (both (a_node 0 2) (both t u))) → IsAtMost s (of_parts size) → IsAtMost (both t (both a_label (uses a))) (of_parts first) → IsAtMost (both u (both a_label (uses b))) (of_parts second)
     → n ≤ a + b → 1 + (size + (first + second)) ≤ all → IsAtMost (both whole (both a_label (uses n))) (of_parts all)
 branch-most whole s t u a b n size first second all w p q v few le = record {
@@ -247,7 +247,7 @@ handled-most t u a b n first second all p q few le = record {
   used = omega (arith, p.used, q.used);
 }
 
--- ---- primitives behind a value that compute the words of another
+-- ---- primitives after a value that compute the words of another
 pub lets-most : (whole s x : Bulk) (e : Tree) (count n m k size all : ℕ) → IsAtMost whole (both s (lets count)) → IsAtMost (both s (both x (uses n))) (of_parts size) → count ≤ k → 1 ≤ k → 2 * count + m ≤ n + 2 * k → k + size ≤ all
     → IsAtMost (both whole (both (value_rest e) (uses m))) (of_parts all)
 lets-most whole s x e count n m k size all w p few one less le =

@@ -8,9 +8,9 @@ use Rattle.nv_ast.specs.Tree.{NamedLayout, Tree, CallTree, UnpackTree, PackTree,
 use Rattle.nv_ast.specs.Tests.{is_among, names_of, look_up, value_at}
 use Rattle.nv_ast.specs.Outline.{OutlineTree, IsSound, outline, bit_fields}
 use Rattle.nv_ast.specs.Types.{no_tys, words, words_of_value, packed_words, packed_ty, can_pack, form_of, type_of}
-use Rattle.nv_ast.specs.Scope.{Signature, Place, inside, callable, bind_all, bind_raised}
+use Rattle.nv_ast.specs.Scope.{Signature, Context, inside, callable, bind_all, bind_raised}
 use Rattle.nv_ast.specs.Typing.{type_at}
-use Rattle.nv_ast.specs.Faults.{Wanted, anything, same_as, faults, list_faults, node_faults, wanted_arguments, params_of, unknown_function, not_in_tail, wrong_number, wanted_packed, wanted_unpacked}
+use Rattle.nv_ast.specs.Faults.{Expected, anything, same_as, faults, list_faults, node_faults, expected_arguments, params_of, unknown_function, not_in_tail, wrong_number, expected_packed, expected_unpacked}
 use Rattle.nv_ast.specs.Sizes.{words_at, field_size, expanded_all}
 use Rattle.nv_meaning.specs.Running.{exception_number}
 use Rattle.flat_ir.specs.declared.flat.Flat.{Flat}
@@ -21,23 +21,23 @@ use Rattle.flat_ir.specs.Spine.{AreNodes}
 use Rattle.nv_base.specs.Measures.{Bulk, nothing, a_label, a_jump, both, IsAtMost}
 use Rattle.flat_ir.specs.Bulk.{Bulks, return_bulk, call_bulk, code_bulk}
 use Rattle.nv_base.proofs.Measures.{most-none}
-use Rattle.flat_code.specs.inner.Code.{form_or_unit}
-use Rattle.flat_code.specs.inner.Symbols.{Symbol, Symbols, SymbolScope, form, operands, all_operands, all_fresh, vars_of, all_bound}
-use Rattle.flat_code.specs.inner.Whole.{Whole, Stands, raised_or_none, result_of}
-use Rattle.flat_code.specs.inner.Simulation.{Names, HasForm}
-use Rattle.flat_code.specs.inner.Small.{of_parts, uses, value_rest, Sized, IsSmallValue, AreSmallValues, IsSmallEnd, AreFewLets, PacksFew}
-use Rattle.flat_code.proofs.Fresh.{fresh-forms, all-bound-types}
-use Rattle.flat_code.proofs.Sound.{value-has-type}
+use Rattle.flat_values.specs.inner.Code.{form_or_unit}
+use Rattle.flat_values.specs.inner.Symbols.{Symbol, Symbols, SymbolScope, form, operands, all_operands, all_fresh, vars_of, all_bound}
+use Rattle.flat_values.specs.inner.Whole.{Whole, Stands, raised_or_none, result_of}
+use Rattle.flat_values.specs.inner.Simulation.{Names, HasForm}
+use Rattle.flat_values.specs.inner.Small.{of_parts, uses, value_rest, Sized, IsSmallValue, AreSmallValues, IsSmallEnd, AreFewLets, PacksFew}
+use Rattle.flat_values.proofs.Fresh.{fresh-forms, all-bound-types}
+use Rattle.flat_values.proofs.Sound.{value-has-type}
 use Rattle.nv_flatten.proofs.WellTypes.{some-where, low-of, right-of}
-use Rattle.flat_code.proofs.NarrowFacts.{counted-given, words-of-or-unit}
+use Rattle.flat_values.proofs.NarrowFacts.{counted-given, words-of-or-unit}
 use Rattle.nv_flatten.proofs.NarrowCalls.{around, behind, handler_faults, handler-none, unknown-none}
 use Rattle.nv_flatten.proofs.SmallBulks.{alone-most, jump-most, handled-most, lets-most, steps-then, code-then}
 use Rattle.nv_flatten.proofs.SmallValues.{of_steps, size_of, behind_value}
 use Rattle.nv_flatten.proofs.SmallEnds.{words-of-either}
-use Rattle.flat_code.proofs.NoFaults.{among-known}
-use Rattle.flat_code.proofs.CallArms.{get-append}
-use Rattle.flat_code.proofs.Following.{stands-inside}
-use Rattle.flat_code.proofs.WellBasics.{words-ty-words}
+use Rattle.flat_values.proofs.NoFaults.{among-known}
+use Rattle.flat_values.proofs.CallArms.{get-append}
+use Rattle.flat_values.proofs.Following.{stands-inside}
+use Rattle.flat_values.proofs.WellBasics.{words-ty-words}
 use Rattle.nv_ast.proofs.Faultless.{no_front, not_where}
 
 -- ---- what a call counts beside its jump
@@ -54,14 +54,14 @@ call-most bulks own last None n h = most-none (of_parts n)
 call-most bulks own last (Some fun) n h = when (nat_lt fun.group own) (both (return_bulk last) (bulks fun.group)) n (λ earlier. returned last (bulks fun.group) n (h fun refl earlier))
 
 module _ (w : Whole) (names : Names) (scope : SymbolScope) (sp : Span) (es : Trees) (ss : List Step) (us : Symbols) where
-  arguments-small : (c : Sized w names) (p : Place) (wanted : List Wanted) → AreSmallValues w names scope es ss us → Stands w c.own scope p → list_faults (inside p) wanted es ≡ [] → IsAtMost (of_steps c ss) (of_parts (expanded_all c.sizes p.known p.vars es))
+  arguments-small : (c : Sized w names) (p : Context) (wanted : List Expected) → AreSmallValues w names scope es ss us → Stands w c.own scope p → list_faults (inside p) wanted es ≡ [] → IsAtMost (of_steps c ss) (of_parts (expanded_all c.sizes p.known p.vars es))
   arguments-small c p wanted v stands none =
       alone-most (of_steps c ss) (uses (length (all_operands us))) (expanded_all c.sizes p.known p.vars es) 0 (expanded_all c.sizes p.known p.vars es) (v.by c (inside p) wanted (stands-inside w c.own scope p stands) none) (omega arith)
 
   pub raise-small : (x : List ℕ) (k : ℕ) (bs : _) (code : Flat) → AreSmallValues w names scope es ss us → AreNodes ss (Raise k bs) code → IsSmallEnd w names scope (RaiseTree sp x es) code None
   raise-small x k bs code v nodes = record {
     by = λ c p wanted stands none last.
-        let args = wanted_arguments (look_up x p.known.exceptions) es in
+        let args = expected_arguments (look_up x p.known.exceptions) es in
         jump-most (code_bulk c.funs c.bulks c.own last code) (of_steps c ss) nothing 0 (expanded_all c.sizes p.known p.vars es) 0 (size_of c p (RaiseTree sp x es)) (code-then c.funs c.bulks c.own last ss (Raise k bs) code nodes)
         (arguments-small c p args v stands (no_front (list_faults (inside p) args es) (node_faults p wanted (RaiseTree sp x es)) none)) (most-none (of_parts 0)) (omega arith);
   }
@@ -70,7 +70,7 @@ module _ (w : Whole) (names : Names) (scope : SymbolScope) (sp : Span) (es : Tre
   call-small f i bs code o v named nodes result = record {
     by = λ c p wanted stands none last.
         let params = params_of p.known f in
-        let args = wanted_arguments params es in
+        let args = expected_arguments params es in
         let known = some-where (look_up f (callable p.known)) 11 (no_front (unknown_function p.known f) (not_in_tail p f ++ wrong_number params es) (low-of p wanted (CallTree sp f es) none)) in
         let callable' = stands.part.functions f known.0 known.1 in
         let n = words_at p.known p.vars (CallTree sp f es) in
@@ -86,7 +86,7 @@ module _ (w : Whole) (names : Names) (scope : SymbolScope) (sp : Span) (es : Tre
 
 -- ---- a body with a handler
 module _ (w : Whole) (names : Names) (scope : SymbolScope) (sp : Span) (a : Tree) (x : List ℕ) (ps : PatternTrees) (h : Tree) where
-  handler-stands : (own : ℕ) (p : Place) (wanted : Wanted) (n : ℕ) (inner : SymbolScope) → Stands w own scope p → faults p wanted (TryTree sp a x ps h) ≡ [] → inner ≡ all_bound ps (all_fresh n (raised_or_none w (exception_number w.declared.exceptions x))) scope
+  handler-stands : (own : ℕ) (p : Context) (wanted : Expected) (n : ℕ) (inner : SymbolScope) → Stands w own scope p → faults p wanted (TryTree sp a x ps h) ≡ [] → inner ≡ all_bound ps (all_fresh n (raised_or_none w (exception_number w.declared.exceptions x))) scope
       → Stands w own inner (behind w names scope sp a x ps h p)
   handler-stands own p wanted n inner stands none is =
       let known = some-where (look_up x p.known.exceptions) 17 (unknown-none w names scope sp a x ps h p wanted none) in
@@ -123,7 +123,7 @@ packs-few o given ts n t e = omega (arith, t.all, t.some, t.words, e)
 
 module _ (w : Whole) (names : Names) (scope : SymbolScope) (sp : Span) (l : List ℕ) (a : Tree) (ss ts : List Step) (s r : Symbol) where
   -- the steps of the operand, and then steps that compute the words of the whole
-  computed : (c : Sized w names) (p : Place) (e : Tree) (m k : ℕ) → IsAtMost (both (of_steps c ss) (behind_value a s)) (of_parts (size_of c p a)) → AreFewLets ts m → m ≤ k → 1 ≤ k → 2 * m + length (operands r) ≤ length (operands s) + 2 * k → k + size_of c p a ≤ size_of c p e
+  computed : (c : Sized w names) (p : Context) (e : Tree) (m k : ℕ) → IsAtMost (both (of_steps c ss) (behind_value a s)) (of_parts (size_of c p a)) → AreFewLets ts m → m ≤ k → 1 ≤ k → 2 * m + length (operands r) ≤ length (operands s) + 2 * k → k + size_of c p a ≤ size_of c p e
       → IsAtMost (both (of_steps c (ss ++ ts)) (behind_value e r)) (of_parts (size_of c p e))
   computed c p e m k v t few one less le =
       lets-most (of_steps c (ss ++ ts)) (of_steps c ss) (value_rest a) e t.count (length (operands s)) (length (operands r)) k (size_of c p a) (size_of c p e)
@@ -139,7 +139,7 @@ module _ (w : Whole) (names : Names) (scope : SymbolScope) (sp : Span) (l : List
         let size : fields ≡ field_size (look_up l p.known.layouts) = ap (λ o. 4 * length (bit_fields 0 o)) known.0 ∙ sym (ap field_size found.1) in
         let n = words_at p.known p.vars (UnpackTree sp l a) in
         let many : length (operands r) ≡ n = counted-given w scope (UnpackTree sp l a) r g c.own p wanted stands none refl in
-        let right = wanted_packed (look_up l p.known.layouts) in
+        let right = expected_packed (look_up l p.known.layouts) in
         computed c p (UnpackTree sp l a) fields (1 + n + fields) (v.by c (inside p) right (stands-inside w c.own scope p stands) (no_front (faults (inside p) right a) (node_faults p wanted (UnpackTree sp l a)) none)) t
         (omega arith) (omega arith) (omega arith) (omega arith);
   }
@@ -153,8 +153,8 @@ module _ (w : Whole) (names : Names) (scope : SymbolScope) (sp : Span) (l : List
         let known = stands.part.layouts l found.0 found.1 in
         let o = outline w.declared.layouts (NamedLayout l) in
         let stands' = stands-inside w c.own scope p stands in
-        let want = wanted_unpacked (Some found.0) in
-        let clean : faults (inside p) want a ≡ [] = subst (λ q. faults (inside p) (wanted_unpacked q) a ≡ []) found.1 (no_front (faults (inside p) (wanted_unpacked (look_up l p.known.layouts)) a) (node_faults p wanted (PackTree sp l a)) none) in
+        let want = expected_unpacked (Some found.0) in
+        let clean : faults (inside p) want a ≡ [] = subst (λ q. faults (inside p) (expected_unpacked q) a ≡ []) found.1 (no_front (faults (inside p) (expected_unpacked (look_up l p.known.layouts)) a) (node_faults p wanted (PackTree sp l a)) none) in
         let typed = value-has-type (inside p) want a refl clean in
         let formed : form s ≡ typed.0 = f.by c.own (inside p) want stands' clean typed.0 typed.1 in
         let right : can_pack (form_of found.0) (form s) ≡ true = subst (λ t. can_pack (form_of found.0) t ≡ true) (sym formed) (right-of (inside p) want a typed.0 clean typed.1) in

@@ -5,9 +5,9 @@ use Rattle.nv_base.specs.declared.term.Atom.{Atom}
 use Rattle.nv_ast.specs.declared.token.Span.{Span}
 use Rattle.nv_ast.specs.Tree.{Tree, BlockTree, Trees, no_trees, tree_and, NamedTrees, no_named_trees, named_tree_and, PatternTree, StatementTree, LetStatement, StoreStatement, StatementTrees, no_statements, statement_and}
 use Rattle.nv_ast.specs.Types.{WordTy, words, words_of_value}
-use Rattle.nv_ast.specs.Scope.{Place, inside, with_vars, names_in}
+use Rattle.nv_ast.specs.Scope.{Context, inside, with_vars, names_in}
 use Rattle.nv_ast.specs.Typing.{type_at, vars_after, vars_behind}
-use Rattle.nv_ast.specs.Faults.{Wanted, a_value, of_type, anything, wanted_stored, at_span, variable_twice, not_fitting, wrong_access, wrong_scratch, faults, list_faults, named_faults, statement_faults, statements_faults}
+use Rattle.nv_ast.specs.Faults.{Expected, a_value, of_type, anything, expected_stored, at_span, variable_twice, not_fitting, wrong_access, wrong_scratch, faults, list_faults, named_faults, statement_faults, statements_faults}
 use Rattle.nv_ast.specs.Sizes.{expanded_all, expanded_named, expanded_statements}
 use Rattle.flat_ir.specs.declared.flat.Flat.{Flat}
 use Rattle.flat_ir.specs.declared.spine.Step.{Step}
@@ -15,16 +15,16 @@ use Rattle.flat_ir.specs.declared.spine.Step.TheVariants.{Store}
 use Rattle.flat_ir.specs.Spine.{AreNodes}
 use Rattle.nv_base.specs.Measures.{a_label, both, IsAtMost}
 use Rattle.flat_ir.specs.Bulk.{code_bulk}
-use Rattle.flat_code.specs.inner.Code.{form_or_unit}
-use Rattle.flat_code.specs.inner.Symbols.{Symbol, Symbols, NamedSymbols, no_symbols, symbol_and, no_named_symbols, named_symbol_and, SymbolScope, operands, all_operands, named_operands, word_operand}
-use Rattle.flat_code.specs.inner.Whole.{Whole, Stands}
-use Rattle.flat_code.specs.inner.Simulation.{Names, IsStated}
-use Rattle.flat_code.specs.inner.Small.{of_parts, uses, value_rest, Sized, IsSmallValue, AreSmallValues, AreSmallFields, IsSmallStated, IsSmallEnd}
-use Rattle.flat_code.proofs.NarrowSteps.{stored}
+use Rattle.flat_values.specs.inner.Code.{form_or_unit}
+use Rattle.flat_values.specs.inner.Symbols.{Symbol, Symbols, NamedSymbols, no_symbols, symbol_and, no_named_symbols, named_symbol_and, SymbolScope, operands, all_operands, named_operands, word_operand}
+use Rattle.flat_values.specs.inner.Whole.{Whole, Stands}
+use Rattle.flat_values.specs.inner.Simulation.{Names, IsStated}
+use Rattle.flat_values.specs.inner.Small.{of_parts, uses, value_rest, Sized, IsSmallValue, AreSmallValues, AreSmallFields, IsSmallStated, IsSmallEnd}
+use Rattle.flat_values.proofs.NarrowSteps.{stored}
 use Rattle.nv_flatten.proofs.NarrowLists.{stands-after, stands-behind, statements-none, last-none}
 use Rattle.nv_flatten.proofs.SmallBulks.{alone-most, both-most, after-most, front-most, stored-most, stay-most, steps-then, code-then}
 use Rattle.nv_flatten.proofs.SmallValues.{of_steps, size_of, behind_value}
-use Rattle.flat_code.proofs.Following.{stands-inside}
+use Rattle.flat_values.proofs.Following.{stands-inside}
 use Rattle.nv_ast.proofs.Faultless.{no_front, no_rest}
 
 module _ (w : Whole) (names : Names) (scope : SymbolScope) where
@@ -36,13 +36,13 @@ module _ (w : Whole) (names : Names) (scope : SymbolScope) where
   small-fields-nil = record { by = λ c p stands none. record { labels = omega arith; jumps = omega arith; nodes = omega arith; defined = omega arith; used = omega arith } }
 
   -- one more in front
-  front : (c : Sized w names) (p : Place) (x : Wanted) (e : Tree) (ss ts : List Step) (s : Symbol) (u : List Atom) (rest : ℕ) → IsSmallValue w names scope e ss s → IsAtMost (both (of_steps c ts) (uses (length u))) (of_parts rest) → Stands w c.own scope p → faults p x e ≡ []
+  front : (c : Sized w names) (p : Context) (x : Expected) (e : Tree) (ss ts : List Step) (s : Symbol) (u : List Atom) (rest : ℕ) → IsSmallValue w names scope e ss s → IsAtMost (both (of_steps c ts) (uses (length u))) (of_parts rest) → Stands w c.own scope p → faults p x e ≡ []
       → IsAtMost (both (of_steps c (ss ++ ts)) (uses (length (operands s ++ u)))) (of_parts (size_of c p e + rest))
   front c p x e ss ts s u rest v r stands none =
       let long = length-append (operands s) u in
       front-most (of_steps c (ss ++ ts)) (of_steps c ss) (of_steps c ts) (value_rest e) (length (operands s)) (length u) (length (operands s ++ u)) (size_of c p e) rest (steps-then c.funs c.bulks c.own ss ts) (v.by c p x stands none) r (omega arith)
 
-  cons-by : (e : Tree) (es : Trees) (ss ts : List Step) (s : Symbol) (us : Symbols) → IsSmallValue w names scope e ss s → AreSmallValues w names scope es ts us → (c : Sized w names) (p : Place) (wanted : List Wanted) → Stands w c.own scope p → list_faults p wanted (tree_and e es) ≡ []
+  cons-by : (e : Tree) (es : Trees) (ss ts : List Step) (s : Symbol) (us : Symbols) → IsSmallValue w names scope e ss s → AreSmallValues w names scope es ts us → (c : Sized w names) (p : Context) (wanted : List Expected) → Stands w c.own scope p → list_faults p wanted (tree_and e es) ≡ []
       → IsAtMost (both (of_steps c (ss ++ ts)) (uses (length (operands s ++ all_operands us)))) (of_parts (size_of c p e + expanded_all c.sizes p.known p.vars es))
   cons-by e es ss ts s us v rest c p [] stands none =
       front c p a_value e ss ts s (all_operands us) (expanded_all c.sizes p.known p.vars es) v (rest.by c p [] stands (no_rest (faults p a_value e) (list_faults p [] es) none)) stands (no_front (faults p a_value e) (list_faults p [] es) none)
@@ -74,13 +74,13 @@ module _ (w : Whole) (names : Names) (scope : SymbolScope) where
     by = λ c p stands none.
         let n = words_of_value (type_at p.known p.vars e) in
         let own = at_span sp (wrong_access m n ++ wrong_scratch m a n) in
-        let clean = no_front (faults p (of_type WordTy) a ++ (faults p wanted_stored e ++ own)) [] none in
+        let clean = no_front (faults p (of_type WordTy) a ++ (faults p expected_stored e ++ own)) [] none in
         let last = Store m (word_operand s) bs ∷ [] in
         let few : length bs.items ≡ length (operands u) = ap length same in
         stored-most (of_steps c ((ss ++ ts) ++ last)) (of_steps c (ss ++ ts)) (of_steps c ss) (of_steps c ts) (value_rest a) (value_rest e) (length (operands s)) (length (operands u)) (length bs.items) (size_of c p a) (size_of c p e)
         (expanded_statements c.sizes p.known p.vars (statement_and (StoreStatement sp m a e) no_statements)) (steps-then c.funs c.bulks c.own (ss ++ ts) last) (steps-then c.funs c.bulks c.own ss ts)
-        (v.by c p (of_type WordTy) stands (no_front (faults p (of_type WordTy) a) (faults p wanted_stored e ++ own) clean))
-        (t.by c p wanted_stored stands (no_front (faults p wanted_stored e) own (no_rest (faults p (of_type WordTy) a) (faults p wanted_stored e ++ own) clean))) (omega arith) (omega arith);
+        (v.by c p (of_type WordTy) stands (no_front (faults p (of_type WordTy) a) (faults p expected_stored e ++ own) clean))
+        (t.by c p expected_stored stands (no_front (faults p expected_stored e) own (no_rest (faults p (of_type WordTy) a) (faults p expected_stored e ++ own) clean))) (omega arith) (omega arith);
   }
 
   pub small-stated-nil : IsSmallStated w names scope no_statements []
@@ -100,13 +100,13 @@ module _ (w : Whole) (names : Names) (scope : SymbolScope) where
 
 -- ---- blocks
 module _ (w : Whole) (names others : Names) (low high : ℕ) (scope inner : SymbolScope) (sp : Span) (sts : StatementTrees) (e : Tree) (ss : List Step) where
-  abbrev behind : Place → Place
+  abbrev behind : Context → Context
   behind p = with_vars (vars_behind p.known p.vars sts) p
 
-  statements-first : (c : Sized w names) (p : Place) (wanted : Wanted) → IsSmallStated w names scope sts ss → Stands w c.own scope p → faults p wanted (BlockTree sp sts e) ≡ [] → IsAtMost (of_steps c ss) (of_parts (expanded_statements c.sizes p.known p.vars sts))
+  statements-first : (c : Sized w names) (p : Context) (wanted : Expected) → IsSmallStated w names scope sts ss → Stands w c.own scope p → faults p wanted (BlockTree sp sts e) ≡ [] → IsAtMost (of_steps c ss) (of_parts (expanded_statements c.sizes p.known p.vars sts))
   statements-first c p wanted t stands none = t.by c (inside p) (stands-inside w c.own scope p stands) (statements-none w names others low high scope inner sp sts e ss p wanted none)
 
-  stands-last : (own : ℕ) (p : Place) (wanted : Wanted) → IsStated w others low high scope sts ss inner → Stands w own scope p → faults p wanted (BlockTree sp sts e) ≡ [] → Stands w own inner (behind p)
+  stands-last : (own : ℕ) (p : Context) (wanted : Expected) → IsStated w others low high scope sts ss inner → Stands w own scope p → faults p wanted (BlockTree sp sts e) ≡ [] → Stands w own inner (behind p)
   stands-last own p wanted f stands none = stands-behind w names others low high scope inner sp sts e ss f own p stands (statements-none w names others low high scope inner sp sts e ss p wanted none)
 
   pub block-small : (ts : List Step) (s : Symbol) → IsStated w others low high scope sts ss inner → IsSmallStated w names scope sts ss → IsSmallValue w names inner e ts s → IsSmallValue w names scope (BlockTree sp sts e) (ss ++ ts) s

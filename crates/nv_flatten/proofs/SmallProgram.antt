@@ -7,19 +7,19 @@ use Rattle.nv_ast.specs.Tests.{value_at}
 use Rattle.nv_ast.specs.Tree.{FunTree, ProgramTree}
 use Rattle.nv_ast.specs.Types.{words, named_types_of, type_of}
 use Rattle.nv_ast.specs.Sizes.{param_words, body_vars, expanded, group_size, sizes_behind, expanded_size}
-use Rattle.nv_ast.specs.Scope.{Place, nothing_known, param_vars}
-use Rattle.nv_ast.specs.Faults.{Wanted, same_as, main_name, program_faults}
+use Rattle.nv_ast.specs.Scope.{Context, nothing_known, param_vars}
+use Rattle.nv_ast.specs.Faults.{Expected, same_as, main_name, program_faults}
 use Rattle.nv_meaning.specs.Meaning.{function_in}
 use Rattle.flat_ir.specs.declared.flat.FlatFun.{FlatFun}
 use Rattle.nv_base.specs.Measures.{a_label, a_jump, both, IsAtMost, of_size}
 use Rattle.flat_ir.specs.Bulk.{Bulks, code_bulk, function_bulk, sum_bulk, main_bulk, bulk, AreBulks}
 use Rattle.nv_base.proofs.Measures.{most-trans}
 use Rattle.flat_ir.proofs.Bulks.{main-bounded}
-use Rattle.flat_code.specs.inner.Code.{form_or_unit}
-use Rattle.flat_code.specs.inner.Whole.{whole_of, group_of, Stands}
-use Rattle.flat_code.specs.inner.Simulation.{Names}
-use Rattle.flat_code.specs.inner.Made.{params_in, entry}
-use Rattle.flat_code.specs.inner.Small.{of_parts, uses, CallsSmall, Sized, IsSmallFun, AreSmallFuns}
+use Rattle.flat_values.specs.inner.Code.{form_or_unit}
+use Rattle.flat_values.specs.inner.Whole.{whole_of, group_of, Stands}
+use Rattle.flat_values.specs.inner.Simulation.{Names}
+use Rattle.flat_values.specs.inner.Made.{params_in, entry}
+use Rattle.flat_values.specs.inner.Small.{of_parts, uses, CallsSmall, Sized, IsSmallFun, AreSmallFuns}
 use Rattle.nv_flatten.proofs.Entering.{params-types}
 use Rattle.nv_flatten.proofs.GroupWalk.{IsIn}
 use Rattle.nv_flatten.proofs.SmallSizes.{picked, picked-below, part-found, size_at, size_of_group, group_parts, group-total, sized, size-there, size-of}
@@ -51,8 +51,8 @@ module _ (t : ProgramTree) (h : program_faults t ≡ []) (all : Names) (funs : L
       let n = sized t h f g found in
       let d = size_at t n.own in
       let own : n.own ≡ fun.group = same_Some _ _ (sym n.grouped ∙ m.group) in
-      let p : Place = record { known = d.known; vars = param_vars (named_types_of d.known.layouts g.params) []; tail = true } in
-      let wanted : Wanted = same_as (Some (type_of d.known.layouts g.result)) in
+      let p : Context = record { known = d.known; vars = param_vars (named_types_of d.known.layouts g.params) []; tail = true } in
+      let wanted : Expected = same_as (Some (type_of d.known.layouts g.result)) in
       let stands : Stands w n.own (entry w g) p = record { part = n.part; vars = ap (λ ts. param_vars ts []) n.params ∙ sym (params-types 0 (params_in w g) []) } in
       let c : Sized w m.names = record { own = n.own; sizes = d.before; all = all; more = m.more; funs = funs; bulks = bulks_of t; calls = calls-small f g n } in
       let e = expanded d.before d.known (body_vars d.known g) g.body in

@@ -10,9 +10,9 @@ use Rattle.nv_ast.specs.declared.tree.ShiftOp.{ShiftOp}
 use Rattle.nv_ast.specs.Tree.{Tree, NumberTree, TruthTree, VarTree, ParenTree, TupleTree, FieldsTree, DotTree, InvertTree, NegateTree, BinaryTree, ShiftTree, FetchTree, Trees, NamedTrees, StatementTrees}
 use Rattle.nv_ast.specs.Tests.{look_up}
 use Rattle.nv_ast.specs.Types.{Ty, WordTy, BoolTy, words, words_of_value, words_ty}
-use Rattle.nv_ast.specs.Scope.{Place, inside}
+use Rattle.nv_ast.specs.Scope.{Context, inside}
 use Rattle.nv_ast.specs.Typing.{operand_ty, result_ty}
-use Rattle.nv_ast.specs.Faults.{Wanted, a_value, of_type, faults, list_faults, named_faults, node_faults}
+use Rattle.nv_ast.specs.Faults.{Expected, a_value, of_type, faults, list_faults, named_faults, node_faults}
 use Rattle.nv_ast.specs.Sizes.{expanded, expanded_all, expanded_named}
 use Rattle.flat_ir.specs.declared.flat.Flat.{Flat}
 use Rattle.flat_ir.specs.declared.spine.Step.{Step}
@@ -20,19 +20,19 @@ use Rattle.flat_ir.specs.declared.spine.Step.TheVariants.{Let, Fetch, Bind}
 use Rattle.nv_base.specs.Measures.{Bulk, nothing, a_label, a_jump, a_node, both, IsAtMost}
 use Rattle.flat_ir.specs.Bulk.{code_bulk}
 use Rattle.flat_ir.specs.Pieces.{new_vars, steps_bulk}
-use Rattle.flat_code.specs.inner.Code.{variables as var_operands, is_given, form_or_unit, shift_of}
-use Rattle.flat_code.specs.inner.Symbols.{Symbol, Symbols, NamedSymbols, Word, Truth, Tuple, Record, no_named_symbols, named_symbol_and, SymbolScope, operands, all_operands, named_operands, form, fresh, numbers_from, words_symbol, word_operand, truth_operand, fields_of, field_named, symbol_in, vars_of}
-use Rattle.flat_code.specs.inner.Whole.{Whole, Stands}
-use Rattle.flat_code.specs.inner.Simulation.{Names, Extends}
-use Rattle.flat_code.specs.inner.Small.{of_parts, uses, value_rest, Sized, IsSmallValue, AreSmallValues, AreSmallFields, IsSmallStated, IsSmallTest, IsSmallEnd}
-use Rattle.flat_code.proofs.Fresh.{fresh-operands, numbers-length}
-use Rattle.flat_code.proofs.NarrowFacts.{words-of-form}
+use Rattle.flat_values.specs.inner.Code.{variables as var_operands, is_given, form_or_unit, shift_of}
+use Rattle.flat_values.specs.inner.Symbols.{Symbol, Symbols, NamedSymbols, Word, Truth, Tuple, Record, no_named_symbols, named_symbol_and, SymbolScope, operands, all_operands, named_operands, form, fresh, numbers_from, words_symbol, word_operand, truth_operand, fields_of, field_named, symbol_in, vars_of}
+use Rattle.flat_values.specs.inner.Whole.{Whole, Stands}
+use Rattle.flat_values.specs.inner.Simulation.{Names, Extends}
+use Rattle.flat_values.specs.inner.Small.{of_parts, uses, value_rest, Sized, IsSmallValue, AreSmallValues, AreSmallFields, IsSmallStated, IsSmallTest, IsSmallEnd}
+use Rattle.flat_values.proofs.Fresh.{fresh-operands, numbers-length}
+use Rattle.flat_values.proofs.NarrowFacts.{words-of-form}
 use Rattle.nv_flatten.proofs.NarrowValues.{result-words}
 use Rattle.nv_flatten.proofs.SmallBulks.{then-most, paid, stay-most, let-most, most-alone, most-words, bound-most, operands-most, steps-then}
-use Rattle.flat_code.proofs.PackedWords.{symbol-operands}
-use Rattle.flat_code.proofs.Following.{stands-inside}
-use Rattle.flat_code.proofs.Keeping.{extends-then}
-use Rattle.flat_code.proofs.WellBasics.{words-ty-words}
+use Rattle.flat_values.proofs.PackedWords.{symbol-operands}
+use Rattle.flat_values.proofs.Following.{stands-inside}
+use Rattle.flat_values.proofs.Keeping.{extends-then}
+use Rattle.flat_values.proofs.WellBasics.{words-ty-words}
 use Rattle.nv_ast.proofs.Faultless.{no_front, no_rest}
 
 -- ---- further names
@@ -89,11 +89,11 @@ variables-length (x ∷ xs) = ap suc (variables-length xs)
 fresh-length : (n : ℕ) (t : Ty) → length (operands (fresh n t)) ≡ words t
 fresh-length n t = ap length (fresh-operands n t) ∙ variables-length (numbers_from n (words t)) ∙ numbers-length n (words t)
 
--- ---- the bulk of steps, the size of an expression, and what is left behind its value
+-- ---- the bulk of steps, the size of an expression, and what is left after its value
 abbrev pub of_steps : {w : Whole} {names : Names} → Sized w names → List Step → Bulk
 of_steps c ss = steps_bulk c.funs c.bulks c.own ss nothing
 
-abbrev pub size_of : {w : Whole} {names : Names} → Sized w names → Place → Tree → ℕ
+abbrev pub size_of : {w : Whole} {names : Names} → Sized w names → Context → Tree → ℕ
 size_of c p e = expanded c.sizes p.known p.vars e
 
 abbrev pub behind_value : Tree → Symbol → Bulk
@@ -147,7 +147,7 @@ module _ (w : Whole) (names : Names) (scope : SymbolScope) where
   }
 
   -- a primitive of one operand
-  one-let : (c : Sized w names) (p : Place) (a e : Tree) (ss : List Step) (s : Symbol) (x : ℕ) (q : Primitive) → IsAtMost (both (of_steps c ss) (behind_value a s)) (of_parts (size_of c p a)) → 2 + size_of c p a ≤ size_of c p e
+  one-let : (c : Sized w names) (p : Context) (a e : Tree) (ss : List Step) (s : Symbol) (x : ℕ) (q : Primitive) → IsAtMost (both (of_steps c ss) (behind_value a s)) (of_parts (size_of c p a)) → 2 + size_of c p a ≤ size_of c p e
       → IsAtMost (both (of_steps c (ss ++ Let x q ∷ [])) (both (value_rest e) (uses 1))) (of_parts (size_of c p e))
   one-let c p a e ss s x q v le = let-most (of_steps c (ss ++ Let x q ∷ [])) (of_steps c ss) (behind_value a s) e (size_of c p a) (size_of c p e) (steps-then c.funs c.bulks c.own ss (Let x q ∷ [])) v le
 
@@ -181,7 +181,7 @@ module _ (w : Whole) (names : Names) (scope : SymbolScope) where
   }
 
   -- the steps of two operands of an operator
-  pub operands-small : (c : Sized w names) (p : Place) (wanted : Wanted) (sp : Span) (op : Op) (a b : Tree) (ss ts : List Step) (s u : Symbol) → IsSmallValue w names scope a ss s → IsSmallValue w names scope b ts u → Stands w c.own scope p → faults p wanted (BinaryTree sp op a b) ≡ []
+  pub operands-small : (c : Sized w names) (p : Context) (wanted : Expected) (sp : Span) (op : Op) (a b : Tree) (ss ts : List Step) (s u : Symbol) → IsSmallValue w names scope a ss s → IsSmallValue w names scope b ts u → Stands w c.own scope p → faults p wanted (BinaryTree sp op a b) ≡ []
       → IsAtMost (of_steps c (ss ++ ts)) (of_parts (size_of c p a + size_of c p b))
   operands-small c p wanted sp op a b ss ts s u v t stands none =
       let right = of_type (operand_ty op) in

@@ -10,24 +10,24 @@ use Rattle.nv_ast.specs.declared.tree.Stmt.{Stmt}
 use Rattle.nv_ast.specs.ExprView.{list_statements, statement_tree}
 use Rattle.nv_ast.specs.Tree.{Tree, BlockTree, PatternTree, StatementTree, LetStatement, StoreStatement, StatementTrees, no_statements, statement_and}
 use Rattle.nv_ast.specs.Types.{Ty, WordTy, words, words_of_value}
-use Rattle.nv_ast.specs.Scope.{Place, inside, with_vars, bind, bind_value, names_in}
+use Rattle.nv_ast.specs.Scope.{Context, inside, with_vars, bind, bind_value, names_in}
 use Rattle.nv_ast.specs.Typing.{type_at, vars_after, vars_behind}
-use Rattle.nv_ast.specs.Faults.{Fault, Wanted, faults, statement_faults, statements_faults, node_faults, at_span, a_value, anything, of_type, wanted_stored, variable_twice, not_fitting, can_move, wrong_access, wrong_scratch}
+use Rattle.nv_ast.specs.Faults.{Fault, Expected, faults, statement_faults, statements_faults, node_faults, at_span, a_value, anything, of_type, expected_stored, variable_twice, not_fitting, can_move, wrong_access, wrong_scratch}
 use Rattle.nv_meaning.specs.Values.{Value, Scope, word_of, words_of, matched}
-use Rattle.nv_meaning.specs.Running.{Running, Result, Gives, Raises, Stops, Stated, GoesOn, StopsAt, and_further, then_stated, after_store, store}
+use Rattle.nv_meaning.specs.Running.{Running, Result, Gives, Raises, Halts, Stated, GoesOn, StopsAt, and_further, then_stated, after_store, store}
 use Rattle.nv_meaning.specs.Meaning.{eval, run_one, run_all}
 use Rattle.flat_ir.specs.Running as flat
 use Rattle.flat_ir.specs.Meaning as code
 use Rattle.flat_ir.specs.Spine.{Act, step_does, steps_do}
 use Rattle.flat_ir.specs.declared.spine.Step.{Step}
-use Rattle.flat_code.specs.inner.Symbols.{Symbol, SymbolScope, operands, value_in, Fits, word_operand, ScopeFits, scope_in, vars_of, bound}
-use Rattle.flat_code.specs.inner.Runs.{flat_run, onward}
-use Rattle.flat_code.specs.inner.Whole.{Whole, Stands}
-use Rattle.flat_code.specs.inner.Simulation.{Names, Extends, Done, IsValue, IsStated, onward_stated}
-use Rattle.flat_code.proofs.Keeping.{scope-later, keeps-value, keeps-scope, keeps-scope_fits, begins-then, begins-done, done-then, words-fit, are-words, extends-itself, extends-then}
-use Rattle.flat_code.proofs.Fresh.{bound-values, bound-types, bound-fits, bound-older}
-use Rattle.flat_code.proofs.NoFaults.{value-has-type}
-use Rattle.flat_code.proofs.Following.{onward-stated, onward-further, steps-then, stands-inside, fewer, word-of}
+use Rattle.flat_values.specs.inner.Symbols.{Symbol, SymbolScope, operands, value_in, Fits, word_operand, ScopeFits, scope_in, vars_of, bound}
+use Rattle.flat_values.specs.inner.Runs.{flat_run, onward}
+use Rattle.flat_values.specs.inner.Whole.{Whole, Stands}
+use Rattle.flat_values.specs.inner.Simulation.{Names, Extends, Done, IsValue, IsStated, onward_stated}
+use Rattle.flat_values.proofs.Keeping.{scope-later, keeps-value, keeps-scope, keeps-scope_fits, begins-then, begins-done, done-then, words-fit, are-words, extends-itself, extends-then}
+use Rattle.flat_values.proofs.Fresh.{bound-values, bound-types, bound-fits, bound-older}
+use Rattle.flat_values.proofs.NoFaults.{value-has-type}
+use Rattle.flat_values.proofs.Following.{onward-stated, onward-further, steps-then, stands-inside, fewer, word-of}
 use Rattle.nv_flatten.proofs.AccessArms.{operands-count}
 use Rattle.nv_base.proofs.WordLemmas.{length-words}
 use Rattle.nv_ast.proofs.Faultless.{no_front, no_rest, no_kinds}
@@ -41,14 +41,14 @@ onward-alone (StopsAt how) next never = refl
 onward-then_stated : (r : Result) (k : Value → Running → Stated) (next : Scope → Running → flat.Result) (never : Value → Running → flat.Result) → onward_stated (then_stated r k) next never ≡ onward r (λ v now. onward_stated (k v now) next never)
 onward-then_stated (Gives v now) k next never = refl
 onward-then_stated (Raises j vs now) k next never = refl
-onward-then_stated (Stops how now) k next never = refl
+onward-then_stated (Halts how now) k next never = refl
 
 -- ---- a let
 module _ (w : Whole) (names : Names) (low high : ℕ) (scope : SymbolScope) (sp : Span) (q : PatternTree) (e : Tree) (steps : List Step) (s : Symbol) where
   abbrev the_let : StatementTrees
   the_let = statement_and (LetStatement sp q e) no_statements
 
-  let-clean : (p : Place) → statements_faults p the_let ≡ [] → faults p a_value e ≡ []
+  let-clean : (p : Context) → statements_faults p the_let ≡ [] → faults p a_value e ≡ []
   let-clean p none =
       let fit = at_span sp (variable_twice (names_in q) ++ not_fitting q (type_at p.known p.vars e)) in
       no_front (faults p a_value e) fit (no_front (faults p a_value e ++ fit) [] none)
@@ -95,25 +95,25 @@ module _ (w : Whole) (names more : Names) (low mid high : ℕ) (scope : SymbolSc
   abbrev the_store : StatementTrees
   the_store = statement_and (StoreStatement sp m a e) no_statements
 
-  abbrev access_faults : Place → List Fault
+  abbrev access_faults : Context → List Fault
   access_faults p = at_span sp (wrong_access m (words_of_value (type_at p.known p.vars e)) ++ wrong_scratch m a (words_of_value (type_at p.known p.vars e)))
 
-  store-none : (p : Place) → statements_faults p the_store ≡ [] → faults p (of_type WordTy) a ++ (faults p wanted_stored e ++ access_faults p) ≡ []
-  store-none p none = no_front (faults p (of_type WordTy) a ++ (faults p wanted_stored e ++ access_faults p)) [] none
+  store-none : (p : Context) → statements_faults p the_store ≡ [] → faults p (of_type WordTy) a ++ (faults p expected_stored e ++ access_faults p) ≡ []
+  store-none p none = no_front (faults p (of_type WordTy) a ++ (faults p expected_stored e ++ access_faults p)) [] none
 
-  address-clean : (p : Place) → statements_faults p the_store ≡ [] → faults p (of_type WordTy) a ≡ []
-  address-clean p none = no_front (faults p (of_type WordTy) a) (faults p wanted_stored e ++ access_faults p) (store-none p none)
+  address-clean : (p : Context) → statements_faults p the_store ≡ [] → faults p (of_type WordTy) a ≡ []
+  address-clean p none = no_front (faults p (of_type WordTy) a) (faults p expected_stored e ++ access_faults p) (store-none p none)
 
-  behind-address : (p : Place) → statements_faults p the_store ≡ [] → faults p wanted_stored e ++ access_faults p ≡ []
-  behind-address p none = no_rest (faults p (of_type WordTy) a) (faults p wanted_stored e ++ access_faults p) (store-none p none)
+  behind-address : (p : Context) → statements_faults p the_store ≡ [] → faults p expected_stored e ++ access_faults p ≡ []
+  behind-address p none = no_rest (faults p (of_type WordTy) a) (faults p expected_stored e ++ access_faults p) (store-none p none)
 
-  value-clean : (p : Place) → statements_faults p the_store ≡ [] → faults p wanted_stored e ≡ []
-  value-clean p none = no_front (faults p wanted_stored e) (access_faults p) (behind-address p none)
+  value-clean : (p : Context) → statements_faults p the_store ≡ [] → faults p expected_stored e ≡ []
+  value-clean p none = no_front (faults p expected_stored e) (access_faults p) (behind-address p none)
 
-  moves-words : (p : Place) (t : Ty) → statements_faults p the_store ≡ [] → type_at p.known p.vars e ≡ Some t → can_move m (words t) ≡ true
+  moves-words : (p : Context) (t : Ty) → statements_faults p the_store ≡ [] → type_at p.known p.vars e ≡ Some t → can_move m (words t) ≡ true
   moves-words p t none is =
       let n = words_of_value (type_at p.known p.vars e) in
-      let kinds = no_kinds sp (wrong_access m n ++ wrong_scratch m a n) (no_rest (faults p wanted_stored e) (access_faults p) (behind-address p none)) in
+      let kinds = no_kinds sp (wrong_access m n ++ wrong_scratch m a n) (no_rest (faults p expected_stored e) (access_faults p) (behind-address p none)) in
       ap (λ o. can_move m (words_of_value o)) (sym is) ∙ (where_not (can_move m n) 19 (no_front (wrong_access m n) (wrong_scratch m a n) kinds))
 
   pub store-stated : StoresTo m (word_operand s) (operands u) step → Extends names more → low ≤ mid → mid ≤ high → IsValue w names low mid scope a ss s → IsValue w more mid high scope e ts u
@@ -130,15 +130,15 @@ module _ (w : Whole) (names more : Names) (low mid high : ℕ) (scope : SymbolSc
         (λ new last done.
         let x = value_in new s in
         steps-then c.fcall ts last_step rest new (flat_run last)
-        ∙ v'.simulates.by own p wanted_stored stands (value-clean p none) (scope-later low mid scope le o) c new last (begins-then low env new scope now last (Fits new s) o begins done) (steps_do c.fcall last_step rest) (λ y end. onward_stated (right x y end) next never)
+        ∙ v'.simulates.by own p expected_stored stands (value-clean p none) (scope-later low mid scope le o) c new last (begins-then low env new scope now last (Fits new s) o begins done) (steps_do c.fcall last_step rest) (λ y end. onward_stated (right x y end) next never)
         (λ after end done'.
         let kept = keeps-value mid new after s done'.keeps (v.older o) in
         let y = value_in after u in
         let at = atom_word after (word_operand s) in
         let spelled = words-fit after u done'.fits in
         let both = done-then low mid env new after (Fits new s) (Fits after u) last end le done done' in
-        let t = value-has-type p wanted_stored e refl (value-clean p none) in
-        let count : length (words_of y) ≡ words t.0 = ap length spelled ∙ length-words after (operands u) ∙ operands-count u ∙ ap words (v'.formed.by own p wanted_stored stands (value-clean p none) t.0 t.1) in
+        let t = value-has-type p expected_stored e refl (value-clean p none) in
+        let count : length (words_of y) ≡ words t.0 = ap length spelled ∙ length-words after (operands u) ∙ operands-count u ∙ ap words (v'.formed.by own p expected_stored stands (value-clean p none) t.0 t.1) in
         let moves : can_move m (length (words_of y)) ≡ true = ap (can_move m) count ∙ moves-words p t.0 none t.1 in
         stores c.fcall rest after (flat_run end)
         ∙ ap (λ l. flat.store m at l (flat_run end) (λ now'. rest after now')) (sym spelled)
@@ -180,13 +180,13 @@ module _ (w : Whole) (names more : Names) (low mid high : ℕ) (scope inner : Sy
     older = λ o. v'.older (v.older o);
   }
     where
-      first-clean : (p : Place) → statements_faults p (statement_and st sts) ≡ [] → statements_faults p (statement_and st no_statements) ≡ []
+      first-clean : (p : Context) → statements_faults p (statement_and st sts) ≡ [] → statements_faults p (statement_and st no_statements) ≡ []
       first-clean p none = append-nil (statement_faults p st) ∙ no_front (statement_faults p st) (statements_faults (with_vars (vars_after p.known p.vars st) p) sts) none
 
-      others-clean : (p : Place) → statements_faults p (statement_and st sts) ≡ [] → statements_faults (with_vars (vars_after p.known p.vars st) p) sts ≡ []
+      others-clean : (p : Context) → statements_faults p (statement_and st sts) ≡ [] → statements_faults (with_vars (vars_after p.known p.vars st) p) sts ≡ []
       others-clean p none = no_rest (statement_faults p st) (statements_faults (with_vars (vars_after p.known p.vars st) p) sts) none
 
-      stands-behind : (own : ℕ) (p : Place) → Stands w own scope p → statements_faults p (statement_and st sts) ≡ [] → Stands w own inner (with_vars (vars_after p.known p.vars st) p)
+      stands-behind : (own : ℕ) (p : Context) → Stands w own scope p → statements_faults p (statement_and st sts) ≡ [] → Stands w own inner (with_vars (vars_after p.known p.vars st) p)
       stands-behind own p stands none = record { part = stands.part; vars = v.formed own p stands (first-clean p none) }
 
 -- ---- the loop: what the statements so far came to, and the rest
@@ -229,13 +229,13 @@ module _ (w : Whole) (names more : Names) (low mid high : ℕ) (scope inner : Sy
     older = λ o. v'.older (v.older o);
   }
     where
-      statements-clean : (p : Place) (wanted : Wanted) → faults p wanted (BlockTree sp sts e) ≡ [] → statements_faults (inside p) sts ≡ []
+      statements-clean : (p : Context) (wanted : Expected) → faults p wanted (BlockTree sp sts e) ≡ [] → statements_faults (inside p) sts ≡ []
       statements-clean p wanted none = no_front (statements_faults (inside p) sts) (faults (with_vars (vars_behind p.known p.vars sts) p) anything e ++ node_faults p wanted (BlockTree sp sts e)) none
 
-      last-clean : (p : Place) (wanted : Wanted) → faults p wanted (BlockTree sp sts e) ≡ [] → faults (with_vars (vars_behind p.known p.vars sts) p) anything e ≡ []
+      last-clean : (p : Context) (wanted : Expected) → faults p wanted (BlockTree sp sts e) ≡ [] → faults (with_vars (vars_behind p.known p.vars sts) p) anything e ≡ []
       last-clean p wanted none =
           no_front (faults (with_vars (vars_behind p.known p.vars sts) p) anything e) (node_faults p wanted (BlockTree sp sts e))
           (no_rest (statements_faults (inside p) sts) (faults (with_vars (vars_behind p.known p.vars sts) p) anything e ++ node_faults p wanted (BlockTree sp sts e)) none)
 
-      stands-behind : (own : ℕ) (p : Place) (wanted : Wanted) → Stands w own scope p → faults p wanted (BlockTree sp sts e) ≡ [] → Stands w own inner (with_vars (vars_behind p.known p.vars sts) p)
+      stands-behind : (own : ℕ) (p : Context) (wanted : Expected) → Stands w own scope p → faults p wanted (BlockTree sp sts e) ≡ [] → Stands w own inner (with_vars (vars_behind p.known p.vars sts) p)
       stands-behind own p wanted stands none = record { part = stands.part; vars = v.formed own (inside p) (stands-inside w own scope p stands) (statements-clean p wanted none) }

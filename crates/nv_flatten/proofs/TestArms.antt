@@ -12,31 +12,31 @@ use Rattle.nv_ast.specs.declared.tree.Op.{Op}
 use Rattle.nv_ast.specs.declared.tree.Op.TheVariants.{Add, Sub, And, Or, Xor, Eq, Ne, Lt, Le, Gt, Ge, Both, Either}
 use Rattle.nv_ast.specs.Tree.{Tree, ParenTree, NegateTree, BinaryTree}
 use Rattle.nv_ast.specs.Types.{WordTy, BoolTy}
-use Rattle.nv_ast.specs.Scope.{Place, inside}
+use Rattle.nv_ast.specs.Scope.{Context, inside}
 use Rattle.nv_ast.specs.Typing.{operand_ty}
-use Rattle.nv_ast.specs.Faults.{Wanted, a_value, of_type, faults, node_faults}
+use Rattle.nv_ast.specs.Faults.{Expected, a_value, of_type, faults, node_faults}
 use Rattle.nv_meaning.specs.Values.{Value, word_of, truth_of}
 use Rattle.nv_meaning.specs.Values as meaning
-use Rattle.nv_meaning.specs.Running.{Running, Result, Gives, Raises, Stops, and_then}
+use Rattle.nv_meaning.specs.Running.{Running, Result, Gives, Raises, Halts, and_then}
 use Rattle.nv_meaning.specs.Meaning.{eval, binary, combined}
 use Rattle.flat_ir.specs.Running as flat
 use Rattle.flat_ir.specs.Spine.{Act, steps_do}
 use Rattle.flat_ir.specs.declared.spine.Step.{Step}
-use Rattle.flat_code.specs.inner.Symbols.{Symbol, Word, Truth, Tuple, Record, SymbolScope, operands, form, value_in, scope_in, Fits, IsOlder, AreOlder, ScopeOlder, word_operand, truth_operand}
-use Rattle.flat_code.specs.inner.Code.{comparison_of}
-use Rattle.flat_code.specs.inner.Runs.{flat_run, onward}
-use Rattle.flat_code.specs.inner.Whole.{Whole, Stands}
-use Rattle.flat_code.specs.inner.Simulation.{Names, Extends, Setting, Begins, Done, IsValue, IsTest}
-use Rattle.flat_code.proofs.Keeping.{older-later, scope-later, keeps-then, keeps-value, keeps-fit, keeps-scope, begins-then, extends-then}
-use Rattle.flat_code.proofs.NoFaults.{wanted-type}
-use Rattle.flat_code.proofs.Following.{onward-then, steps-then, stands-inside, value-more, word-of}
+use Rattle.flat_values.specs.inner.Symbols.{Symbol, Word, Truth, Tuple, Record, SymbolScope, operands, form, value_in, scope_in, Fits, IsOlder, AreOlder, ScopeOlder, word_operand, truth_operand}
+use Rattle.flat_values.specs.inner.Code.{comparison_of}
+use Rattle.flat_values.specs.inner.Runs.{flat_run, onward}
+use Rattle.flat_values.specs.inner.Whole.{Whole, Stands}
+use Rattle.flat_values.specs.inner.Simulation.{Names, Extends, Setting, Begins, Done, IsValue, IsTest}
+use Rattle.flat_values.proofs.Keeping.{older-later, scope-later, keeps-then, keeps-value, keeps-fit, keeps-scope, begins-then, extends-then}
+use Rattle.flat_values.proofs.NoFaults.{wanted-type}
+use Rattle.flat_values.proofs.Following.{onward-then, steps-then, stands-inside, value-more, word-of}
 use Rattle.nv_ast.proofs.Faultless.{no_front, no_rest}
 
 -- ---- what follows a value, equal at each
 pub onward-same : (r : Result) (f g : Value → Running → flat.Result) → ((v : Value) (now : Running) → f v now ≡ g v now) → onward r f ≡ onward r g
 onward-same (Gives v now) f g h = h v now
 onward-same (Raises k vs now) f g h = refl
-onward-same (Stops how now) f g h = refl
+onward-same (Halts how now) f g h = refl
 
 -- ---- operands
 pub word-older : (n : ℕ) (s : Symbol) → AreOlder n (operands s) → IsOlder n (word_operand s)
@@ -135,7 +135,7 @@ picked-older n false a b p q = q
 -- ---- two values, one after the other
 pub two-values : (w : Whole) (names : Names) (low mid high : ℕ) (scope : SymbolScope) (a b : Tree) (ss ts : List Step) (s u : Symbol)
     → IsValue w names low mid scope a ss s → IsValue w names mid high scope b ts u → low ≤ mid
-    → (own : ℕ) (p : Place) (wa wb : Wanted) → Stands w own scope p → faults p wa a ≡ [] → faults p wb b ≡ [] → ScopeOlder low scope
+    → (own : ℕ) (p : Context) (wa wb : Expected) → Stands w own scope p → faults p wa a ≡ [] → faults p wb b ≡ [] → ScopeOlder low scope
     → (c : Setting w names) (env : Env) (now : Running) → Begins env scope now
     → (rest : Act) (next : Value → Value → Running → flat.Result)
     → ((new : Env) (last : Running) → Done low env new (Fits new s × Fits new u) last → rest new (flat_run last) ≡ next (value_in new s) (value_in new u) last)

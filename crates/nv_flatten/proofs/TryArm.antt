@@ -8,25 +8,25 @@ use Rattle.nv_ast.specs.declared.token.Span.{Span}
 use Rattle.nv_ast.specs.Tree.{Tree, TryTree, PatternTrees}
 use Rattle.nv_ast.specs.Types.{Ty, Tys, no_tys, total_words}
 use Rattle.nv_ast.specs.Tests.{look_up}
-use Rattle.nv_ast.specs.Scope.{Place, inside, with_vars, bind_all, bind_raised, names_in_all}
+use Rattle.nv_ast.specs.Scope.{Context, inside, with_vars, bind_all, bind_raised, names_in_all}
 use Rattle.nv_ast.specs.Typing.{type_at, or_ty}
-use Rattle.nv_ast.specs.Faults.{Wanted, anything, same_as, at_span, faults, node_faults, raised_kinds, variable_twice, wrong_number_of_patterns, not_all_fitting, unknown_exception}
+use Rattle.nv_ast.specs.Faults.{Expected, anything, same_as, at_span, faults, node_faults, raised_kinds, variable_twice, wrong_number_of_patterns, not_all_fitting, unknown_exception}
 use Rattle.nv_meaning.specs.Values.{Values, all_words, all_matched}
-use Rattle.nv_meaning.specs.Running.{Running, Result, Gives, Raises, Stops, handled, exception_number}
+use Rattle.nv_meaning.specs.Running.{Running, Result, Gives, Raises, Halts, handled, exception_number}
 use Rattle.nv_meaning.specs.Meaning.{eval}
 use Rattle.flat_ir.specs.Running as flat
 use Rattle.flat_ir.specs.Meaning as code
 use Rattle.flat_ir.specs.declared.flat.Flat.{Flat}
-use Rattle.flat_code.specs.inner.Symbols.{Symbol, Symbols, SymbolScope, form, vars_of, scope_in, ScopeOlder, all_fresh, all_bound, numbers_from}
-use Rattle.flat_code.specs.inner.Runs.{flat_run, ended}
-use Rattle.flat_code.specs.inner.Soundness.{ComesTo, AreWords, value_tys}
-use Rattle.flat_code.specs.inner.Whole.{Whole, Stands, raised_tys, raised_or_none}
-use Rattle.flat_code.specs.inner.Simulation.{Names, Extends, Begins, IsEnd}
-use Rattle.flat_code.proofs.Keeping.{scope-later, keeps-scope, keeps-scope_fits, types-of-scope, scope-words}
-use Rattle.flat_code.proofs.Fresh.{fresh-forms, all-fresh-older, numbers-keep, fresh-values, all-fresh-fit, all-bound-values, all-bound-types, all-bound-fit, all-bound-older}
-use Rattle.flat_code.proofs.Sound.{typed-eval}
-use Rattle.flat_code.proofs.NoFaults.{given}
-use Rattle.flat_code.proofs.Following.{stands-inside}
+use Rattle.flat_values.specs.inner.Symbols.{Symbol, Symbols, SymbolScope, form, vars_of, scope_in, ScopeOlder, all_fresh, all_bound, numbers_from}
+use Rattle.flat_values.specs.inner.Runs.{flat_run, ended}
+use Rattle.flat_values.specs.inner.Soundness.{ComesTo, AreWords, value_tys}
+use Rattle.flat_values.specs.inner.Whole.{Whole, Stands, raised_tys, raised_or_none}
+use Rattle.flat_values.specs.inner.Simulation.{Names, Extends, Begins, IsEnd}
+use Rattle.flat_values.proofs.Keeping.{scope-later, keeps-scope, keeps-scope_fits, types-of-scope, scope-words}
+use Rattle.flat_values.proofs.Fresh.{fresh-forms, all-fresh-older, numbers-keep, fresh-values, all-fresh-fit, all-bound-values, all-bound-types, all-bound-fit, all-bound-older}
+use Rattle.flat_values.proofs.Sound.{typed-eval}
+use Rattle.flat_values.proofs.NoFaults.{given}
+use Rattle.flat_values.proofs.Following.{stands-inside}
 use Rattle.nv_flatten.proofs.EndArms.{end-more, first-form}
 use Rattle.nv_ast.proofs.Faultless.{no_front, no_rest, no_kinds, not_where}
 
@@ -41,7 +41,7 @@ module _ (w : Whole) (k : ℕ) (h : List ℕ → flat.Running → flat.Result) (
   handled-run : (t : Option Ty) (r : Result) → ComesTo w t r → flat.handled k h (ended r) ≡ ended (handled k handler r)
   handled-run t (Gives v now) c = refl
   handled-run t (Raises j vs now) c = raised-run j vs now c.0 c.1 c.2 (j == k) refl
-  handled-run t (Stops how now) c = refl
+  handled-run t (Halts how now) c = refl
 
 -- new variables with the words of an exception's values, taken apart by patterns
 caught-values : (mid : ℕ) (env : Env) (ps : PatternTrees) (scope : SymbolScope) (second : Env → Running → flat.Result) (handler : _ → Running → Result) (vs : Values) (last : Running)
@@ -61,7 +61,7 @@ caught-values mid env ps scope second handler vs last older begins fit sizes ts 
     ∙ ap (λ sc. all_matched ps vs sc) (keeps-scope mid env new scope keep older)))
 
 -- the exception of a try without faults
-record IsCaught (w : Whole) (p : Place) (x : List ℕ) : Type 0 where
+record IsCaught (w : Whole) (p : Context) (x : List ℕ) : Type 0 where
   pub types : Tys
   pub found : look_up x p.known.exceptions ≡ Some types
   pub raised : raised_or_none w (exception_number w.declared.exceptions x) ≡ types
@@ -76,29 +76,29 @@ module _ (w : Whole) (names : Names) (low mid high : ℕ) (scope : SymbolScope) 
   abbrev inner : SymbolScope
   inner = all_bound ps (all_fresh mid (raised_or_none w (exception_number w.declared.exceptions x))) scope
 
-  none-body : (p : Place) (wanted : Wanted) → faults p wanted (TryTree sp a x ps h) ≡ [] → faults (inside p) anything a ≡ []
+  none-body : (p : Context) (wanted : Expected) → faults p wanted (TryTree sp a x ps h) ≡ [] → faults (inside p) anything a ≡ []
   none-body p wanted none = no_front (faults (inside p) anything a) (at_span sp (raised_kinds p.known x ps) ++ (faults (with_vars (bind_raised ps (look_up x p.known.exceptions) p.vars) p) (same_as (type_at p.known p.vars a)) h ++ node_faults p wanted (TryTree sp a x ps h))) none
 
-  none-rest : (p : Place) (wanted : Wanted) → faults p wanted (TryTree sp a x ps h) ≡ [] → at_span sp (raised_kinds p.known x ps) ++ (faults (with_vars (bind_raised ps (look_up x p.known.exceptions) p.vars) p) (same_as (type_at p.known p.vars a)) h ++ node_faults p wanted (TryTree sp a x ps h)) ≡ []
+  none-rest : (p : Context) (wanted : Expected) → faults p wanted (TryTree sp a x ps h) ≡ [] → at_span sp (raised_kinds p.known x ps) ++ (faults (with_vars (bind_raised ps (look_up x p.known.exceptions) p.vars) p) (same_as (type_at p.known p.vars a)) h ++ node_faults p wanted (TryTree sp a x ps h)) ≡ []
   none-rest p wanted none = no_rest (faults (inside p) anything a) (at_span sp (raised_kinds p.known x ps) ++ (faults (with_vars (bind_raised ps (look_up x p.known.exceptions) p.vars) p) (same_as (type_at p.known p.vars a)) h ++ node_faults p wanted (TryTree sp a x ps h))) none
 
-  none-handler : (p : Place) (wanted : Wanted) → faults p wanted (TryTree sp a x ps h) ≡ [] → faults (with_vars (bind_raised ps (look_up x p.known.exceptions) p.vars) p) (same_as (type_at p.known p.vars a)) h ≡ []
+  none-handler : (p : Context) (wanted : Expected) → faults p wanted (TryTree sp a x ps h) ≡ [] → faults (with_vars (bind_raised ps (look_up x p.known.exceptions) p.vars) p) (same_as (type_at p.known p.vars a)) h ≡ []
   none-handler p wanted none = no_front (faults (with_vars (bind_raised ps (look_up x p.known.exceptions) p.vars) p) (same_as (type_at p.known p.vars a)) h) (node_faults p wanted (TryTree sp a x ps h))
       (no_rest (at_span sp (raised_kinds p.known x ps)) (faults (with_vars (bind_raised ps (look_up x p.known.exceptions) p.vars) p) (same_as (type_at p.known p.vars a)) h ++ node_faults p wanted (TryTree sp a x ps h)) (none-rest p wanted none))
 
-  none-unknown : (p : Place) (wanted : Wanted) → faults p wanted (TryTree sp a x ps h) ≡ [] → unknown_exception p.known x ≡ []
+  none-unknown : (p : Context) (wanted : Expected) → faults p wanted (TryTree sp a x ps h) ≡ [] → unknown_exception p.known x ≡ []
   none-unknown p wanted none =
       no_rest (not_all_fitting ps (look_up x p.known.exceptions)) (unknown_exception p.known x)
       (no_rest (wrong_number_of_patterns (look_up x p.known.exceptions) ps) (not_all_fitting ps (look_up x p.known.exceptions) ++ unknown_exception p.known x)
       (no_rest (variable_twice (names_in_all ps)) (wrong_number_of_patterns (look_up x p.known.exceptions) ps ++ (not_all_fitting ps (look_up x p.known.exceptions) ++ unknown_exception p.known x))
       (no_kinds sp (raised_kinds p.known x ps) (no_front (at_span sp (raised_kinds p.known x ps)) (faults (with_vars (bind_raised ps (look_up x p.known.exceptions) p.vars) p) (same_as (type_at p.known p.vars a)) h ++ node_faults p wanted (TryTree sp a x ps h)) (none-rest p wanted none)))))
 
-  caught : (own : ℕ) (p : Place) (wanted : Wanted) → Stands w own scope p → faults p wanted (TryTree sp a x ps h) ≡ [] → IsCaught w p x
+  caught : (own : ℕ) (p : Context) (wanted : Expected) → Stands w own scope p → faults p wanted (TryTree sp a x ps h) ≡ [] → IsCaught w p x
   caught own p wanted stands none =
       let q = given (look_up x p.known.exceptions) (not_where (is_none (look_up x p.known.exceptions)) 17 (none-unknown p wanted none)) in
       record { types = q.0; found = q.1; raised = ap (λ r. unwrap_or r no_tys) (stands.part.exceptions x q.0 q.1) }
 
-  stands-handler : (own : ℕ) (p : Place) (wanted : Wanted) → Stands w own scope p → faults p wanted (TryTree sp a x ps h) ≡ [] → Stands w own inner (with_vars (bind_raised ps (look_up x p.known.exceptions) p.vars) p)
+  stands-handler : (own : ℕ) (p : Context) (wanted : Expected) → Stands w own scope p → faults p wanted (TryTree sp a x ps h) ≡ [] → Stands w own inner (with_vars (bind_raised ps (look_up x p.known.exceptions) p.vars) p)
   stands-handler own p wanted stands none =
       let c = caught own p wanted stands none in
       record {

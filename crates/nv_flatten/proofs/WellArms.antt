@@ -16,30 +16,30 @@ use Rattle.nv_ast.specs.Outline.{outline, IsSound}
 use Rattle.nv_ast.specs.Tree.{NamedLayout, Tree, NumberTree, TruthTree, VarTree, ParenTree, TupleTree, FieldsTree, DotTree, InvertTree, NegateTree, BinaryTree, ShiftTree, UnpackTree, PackTree, FetchTree, BlockTree, Trees, NamedTrees, StatementTrees}
 use Rattle.nv_ast.specs.Tests.{is_among, names_of, look_up}
 use Rattle.nv_ast.specs.Types.{WordTy, BoolTy, words, packed_words, packed_ty, can_pack, form_of}
-use Rattle.nv_ast.specs.Scope.{Place, inside, with_vars}
+use Rattle.nv_ast.specs.Scope.{Context, inside, with_vars}
 use Rattle.nv_ast.specs.Typing.{vars_behind, operand_ty}
-use Rattle.nv_ast.specs.Faults.{a_value, of_type, anything, wanted_packed, wanted_unpacked, faults, list_faults, named_faults, statements_faults, wrong_access, wrong_scratch, can_move}
+use Rattle.nv_ast.specs.Faults.{a_value, of_type, anything, expected_packed, expected_unpacked, faults, list_faults, named_faults, statements_faults, wrong_access, wrong_scratch, can_move}
 use Rattle.flat_ir.specs.declared.spine.Step.{Step}
 use Rattle.flat_ir.specs.declared.spine.Step.TheVariants.{Let, Fetch}
 use Rattle.nv_base.specs.Access as flat
 use Rattle.nv_base.specs.Access.{is_known, all_known, is_primitive}
-use Rattle.flat_code.specs.inner.Code.{shift_of, variables}
-use Rattle.flat_code.specs.inner.Symbols.{Symbol, Symbols, NamedSymbols, SymbolScope, Word, Truth, Tuple, Record, operands, form, word_operand, truth_operand, fields_of, field_named, symbol_in, numbers_from, words_symbol, vars_of}
-use Rattle.flat_code.specs.inner.Simulation.{Names, Extends, HasForm}
-use Rattle.flat_code.specs.inner.Whole.{Whole, Stands}
-use Rattle.flat_code.specs.inner.Well.{ScopeKnown, Rises, WellSteps, Knows, IsWellValue, AreWellValues, AreWellFields, IsWellStated, AreWellLets, steps_calls, AreCalled}
-use Rattle.flat_code.proofs.Sound.{wanted-type, value-has-type}
-use Rattle.flat_code.proofs.WellBasics.{knows-both, knows-left, knows-right, knows-one, knows-new, knows-variables, knows-word, knows-truth, knows-field, knows-in, operands-words, words-ty-words, rises-numbers}
+use Rattle.flat_values.specs.inner.Code.{shift_of, variables}
+use Rattle.flat_values.specs.inner.Symbols.{Symbol, Symbols, NamedSymbols, SymbolScope, Word, Truth, Tuple, Record, operands, form, word_operand, truth_operand, fields_of, field_named, symbol_in, numbers_from, words_symbol, vars_of}
+use Rattle.flat_values.specs.inner.Simulation.{Names, Extends, HasForm}
+use Rattle.flat_values.specs.inner.Whole.{Whole, Stands}
+use Rattle.flat_values.specs.inner.Well.{ScopeKnown, Rises, WellSteps, Knows, IsWellValue, AreWellValues, AreWellFields, IsWellStated, AreWellLets, steps_calls, AreCalled}
+use Rattle.flat_values.proofs.Sound.{wanted-type, value-has-type}
+use Rattle.flat_values.proofs.WellBasics.{knows-both, knows-left, knows-right, knows-one, knows-new, knows-variables, knows-word, knows-truth, knows-field, knows-in, operands-words, words-ty-words, rises-numbers}
 use Rattle.nv_flatten.proofs.WellTypes.{low-of, middle-of, right-of, move-same, address-formed}
-use Rattle.flat_code.proofs.WellNames.{called-none, steps-called-more, steps-called-then}
-use Rattle.flat_code.proofs.WellSteps.{steps-none, steps-names, steps-knowing, steps-then, steps-last, steps-compute}
-use Rattle.flat_code.proofs.NoFaults.{among-known}
-use Rattle.flat_code.proofs.Fresh.{numbers-length}
-use Rattle.flat_code.proofs.PackedWords.{symbol-operands}
-use Rattle.flat_code.proofs.Following.{stands-inside}
+use Rattle.flat_values.proofs.WellNames.{called-none, steps-called-more, steps-called-then}
+use Rattle.flat_values.proofs.WellSteps.{steps-none, steps-names, steps-knowing, steps-then, steps-last, steps-compute}
+use Rattle.flat_values.proofs.NoFaults.{among-known}
+use Rattle.flat_values.proofs.Fresh.{numbers-length}
+use Rattle.flat_values.proofs.PackedWords.{symbol-operands}
+use Rattle.flat_values.proofs.Following.{stands-inside}
 use Rattle.nv_flatten.proofs.WalkArms.{count-cases}
 use Rattle.nv_base.proofs.Operands.{atoms-more}
-use Rattle.flat_code.proofs.Lets.{shift-primitive}
+use Rattle.flat_values.proofs.Lets.{shift-primitive}
 use Rattle.nv_ast.proofs.Faultless.{no_front, no_rest, not_where}
 
 -- ---- without steps
@@ -192,8 +192,8 @@ unpack-well w old names low mid high scope sp l e ss ts v u a hf lets = record {
       let found = among-known l p.known.layouts (not-false (is_among l (names_of p.known.layouts)) (not_where (not (is_among l (names_of p.known.layouts))) 3 (low-of p wanted (UnpackTree sp l e) f))) in
       let known = st.part.layouts l found.0 found.1 in
       let st' = stands-inside w own scope p st in
-      let part = no_front (faults (inside p) (wanted_packed (look_up l p.known.layouts)) e) _ f in
-      let part' : faults (inside p) (of_type (packed_ty found.0)) e ≡ [] = subst (λ o. faults (inside p) (wanted_packed o) e ≡ []) found.1 part in
+      let part = no_front (faults (inside p) (expected_packed (look_up l p.known.layouts)) e) _ f in
+      let part' : faults (inside p) (of_type (packed_ty found.0)) e ≡ [] = subst (λ o. faults (inside p) (expected_packed o) e ≡ []) found.1 part in
       let typed = wanted-type (inside p) (packed_ty found.0) e part' in
       let formed : form v ≡ packed_ty found.0 = hf.by own (inside p) (of_type (packed_ty found.0)) st' part' (packed_ty found.0) typed in
       let many : length (operands v) ≡ packed_words found.0 = operands-words v ∙ ap words formed ∙ words-ty-words (packed_words found.0) in
@@ -211,9 +211,9 @@ pack-well w old names low mid high scope sp l e ss ts v u a hf lets = record {
       let found = among-known l p.known.layouts (not-false (is_among l (names_of p.known.layouts)) (not_where (not (is_among l (names_of p.known.layouts))) 3 (low-of p wanted (PackTree sp l e) f))) in
       let known = st.part.layouts l found.0 found.1 in
       let st' = stands-inside w own scope p st in
-      let want = wanted_unpacked (Some found.0) in
-      let part = no_front (faults (inside p) (wanted_unpacked (look_up l p.known.layouts)) e) _ f in
-      let part' : faults (inside p) want e ≡ [] = subst (λ o. faults (inside p) (wanted_unpacked o) e ≡ []) found.1 part in
+      let want = expected_unpacked (Some found.0) in
+      let part = no_front (faults (inside p) (expected_unpacked (look_up l p.known.layouts)) e) _ f in
+      let part' : faults (inside p) want e ≡ [] = subst (λ o. faults (inside p) (expected_unpacked o) e ≡ []) found.1 part in
       let typed = value-has-type (inside p) want e refl part' in
       let formed : form v ≡ typed.0 = hf.by own (inside p) want st' part' typed.0 typed.1 in
       let right : can_pack (form_of found.0) typed.0 ≡ true = right-of (inside p) want e typed.0 part' typed.1 in
@@ -248,11 +248,11 @@ fetch-well w old names low mid scope sp m n e ss ts v xs last same a = record {
 }
 
 -- ---- a block
-pub stands-behind : (w : Whole) (own : ℕ) (scope inner : SymbolScope) (p : Place) (sts : StatementTrees) → Stands w own scope p → vars_behind p.known p.vars sts ≡ vars_of inner → Stands w own inner (with_vars (vars_behind p.known p.vars sts) p)
+pub stands-behind : (w : Whole) (own : ℕ) (scope inner : SymbolScope) (p : Context) (sts : StatementTrees) → Stands w own scope p → vars_behind p.known p.vars sts ≡ vars_of inner → Stands w own inner (with_vars (vars_behind p.known p.vars sts) p)
 stands-behind w own scope inner p sts st e = record { part = st.part; vars = e }
 
 pub block-well : (w : Whole) (old names more : Names) (low mid high : ℕ) (scope inner : SymbolScope) (sp : Span) (sts : StatementTrees) (e : Tree) (ss ts : List Step) (v : Symbol) → Extends names more
-    → IsWellStated w old names low mid scope sts ss inner → ((own : ℕ) (p : Place) → Stands w own scope p → statements_faults p sts ≡ [] → vars_behind p.known p.vars sts ≡ vars_of inner) → IsWellValue w names more mid high inner e ts v
+    → IsWellStated w old names low mid scope sts ss inner → ((own : ℕ) (p : Context) → Stands w own scope p → statements_faults p sts ≡ [] → vars_behind p.known p.vars sts ≡ vars_of inner) → IsWellValue w names more mid high inner e ts v
     → IsWellValue w old more low high scope (BlockTree sp sts e) (ss ++ ts) v
 block-well w old names more low mid high scope inner sp sts e ss ts v h a vars b = record {
   well = λ own p wanted st f t.

@@ -5,9 +5,9 @@ use Rattle.nv_ast.specs.declared.token.Span.{Span}
 use Rattle.nv_ast.specs.Tree.{Tree, ParenTree, CallTree, RaiseTree, BlockTree, StatementTrees, Trees}
 use Rattle.nv_ast.specs.Tests.{is_among, names_of, look_up}
 use Rattle.nv_ast.specs.Types.{Tys, words, total_words, total_named_words}
-use Rattle.nv_ast.specs.Scope.{Place, inside, with_vars, callable, plain_tys, Signature}
+use Rattle.nv_ast.specs.Scope.{Context, inside, with_vars, callable, plain_tys, Signature}
 use Rattle.nv_ast.specs.Typing.{type_at, types_at, vars_behind}
-use Rattle.nv_ast.specs.Faults.{Wanted, a_value, anything, wanted_arguments, params_of, faults, list_faults, statements_faults, unknown_function, not_in_tail, wrong_number}
+use Rattle.nv_ast.specs.Faults.{Expected, a_value, anything, expected_arguments, params_of, faults, list_faults, statements_faults, unknown_function, not_in_tail, wrong_number}
 use Rattle.nv_meaning.specs.Running.{exception_number}
 use Rattle.flat_ir.specs.declared.flat.Flat.{Flat}
 use Rattle.flat_ir.specs.declared.flat.Flat.TheVariants.{Call, Raise}
@@ -16,22 +16,22 @@ use Rattle.flat_ir.specs.declared.spine.Step.TheVariants.{Bind}
 use Rattle.flat_ir.specs.Spine.{AreNodes}
 use Rattle.nv_base.specs.Access.{all_known}
 use Rattle.flat_ir.specs.Formed.{may_stand, can_call, is_formed, defined, raised}
-use Rattle.flat_code.specs.inner.Code.{form_or_unit, variables}
-use Rattle.flat_code.specs.inner.Symbols.{Symbol, Symbols, SymbolScope, operands, all_operands, form, forms, fresh, numbers_from, vars_of}
-use Rattle.flat_code.specs.inner.Simulation.{Names, Extends}
-use Rattle.flat_code.specs.inner.Whole.{Whole, Stands, raised_tys}
-use Rattle.flat_code.specs.inner.Well.{ScopeKnown, Rises, WellSteps, Knows, GivesWords, IsLiteral, IsWellValue, AreWellValues, IsWellStated, IsWellEnd, steps_calls, AreCalled}
-use Rattle.flat_code.proofs.Fresh.{fresh-operands, numbers-length}
-use Rattle.flat_code.proofs.Sound.{arguments-typed}
-use Rattle.flat_code.proofs.WellBasics.{knows-variables, all-operands-words, rises-append, rises-numbers, raised-both}
+use Rattle.flat_values.specs.inner.Code.{form_or_unit, variables}
+use Rattle.flat_values.specs.inner.Symbols.{Symbol, Symbols, SymbolScope, operands, all_operands, form, forms, fresh, numbers_from, vars_of}
+use Rattle.flat_values.specs.inner.Simulation.{Names, Extends}
+use Rattle.flat_values.specs.inner.Whole.{Whole, Stands, raised_tys}
+use Rattle.flat_values.specs.inner.Well.{ScopeKnown, Rises, WellSteps, Knows, GivesWords, IsLiteral, IsWellValue, AreWellValues, IsWellStated, IsWellEnd, steps_calls, AreCalled}
+use Rattle.flat_values.proofs.Fresh.{fresh-operands, numbers-length}
+use Rattle.flat_values.proofs.Sound.{arguments-typed}
+use Rattle.flat_values.proofs.WellBasics.{knows-variables, all-operands-words, rises-append, rises-numbers, raised-both}
 use Rattle.nv_flatten.proofs.WellTypes.{some-where, low-of, middle-of}
 use Rattle.flat_ir.specs.Reached.{calls}
-use Rattle.flat_code.proofs.WellNames.{called-more, code-called-more, code-called-then}
-use Rattle.flat_code.proofs.WellSteps.{steps-names, code-behind, code-inner}
+use Rattle.flat_values.proofs.WellNames.{called-more, code-called-more, code-called-then}
+use Rattle.flat_values.proofs.WellSteps.{steps-names, code-behind, code-inner}
 use Rattle.nv_flatten.proofs.WellArms.{stands-behind}
 use Rattle.nv_flatten.proofs.WellEnds.{gives-words, raised-from-one}
-use Rattle.flat_code.proofs.CallArms.{get-append}
-use Rattle.flat_code.proofs.Following.{stands-inside}
+use Rattle.flat_values.proofs.CallArms.{get-append}
+use Rattle.flat_values.proofs.Following.{stands-inside}
 use Rattle.nv_ast.proofs.Faultless.{no_front, no_rest, not_where}
 use Rattle.nv_ast.proofs.TypeWords.{plain_words}
 
@@ -47,11 +47,11 @@ may-stand false false own group n e = e
 -- ---- a call
 pub call-well : (w : Whole) (old names more : Names) (low high : ℕ) (scope : SymbolScope) (sp : Span) (f : List ℕ) (es : Trees) (ss : List Step) (vs : Symbols) (t : Flat) (i : ℕ) (bs : _) → AreNodes ss (Call i bs) t → bs.items ≡ all_operands vs
     → slice_get more i ≡ Some f → AreCalled names more (i ∷ []) → Extends names more → AreWellValues w old names low high scope es ss vs
-    → ((own : ℕ) (p : Place) (wanted : List Wanted) → Stands w own scope p → list_faults p wanted es ≡ [] → (ts : Tys) → types_at p.known p.vars es ≡ Some ts → forms vs ≡ ts) → IsWellEnd w old more low high scope (CallTree sp f es) t
+    → ((own : ℕ) (p : Context) (wanted : List Expected) → Stands w own scope p → list_faults p wanted es ≡ [] → (ts : Tys) → types_at p.known p.vars es ≡ Some ts → forms vs ≡ ts) → IsWellEnd w old more low high scope (CallTree sp f es) t
 call-well w old names more low high scope sp f es ss vs t i bs nodes same at new h a types = record {
   well = λ own p wanted st fl.
       let st' = stands-inside w own scope p st in
-      let args = wanted_arguments (params_of p.known f) es in
+      let args = expected_arguments (params_of p.known f) es in
       let none : list_faults (inside p) args es ≡ [] = no_front (list_faults (inside p) args es) _ fl in
       let kinds = low-of p wanted (CallTree sp f es) fl in
       let found = some-where (look_up f (callable p.known)) 11 (no_front (unknown_function p.known f) _ kinds) in
@@ -61,10 +61,10 @@ call-well w old names more low high scope sp f es ss vs t i bs nodes same at new
       let g = found.0 in
       let target = st.part.functions f g found.1 in
       let pe : params_of p.known f ≡ Some (plain_tys g.params) = ap (option_map (λ (g : Signature). plain_tys g.params)) found.1 in
-      let none' : list_faults (inside p) (wanted_arguments (Some (plain_tys g.params)) es) es ≡ [] = subst (λ o. list_faults (inside p) (wanted_arguments o es) es ≡ []) pe none in
+      let none' : list_faults (inside p) (expected_arguments (Some (plain_tys g.params)) es) es ≡ [] = subst (λ o. list_faults (inside p) (expected_arguments o es) es ≡ []) pe none in
       let number' : wrong_number (Some (plain_tys g.params)) es ≡ [] = subst (λ o. wrong_number o es ≡ []) pe number in
       let typed = arguments-typed (inside p) (plain_tys g.params) es none' number' in
-      let tys : forms vs ≡ plain_tys g.params = types own (inside p) (wanted_arguments (Some (plain_tys g.params)) es) st' none' (plain_tys g.params) typed in
+      let tys : forms vs ≡ plain_tys g.params = types own (inside p) (expected_arguments (Some (plain_tys g.params)) es) st' none' (plain_tys g.params) typed in
       let many : length bs.items ≡ total_named_words g.params = ap length same ∙ all-operands-words vs ∙ ap total_words tys ∙ plain_words g.params in
       let o = type_at p.known p.vars (CallTree sp f es) in
       let result : o ≡ Some g.result = ap (option_map (λ (g : Signature). g.result)) found.1 in
@@ -88,21 +88,21 @@ call-well w old names more low high scope sp f es ss vs t i bs nodes same at new
 -- ---- a raise
 pub raise-well : (w : Whole) (old names : Names) (low high : ℕ) (scope : SymbolScope) (sp : Span) (x : List ℕ) (es : Trees) (ss : List Step) (vs : Symbols) (t : Flat) (k : ℕ) (bs : _) → AreNodes ss (Raise k bs) t → bs.items ≡ all_operands vs
     → k ≡ exception_number w.declared.exceptions x → AreWellValues w old names low high scope es ss vs
-    → ((own : ℕ) (p : Place) (wanted : List Wanted) → Stands w own scope p → list_faults p wanted es ≡ [] → (ts : Tys) → types_at p.known p.vars es ≡ Some ts → forms vs ≡ ts) → IsWellEnd w old names low high scope (RaiseTree sp x es) t
+    → ((own : ℕ) (p : Context) (wanted : List Expected) → Stands w own scope p → list_faults p wanted es ≡ [] → (ts : Tys) → types_at p.known p.vars es ≡ Some ts → forms vs ≡ ts) → IsWellEnd w old names low high scope (RaiseTree sp x es) t
 raise-well w old names low high scope sp x es ss vs t k bs nodes same number a types = record {
   well = λ own p wanted st fl.
       let st' = stands-inside w own scope p st in
       let ex = look_up x p.known.exceptions in
-      let args = wanted_arguments ex es in
+      let args = expected_arguments ex es in
       let none : list_faults (inside p) args es ≡ [] = no_front (list_faults (inside p) args es) _ fl in
       let counted : wrong_number ex es ≡ [] = low-of p wanted (RaiseTree sp x es) fl in
       let found = some-where ex 17 (middle-of p wanted (RaiseTree sp x es) fl) in
       let ts = found.0 in
       let raised-k : raised_tys w k ≡ Some ts = ap (raised_tys w) number ∙ st.part.exceptions x ts found.1 in
-      let none' : list_faults (inside p) (wanted_arguments (Some ts) es) es ≡ [] = subst (λ o. list_faults (inside p) (wanted_arguments o es) es ≡ []) found.1 none in
+      let none' : list_faults (inside p) (expected_arguments (Some ts) es) es ≡ [] = subst (λ o. list_faults (inside p) (expected_arguments o es) es ≡ []) found.1 none in
       let counted' : wrong_number (Some ts) es ≡ [] = subst (λ o. wrong_number o es ≡ []) found.1 counted in
       let typed = arguments-typed (inside p) ts es none' counted' in
-      let tys : forms vs ≡ ts = types own (inside p) (wanted_arguments (Some ts) es) st' none' ts typed in
+      let tys : forms vs ≡ ts = types own (inside p) (expected_arguments (Some ts) es) st' none' ts typed in
       let many : length bs.items ≡ total_words ts = ap length same ∙ all-operands-words vs ∙ ap total_words tys in
       code-behind w names low high high own scope p.tail None ss (Knows (all_operands vs)) (Raise k bs) t (a.well own (inside p) args st' none refl) nodes
       (λ l known ks q n gw.
@@ -118,7 +118,7 @@ pub paren-end-well : (w : Whole) (old names : Names) (low high : ℕ) (scope : S
 paren-end-well w old names low high scope sp e t a = record { well = λ own p wanted st f. a.well own p a_value st (no_front (faults p a_value e) _ f); called = a.called }
 
 pub block-end-well : (w : Whole) (old names more : Names) (low mid high : ℕ) (scope inner : SymbolScope) (sp : Span) (sts : StatementTrees) (e : Tree) (ss : List Step) (last t : Flat) → Extends names more → AreNodes ss last t
-    → IsWellStated w old names low mid scope sts ss inner → ((own : ℕ) (p : Place) → Stands w own scope p → statements_faults p sts ≡ [] → vars_behind p.known p.vars sts ≡ vars_of inner) → IsWellEnd w names more mid high inner e last
+    → IsWellStated w old names low mid scope sts ss inner → ((own : ℕ) (p : Context) → Stands w own scope p → statements_faults p sts ≡ [] → vars_behind p.known p.vars sts ≡ vars_of inner) → IsWellEnd w names more mid high inner e last
     → IsWellEnd w old more low high scope (BlockTree sp sts e) t
 block-end-well w old names more low mid high scope inner sp sts e ss last t h nodes a vars b = record {
   well = λ own p wanted st f.
@@ -139,7 +139,7 @@ named-words None = tt {0}
 
 pub named-well : (w : Whole) (old names : Names) (low mid high : ℕ) (scope : SymbolScope) (e : Tree) (code : Flat) (o : Option Symbol) (ss : List Step) (v : Symbol) (ws : _) → ss ≡ Bind ws code ∷ []
     → ws.items ≡ numbers_from mid (words (form_or_unit o)) → v ≡ fresh mid (form_or_unit o) → mid + words (form_or_unit o) ≤ high
-    → ((own : ℕ) (p : Place) (wanted : Wanted) → Stands w own scope p → faults p wanted e ≡ [] → type_at p.known p.vars e ≡ option_map form o) → IsWellEnd w old names low mid scope e code → IsLiteral e v
+    → ((own : ℕ) (p : Context) (wanted : Expected) → Stands w own scope p → faults p wanted e ≡ [] → type_at p.known p.vars e ≡ option_map form o) → IsWellEnd w old names low mid scope e code → IsLiteral e v
     → IsWellValue w old names low high scope e ss v
 named-well w old names low mid high scope e code o ss v ws last same new le types a literal = record {
   well = λ own p wanted st f t.

@@ -9,7 +9,7 @@ use Rattle.nv_ast.specs.declared.tree.Op.TheVariants.{Add, Sub, And, Or, Xor, Eq
 use Rattle.nv_ast.specs.Tree.{Tree, NumberTree, TruthTree, VarTree, ParenTree, TupleTree, FieldsTree, DotTree, InvertTree, NegateTree, BinaryTree, ShiftTree, CallTree, UnpackTree, PackTree, RaiseTree, IfTree, TryTree, FetchTree, BlockTree, PatternTrees}
 use Rattle.nv_ast.specs.Tests.{look_up}
 use Rattle.nv_ast.specs.Types.{Ty, BoolTy, TupleTy, Tys, no_tys, words, total_words}
-use Rattle.nv_ast.specs.Scope.{names_in_all, Place, inside, with_vars, bind_raised, bind_all, Known, Vars}
+use Rattle.nv_ast.specs.Scope.{names_in_all, Context, inside, with_vars, bind_raised, bind_all, Known, Vars}
 use Rattle.nv_ast.specs.Typing.{type_at, or_ty}
 use Rattle.nv_ast.specs.Faults.{of_type, anything, same_as, faults, unknown_exception, variable_twice, wrong_number_of_patterns, not_all_fitting, raised_kinds, at_span}
 use Rattle.nv_meaning.specs.Running.{exception_number}
@@ -22,19 +22,19 @@ use Rattle.nv_base.specs.Access.{is_known, all_known, is_primitive, can_move, is
 use Rattle.flat_ir.specs.Formed.{can_call, is_formed, defined, raised}
 use Rattle.nv_base.specs.Sets.{is_in}
 use Rattle.nv_base.proofs.Sets.{in-append}
-use Rattle.flat_code.specs.inner.Code.{is_given, is_comparison, variables}
-use Rattle.flat_code.specs.inner.Symbols.{Symbol, SymbolScope, operands, all_operands, form, all_fresh, numbers_from, vars_of, all_bound}
-use Rattle.flat_code.specs.inner.Simulation.{Names, Extends, HasForm}
-use Rattle.flat_code.specs.inner.Whole.{Whole, Stands, raised_tys, raised_or_none}
-use Rattle.flat_code.specs.inner.Well.{ScopeKnown, Rises, Knows, GivesWords, WellCode, IsWellValue, IsWellTest, IsWellEnd, GivesLiteral, IsChoice, AreCalled}
-use Rattle.flat_code.proofs.Fresh.{fresh-forms, fresh-operands, all-bound-types, numbers-length}
-use Rattle.flat_code.proofs.Sound.{wanted-type, given-has-type}
-use Rattle.flat_code.proofs.WellBasics.{knows-variables, operands-words, rises-append, rises-numbers, raised-both, all-bound-known, scope-more}
+use Rattle.flat_values.specs.inner.Code.{is_given, is_comparison, variables}
+use Rattle.flat_values.specs.inner.Symbols.{Symbol, SymbolScope, operands, all_operands, form, all_fresh, numbers_from, vars_of, all_bound}
+use Rattle.flat_values.specs.inner.Simulation.{Names, Extends, HasForm}
+use Rattle.flat_values.specs.inner.Whole.{Whole, Stands, raised_tys, raised_or_none}
+use Rattle.flat_values.specs.inner.Well.{ScopeKnown, Rises, Knows, GivesWords, WellCode, IsWellValue, IsWellTest, IsWellEnd, GivesLiteral, IsChoice, AreCalled}
+use Rattle.flat_values.proofs.Fresh.{fresh-forms, fresh-operands, all-bound-types, numbers-length}
+use Rattle.flat_values.proofs.Sound.{wanted-type, given-has-type}
+use Rattle.flat_values.proofs.WellBasics.{knows-variables, operands-words, rises-append, rises-numbers, raised-both, all-bound-known, scope-more}
 use Rattle.nv_flatten.proofs.WellTypes.{some-where, right-of, same-words, given-inside, comparison-inside}
 use Rattle.flat_ir.specs.Reached.{calls}
-use Rattle.flat_code.proofs.WellNames.{called-none, called-then, code-called-more, choice-called}
-use Rattle.flat_code.proofs.WellSteps.{steps-names, code-names, code-behind, code-choice}
-use Rattle.flat_code.proofs.Following.{stands-inside}
+use Rattle.flat_values.proofs.WellNames.{called-none, called-then, code-called-more, choice-called}
+use Rattle.flat_values.proofs.WellSteps.{steps-names, code-names, code-behind, code-choice}
+use Rattle.flat_values.proofs.Following.{stands-inside}
 use Rattle.nv_ast.proofs.Faultless.{no_front, no_rest, no_kinds}
 
 -- ---- how many words
@@ -231,7 +231,7 @@ second-words n (Some t) (Some u) h g = h t u refl refl ∙ g
 second-words n (Some t) None h g = tt {0}
 
 -- the second part has the type of the first
-same-parts : (p : Place) (a : Option Ty) (e : Tree) → faults p (same_as a) e ≡ [] → (t u : Ty) → a ≡ Some t → type_at p.known p.vars e ≡ Some u → words u ≡ words t
+same-parts : (p : Context) (a : Option Ty) (e : Tree) → faults p (same_as a) e ≡ [] → (t u : Ty) → a ≡ Some t → type_at p.known p.vars e ≡ Some u → words u ≡ words t
 same-parts p a e f t u ea eb =
     let f' : faults p (same_as (Some t)) e ≡ [] = subst (λ o. faults p (same_as o) e ≡ []) ea f in
     same-words u t (right-of p (same_as (Some t)) e u f' eb)

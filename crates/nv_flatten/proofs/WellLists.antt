@@ -11,31 +11,31 @@ use Rattle.nv_ast.specs.declared.tree.Stmt.{Stmt}
 use Rattle.nv_ast.specs.ExprView.{tree_of, list_trees, list_named_trees, statement_tree, list_statements}
 use Rattle.nv_ast.specs.Tree.{Tree, ParenTree, NegateTree, BinaryTree, Trees, NamedTrees, PatternTree, LetStatement, StoreStatement, StatementTrees, no_statements, statement_and}
 use Rattle.nv_ast.specs.Types.{Ty, WordTy, BoolTy, words, words_of_value}
-use Rattle.nv_ast.specs.Scope.{Known, Vars, Place, inside, with_vars}
+use Rattle.nv_ast.specs.Scope.{Known, Vars, Context, inside, with_vars}
 use Rattle.nv_ast.specs.Typing.{type_at, vars_after, vars_behind, operand_ty}
-use Rattle.nv_ast.specs.Faults.{Wanted, a_value, of_type, wanted_stored, faults, list_faults, named_faults, statement_faults, statements_faults, wrong_access, wrong_scratch, can_move}
+use Rattle.nv_ast.specs.Faults.{Expected, a_value, of_type, expected_stored, faults, list_faults, named_faults, statement_faults, statements_faults, wrong_access, wrong_scratch, can_move}
 use Rattle.flat_ir.specs.declared.spine.Step.{Step}
 use Rattle.flat_ir.specs.declared.spine.Step.TheVariants.{Store}
 use Rattle.nv_base.specs.Access as flat
 use Rattle.nv_base.specs.Access.{is_known, all_known}
-use Rattle.flat_code.specs.inner.Symbols.{Symbol, Symbols, NamedSymbols, SymbolScope, no_symbols, symbol_and, no_named_symbols, named_symbol_and, operands, all_operands, named_operands, form, word_operand, truth_operand, vars_of, bound}
-use Rattle.flat_code.specs.inner.Simulation.{Names, Extends, HasForm}
-use Rattle.flat_code.specs.inner.Whole.{Whole, Stands}
-use Rattle.flat_code.specs.inner.Well.{ScopeKnown, WellSteps, Knows, IsWellValue, AreWellValues, AreWellFields, IsWellStated, IsWellTest, steps_calls, AreCalled}
-use Rattle.flat_code.proofs.Sound.{value-has-type}
-use Rattle.flat_code.proofs.WellBasics.{knows-left, knows-right, knows-two, knows-word, knows-truth, operands-words, bound-known}
+use Rattle.flat_values.specs.inner.Symbols.{Symbol, Symbols, NamedSymbols, SymbolScope, no_symbols, symbol_and, no_named_symbols, named_symbol_and, operands, all_operands, named_operands, form, word_operand, truth_operand, vars_of, bound}
+use Rattle.flat_values.specs.inner.Simulation.{Names, Extends, HasForm}
+use Rattle.flat_values.specs.inner.Whole.{Whole, Stands}
+use Rattle.flat_values.specs.inner.Well.{ScopeKnown, WellSteps, Knows, IsWellValue, AreWellValues, AreWellFields, IsWellStated, IsWellTest, steps_calls, AreCalled}
+use Rattle.flat_values.proofs.Sound.{value-has-type}
+use Rattle.flat_values.proofs.WellBasics.{knows-left, knows-right, knows-two, knows-word, knows-truth, operands-words, bound-known}
 use Rattle.nv_flatten.proofs.WellTypes.{move-same, address-formed}
-use Rattle.flat_code.proofs.WellNames.{called-none, steps-called-more, steps-called-then}
-use Rattle.flat_code.proofs.WellSteps.{steps-none, steps-names, steps-knowing, steps-then, steps-last}
+use Rattle.flat_values.proofs.WellNames.{called-none, steps-called-more, steps-called-then}
+use Rattle.flat_values.proofs.WellSteps.{steps-none, steps-names, steps-knowing, steps-then, steps-last}
 use Rattle.nv_flatten.proofs.WellArms.{two-values}
-use Rattle.flat_code.proofs.Following.{stands-inside}
+use Rattle.flat_values.proofs.Following.{stands-inside}
 use Rattle.nv_ast.proofs.Faultless.{no_front, no_rest, no_kinds, not_where}
 
 nil-both : {A : Type 0} (xs ys : List A) → xs ≡ [] → ys ≡ [] → xs ++ ys ≡ []
 nil-both xs ys e f = ap (λ l. l ++ ys) e ∙ f
 
 -- ---- expressions one after another
-list-last : (p : Place) (ws : List Wanted) (xs : List Expr) (e : Expr) → list_faults p ws (list_trees (xs ++ e ∷ [])) ≡ [] → (list_faults p ws (list_trees xs) ≡ []) × (w : Wanted) × (faults p w (tree_of e) ≡ [])
+list-last : (p : Context) (ws : List Expected) (xs : List Expr) (e : Expr) → list_faults p ws (list_trees (xs ++ e ∷ [])) ≡ [] → (list_faults p ws (list_trees xs) ≡ []) × (w : Expected) × (faults p w (tree_of e) ≡ [])
 list-last p [] [] e h = (refl, a_value, no_front (faults p a_value (tree_of e)) [] h)
 list-last p (w ∷ ws) [] e h = (refl, w, no_front (faults p w (tree_of e)) [] h)
 list-last p [] (x ∷ xs) e h =
@@ -66,7 +66,7 @@ each-more w old names more low mid high scope xs e ss ts vs v h a b = record {
 }
 
 -- ---- the fields of a record
-named-last : (p : Place) (xs : List (List ℕ × Expr)) (e : List ℕ × Expr) → named_faults p (list_named_trees (xs ++ e ∷ [])) ≡ [] → (named_faults p (list_named_trees xs) ≡ []) × (faults p a_value (tree_of e.1) ≡ [])
+named-last : (p : Context) (xs : List (List ℕ × Expr)) (e : List ℕ × Expr) → named_faults p (list_named_trees (xs ++ e ∷ [])) ≡ [] → (named_faults p (list_named_trees xs) ≡ []) × (faults p a_value (tree_of e.1) ≡ [])
 named-last p [] e h = (refl, no_front (faults p a_value (tree_of e.1)) [] h)
 named-last p (x ∷ xs) e h =
     let rest = named-last p xs e (no_rest (faults p a_value (tree_of x.1)) _ h) in (nil-both (faults p a_value (tree_of x.1)) _ (no_front (faults p a_value (tree_of x.1)) _ h) rest.0, rest.1)
@@ -114,17 +114,17 @@ store-well w old names more low mid high scope sp m a e ss ts us u v bs last sam
       let f' = no_front (statement_faults p (StoreStatement sp m a e)) [] f in
       let none1 : faults p (of_type WordTy) a ≡ [] = no_front (faults p (of_type WordTy) a) _ f' in
       let rest = no_rest (faults p (of_type WordTy) a) _ f' in
-      let none2 : faults p wanted_stored e ≡ [] = no_front (faults p wanted_stored e) _ rest in
+      let none2 : faults p expected_stored e ≡ [] = no_front (faults p expected_stored e) _ rest in
       let n = words_of_value (type_at p.known p.vars e) in
-      let kinds : wrong_access m n ++ wrong_scratch m a n ≡ [] = no_kinds sp _ (no_rest (faults p wanted_stored e) _ rest) in
-      let typed = value-has-type p wanted_stored e refl none2 in
-      let formed : form v ≡ typed.0 = hf.by own p wanted_stored st none2 typed.0 typed.1 in
+      let kinds : wrong_access m n ++ wrong_scratch m a n ≡ [] = no_kinds sp _ (no_rest (faults p expected_stored e) _ rest) in
+      let typed = value-has-type p expected_stored e refl none2 in
+      let formed : form v ≡ typed.0 = hf.by own p expected_stored st none2 typed.0 typed.1 in
       let many : length bs.items ≡ n = ap length same ∙ operands-words v ∙ ap words formed ∙ sym (value-words (type_at p.known p.vars e) typed.0 typed.1) in
       let moves : flat.can_move m n ≡ true = move-same m n ∙ not-false (can_move m n) (not_where (not (can_move m n)) 19 (no_front (wrong_access m n) _ kinds)) in
       let address : flat.is_address m (word_operand u) n ≡ true = address-formed m a n u (no_rest (wrong_access m n) (wrong_scratch m a n) kinds) l.literal in
       subst (λ k. WellSteps w more low high own scope k (λ known. ScopeKnown known scope)) (sym last)
       (steps-last w more low high high own scope (ss ++ ts) (Store m (word_operand u) bs) (Knows (operands u ++ operands v)) (λ known. ScopeKnown known scope)
-      (two-values w names more low mid high own scope ss ts (operands u) (operands v) h (l.well own p (of_type WordTy) st none1 t) (r.well own p wanted_stored st none2 t))
+      (two-values w names more low mid high own scope ss ts (operands u) (operands v) h (l.well own p (of_type WordTy) st none1 t) (r.well own p expected_stored st none2 t))
       (λ li known k q.
       and_from (is_known known (word_operand u)) (all_known known bs.items && (flat.can_move m (length bs.items) && flat.is_address m (word_operand u) (length bs.items))) (knows-word known u (knows-left known (operands u) (operands v) q))
       (and_from (all_known known bs.items) (flat.can_move m (length bs.items) && flat.is_address m (word_operand u) (length bs.items)) (subst (λ as'. all_known known as' ≡ true) (sym same) (knows-right known (operands u) (operands v) q))
@@ -133,7 +133,7 @@ store-well w old names more low mid high scope sp m a e ss ts us u v bs last sam
   called = subst (λ k. AreCalled old more (steps_calls k)) (sym last) (steps-called-more old more (ss ++ ts) (Store m (word_operand u) bs ∷ []) (steps-called-then old names more ss ts l.called r.called));
 }
 
-statements-last : (p : Place) (xs : List Stmt) (x : Stmt) → statements_faults p (list_statements (xs ++ x ∷ [])) ≡ []
+statements-last : (p : Context) (xs : List Stmt) (x : Stmt) → statements_faults p (list_statements (xs ++ x ∷ [])) ≡ []
     → (statements_faults p (list_statements xs) ≡ []) × (statements_faults (with_vars (vars_behind p.known p.vars (list_statements xs)) p) (statement_and (statement_tree x) no_statements) ≡ [])
 statements-last p [] x h = (refl, h)
 statements-last p (y ∷ xs) x h =
@@ -144,7 +144,7 @@ statements-last p (y ∷ xs) x h =
 
 -- the variables behind statements have the types of these symbolic values
 abbrev pub AreTyped : Whole → SymbolScope → StatementTrees → SymbolScope → Type 0
-AreTyped w scope sts inner = (own : ℕ) (p : Place) → Stands w own scope p → statements_faults p sts ≡ [] → vars_behind p.known p.vars sts ≡ vars_of inner
+AreTyped w scope sts inner = (own : ℕ) (p : Context) → Stands w own scope p → statements_faults p sts ≡ [] → vars_behind p.known p.vars sts ≡ vars_of inner
 
 vars-last : (k : Known) (vars : Vars) (xs : List Stmt) (x : Stmt) → vars_behind k vars (list_statements (xs ++ x ∷ [])) ≡ vars_behind k (vars_behind k vars (list_statements xs)) (statement_and (statement_tree x) no_statements)
 vars-last k vars [] x = refl
@@ -166,7 +166,7 @@ pub statements-none : (w : Whole) (names : Names) (low high : ℕ) (scope : Symb
 statements-none w names low high scope sts le = record { well = λ own p st f t. steps-none w names low high own scope (λ known. ScopeKnown known scope) le (λ known k. k); called = called-none names [] }
 
 pub statements-more : (w : Whole) (old names more : Names) (low mid high : ℕ) (scope inner behind : SymbolScope) (xs : List Stmt) (x : Stmt) (ss ts : List Step) → Extends names more
-    → IsWellStated w old names low mid scope (list_statements xs) ss inner → ((own : ℕ) (p : Place) → Stands w own scope p → statements_faults p (list_statements xs) ≡ [] → vars_behind p.known p.vars (list_statements xs) ≡ vars_of inner)
+    → IsWellStated w old names low mid scope (list_statements xs) ss inner → ((own : ℕ) (p : Context) → Stands w own scope p → statements_faults p (list_statements xs) ≡ [] → vars_behind p.known p.vars (list_statements xs) ≡ vars_of inner)
     → IsWellStated w names more mid high inner (statement_and (statement_tree x) no_statements) ts behind → IsWellStated w old more low high scope (list_statements (xs ++ x ∷ [])) (ss ++ ts) behind
 statements-more w old names more low mid high scope inner behind xs x ss ts h a vars b = record {
   well = λ own p st f t.

@@ -7,14 +7,14 @@ use Rattle.nv_base.specs.declared.term.Atom.TheVariants.{Lit}
 use Rattle.nv_ast.specs.Tree.{Tree, NumberTree, TruthTree, VarTree, ParenTree, TupleTree, FieldsTree, DotTree, InvertTree, NegateTree, BinaryTree, ShiftTree, CallTree, UnpackTree, PackTree, RaiseTree, IfTree, TryTree, FetchTree, BlockTree, span_of}
 use Rattle.nv_ast.specs.Tests.{where_true}
 use Rattle.nv_ast.specs.Types.{Ty, WordTy, BoolTy, TupleTy, RecordTy, Tys, no_tys, ty_and, NamedTys, no_named_tys, named_ty_and, same_type, same_types, same_named_types, words, total_words, total_named_words}
-use Rattle.nv_ast.specs.Scope.{Place, inside}
+use Rattle.nv_ast.specs.Scope.{Context, inside}
 use Rattle.nv_ast.specs.Typing.{type_at}
-use Rattle.nv_ast.specs.Faults.{Wanted, faults, low_kinds, middle_kinds, other_type, no_value, too_large_value, wrong_scratch, can_move}
+use Rattle.nv_ast.specs.Faults.{Expected, faults, low_kinds, middle_kinds, other_type, no_value, too_large_value, wrong_scratch, can_move}
 use Rattle.nv_base.specs.Access as flat
-use Rattle.flat_code.specs.inner.Symbols.{Symbol, Word, word_operand}
-use Rattle.flat_code.specs.inner.Code.{is_given, is_comparison}
-use Rattle.flat_code.specs.inner.Well.{IsLiteral}
-use Rattle.flat_code.proofs.NoFaults.{node-of}
+use Rattle.flat_values.specs.inner.Symbols.{Symbol, Word, word_operand}
+use Rattle.flat_values.specs.inner.Code.{is_given, is_comparison}
+use Rattle.flat_values.specs.inner.Well.{IsLiteral}
+use Rattle.flat_values.proofs.NoFaults.{node-of}
 use Rattle.nv_ast.proofs.Faultless.{no_front, no_rest, no_kinds, not_where}
 
 -- ---- kinds
@@ -25,22 +25,22 @@ some-where (Some a) k e = (a, refl)
 
 -- ---- the node
 
-node-kinds : (p : Place) (w : Wanted) (e : Tree) → faults p w e ≡ []
+node-kinds : (p : Context) (w : Expected) (e : Tree) → faults p w e ≡ []
     → low_kinds p e ++ (other_type w (type_at p.known p.vars e) ++ (middle_kinds p e ++ (no_value w (type_at p.known p.vars e) ++ too_large_value (type_at p.known p.vars e)))) ≡ []
 node-kinds p w e h = no_kinds (span_of e) _ (node-of p w e h)
 
-pub low-of : (p : Place) (w : Wanted) (e : Tree) → faults p w e ≡ [] → low_kinds p e ≡ []
+pub low-of : (p : Context) (w : Expected) (e : Tree) → faults p w e ≡ [] → low_kinds p e ≡ []
 low-of p w e h = no_front (low_kinds p e) _ (node-kinds p w e h)
 
-pub middle-of : (p : Place) (w : Wanted) (e : Tree) → faults p w e ≡ [] → middle_kinds p e ≡ []
+pub middle-of : (p : Context) (w : Expected) (e : Tree) → faults p w e ≡ [] → middle_kinds p e ≡ []
 middle-of p w e h = no_front (middle_kinds p e) _ (no_rest (other_type w (type_at p.known p.vars e)) _ (no_rest (low_kinds p e) _ (node-kinds p w e h)))
 
-right-at : (w : Wanted) (o : Option Ty) (t : Ty) → o ≡ Some t → other_type w o ≡ [] → w.right t ≡ true
+right-at : (w : Expected) (o : Option Ty) (t : Ty) → o ≡ Some t → other_type w o ≡ [] → w.right t ≡ true
 right-at w (Some u) t e h = let same : u ≡ t = cc in subst (λ x. w.right x ≡ true) same (not-false (w.right u) (not_where (not (w.right u)) 14 h))
 right-at w None t e h = cc
 
 -- an expression's type is a right one
-pub right-of : (p : Place) (w : Wanted) (e : Tree) (t : Ty) → faults p w e ≡ [] → type_at p.known p.vars e ≡ Some t → w.right t ≡ true
+pub right-of : (p : Context) (w : Expected) (e : Tree) (t : Ty) → faults p w e ≡ [] → type_at p.known p.vars e ≡ Some t → w.right t ≡ true
 right-of p w e t h a = right-at w (type_at p.known p.vars e) t a (no_front (other_type w (type_at p.known p.vars e)) _ (no_rest (low_kinds p e) _ (node-kinds p w e h)))
 
 -- ---- equal types have as many words
@@ -82,7 +82,7 @@ mutual
 -- ---- places
 
 -- what is given, or a comparison, doesn't ask whether it is the function's value
-pub given-inside : (p : Place) (w : Wanted) (e : Tree) → is_given e ≡ true → faults p w e ≡ faults (inside p) w e
+pub given-inside : (p : Context) (w : Expected) (e : Tree) → is_given e ≡ true → faults p w e ≡ faults (inside p) w e
 given-inside p w (NumberTree s n) g = refl
 given-inside p w (TruthTree s b) g = refl
 given-inside p w (VarTree s x) g = refl
@@ -103,7 +103,7 @@ given-inside p w (TryTree s a x ps h) g = cc
 given-inside p w (FetchTree s m n a) g = refl
 given-inside p w (BlockTree s sts e) g = cc
 
-pub comparison-inside : (p : Place) (w : Wanted) (e : Tree) → is_comparison e ≡ true → faults p w e ≡ faults (inside p) w e
+pub comparison-inside : (p : Context) (w : Expected) (e : Tree) → is_comparison e ≡ true → faults p w e ≡ faults (inside p) w e
 comparison-inside p w (BinaryTree s op a b) g = refl
 comparison-inside p w (NumberTree s n) g = refl
 comparison-inside p w (TruthTree s b) g = refl

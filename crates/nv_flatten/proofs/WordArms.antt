@@ -16,9 +16,9 @@ use Rattle.nv_ast.specs.declared.tree.ShiftOp.{ShiftOp}
 use Rattle.nv_ast.specs.declared.tree.ShiftOp.TheVariants.{Left, Right, Rotate}
 use Rattle.nv_ast.specs.Tree.{Tree, BinaryTree, ShiftTree}
 use Rattle.nv_ast.specs.Types.{WordTy}
-use Rattle.nv_ast.specs.Scope.{Place, inside}
+use Rattle.nv_ast.specs.Scope.{Context, inside}
 use Rattle.nv_ast.specs.Typing.{operand_ty, result_ty}
-use Rattle.nv_ast.specs.Faults.{Wanted, faults, node_faults, of_type}
+use Rattle.nv_ast.specs.Faults.{Expected, faults, node_faults, of_type}
 use Rattle.nv_meaning.specs.Values.{Value, word_of}
 use Rattle.nv_meaning.specs.Values as meaning
 use Rattle.nv_meaning.specs.Running.{Running, Result, Gives, and_then}
@@ -26,15 +26,15 @@ use Rattle.nv_meaning.specs.Meaning.{eval, binary, shifted}
 use Rattle.flat_ir.specs.Spine.{steps_do}
 use Rattle.flat_ir.specs.declared.spine.Step.{Step}
 use Rattle.flat_ir.specs.declared.spine.Step.TheVariants.{Let}
-use Rattle.flat_code.specs.inner.Code.{arithmetic_of, shift_of}
-use Rattle.flat_code.specs.inner.Symbols.{Symbol, Word, Truth, Tuple, Record, SymbolScope, operands, value_in, Fits, AreOlder, word_operand, scope_in}
-use Rattle.flat_code.specs.inner.Runs.{flat_run, onward}
-use Rattle.flat_code.specs.inner.Whole.{Whole}
-use Rattle.flat_code.specs.inner.Simulation.{Names, Extends, IsValue}
-use Rattle.flat_code.proofs.Keeping.{scope-later, keeps-value, keeps-fit, keeps-scope, begins-then, done-then}
-use Rattle.flat_code.proofs.NoFaults.{clean as is-clean}
-use Rattle.flat_code.proofs.Following.{onward-then, steps-then, stands-inside, fewer, word-of, word-fits, one-older, assigned-here, defined}
-use Rattle.flat_code.proofs.ValueArms.{unary}
+use Rattle.flat_values.specs.inner.Code.{arithmetic_of, shift_of}
+use Rattle.flat_values.specs.inner.Symbols.{Symbol, Word, Truth, Tuple, Record, SymbolScope, operands, value_in, Fits, AreOlder, word_operand, scope_in}
+use Rattle.flat_values.specs.inner.Runs.{flat_run, onward}
+use Rattle.flat_values.specs.inner.Whole.{Whole}
+use Rattle.flat_values.specs.inner.Simulation.{Names, Extends, IsValue}
+use Rattle.flat_values.proofs.Keeping.{scope-later, keeps-value, keeps-fit, keeps-scope, begins-then, done-then}
+use Rattle.flat_values.proofs.NoFaults.{clean as is-clean}
+use Rattle.flat_values.proofs.Following.{onward-then, steps-then, stands-inside, fewer, word-of, word-fits, one-older, assigned-here, defined}
+use Rattle.flat_values.proofs.ValueArms.{unary}
 use Rattle.nv_ast.proofs.Faultless.{no_front, no_rest, not_where}
 
 -- ---- shifts
@@ -64,7 +64,7 @@ operand-older n (Record fs) o = one-older n (Lit 0) tt
 
 module _ (w : Whole) (names : Names) (low high : ℕ) (scope : SymbolScope) (sp : Span) (op : ShiftOp) (a : Tree) (n : ℕ) (ss : List Step) (s : Symbol) where
   -- at most 31 places in a typed program
-  few : (p : Place) (wanted : Wanted) → faults p wanted (ShiftTree sp op a n) ≡ [] → n ≤ 31
+  few : (p : Context) (wanted : Expected) → faults p wanted (ShiftTree sp op a n) ≡ [] → n ≤ 31
   few p wanted none = count-fits n (not_where (nat_lt 31 n) 21 (is-clean p wanted (ShiftTree sp op a n) none).middle)
 
   -- by no place, the word itself; what isn't typed has no simulation

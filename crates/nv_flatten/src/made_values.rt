@@ -4,44 +4,44 @@ ghost use Rattle.std.specs.Prelude.{◌≡◌, ◌≤◌, ◌+◌, ◌++◌, [],
 ghost use Rattle.nv_ast.specs.declared.token.Span.{Span};
 ghost use Rattle.nv_ast.specs.declared.tree.Op.{Op};
 ghost use Rattle.nv_ast.specs.Tree.{Tree, InvertTree, NegateTree, BinaryTree, ShiftTree, UnpackTree, PackTree, FetchTree, StoreStatement};
-ghost use Rattle.flat_code.specs.inner.Arms.{is_named};
-ghost use Rattle.flat_code.specs.inner.Code.{arithmetic_of, form_or_unit};
-ghost use Rattle.flat_code.specs.inner.Simulation.{Extends};
-ghost use Rattle.flat_code.specs.inner.Symbols.{SymbolScope, fresh, numbers_from, word_operand};
-ghost use Rattle.flat_code.specs.inner.View.{view};
-ghost use Rattle.flat_code.specs.inner.Whole.{Whole};
-ghost use Rattle.flat_parts.specs.inner.WholeView.{whole_in};
+ghost use Rattle.flat_values.specs.inner.Arms.{is_named};
+ghost use Rattle.flat_values.specs.inner.Code.{arithmetic_of, form_or_unit};
+ghost use Rattle.flat_values.specs.inner.Simulation.{Extends};
+ghost use Rattle.flat_values.specs.inner.Symbols.{SymbolScope, fresh, numbers_from, word_operand};
+ghost use Rattle.flat_values.specs.inner.View.{view};
+ghost use Rattle.flat_values.specs.inner.Whole.{Whole};
+ghost use Rattle.flat_declarations.specs.inner.WholeView.{whole_in};
 ghost use Rattle.nv_ast.specs.Types.{words};
 ghost use Rattle.nv_flatten.specs.inner.Flat.{IsFlatValue, IsFlatStatement, IsFlatEnd};
 
 use crate::made_code::Tail;
 use crate::want::{made, put};
-use flat_code::parts::{add_steps, define, new_variables, shifted, short};
-use flat_code::symbol::{
+use flat_declarations::layouts::{packed, unpacked};
+use flat_declarations::source::Source;
+use flat_ir::Step;
+use flat_values::parts::{add_steps, define, new_variables, shifted, short};
+use flat_values::symbol::{
     Field, Symbol, Valued, operands_in, renewed, symbol_of_words, truth_in, word_in,
 };
-use flat_ir::Step;
-use flat_parts::layouts::{packed, unpacked};
-use flat_parts::source::Source;
 use nv_ast::{Name, ShiftOp};
 use nv_base::{Atom, Bin, Mem, NoMemory, Prim, Una};
 use std::alloc::Global;
 
-/// Steps, and the symbolic values that are there behind them.
+/// Steps, and the symbolic values that are there after them.
 #[derive(Drop)]
 pub struct Listed<'a> {
     pub steps: Vec<Step>,
     pub symbols: Vec<Symbol<'a>>,
 }
 
-/// Steps, and the fields of a record behind them.
+/// Steps, and the fields of a record after them.
 #[derive(Drop)]
 pub struct Recorded<'a> {
     pub steps: Vec<Step>,
     pub fields: Vec<Field<'a>>,
 }
 
-/// Steps, and the words of two operands behind them.
+/// Steps, and the words of two operands after them.
 #[derive(Drop)]
 pub struct TwoWords {
     pub steps: Vec<Step>,
@@ -147,7 +147,7 @@ pub fn packed_value<'a>(
     })
 }
 
-/// So many words of a memory, from an address on.
+/// N words of a memory, from an address on.
 pub fn fetched<'a>(
     alloc: Global,
     m: Mem,
@@ -170,7 +170,7 @@ pub fn fetched<'a>(
 
 // ---- a value of two operands
 
-/// The steps of two operands, one behind the other, and their words.
+/// The steps of two operands, one after the other, and their words.
 pub fn two_words<'a>(left: Valued<'a>, right: Valued<'a>) -> Result<TwoWords, NoMemory>
     ensures steps { IfOk result (λ r. r.steps.items ≡ left.entry.steps.items ++ right.entry.steps.items) }
     ensures left { IfOk result (λ r. r.left ≡ word_operand (view left.entry.symbol)) }

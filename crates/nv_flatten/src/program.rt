@@ -13,25 +13,25 @@ ghost use Rattle.nv_base.specs.Measures.{of_size, IsAtMost};
 ghost use Rattle.flat_ir.specs.Bulk.{bulk};
 ghost use Rattle.flat_ir.specs.Meaning.{flat_meaning};
 ghost use Rattle.flat_ir.specs.Wide.{wide};
-ghost use Rattle.flat_code.specs.inner.Bounded.{IsBounded};
+ghost use Rattle.flat_values.specs.inner.Bounded.{IsBounded};
 ghost use Rattle.flat_ir.specs.Reached.{params_in, calls, AreReached};
-ghost use Rattle.flat_code.specs.inner.Made.{IsMade, IsPlaced};
-ghost use Rattle.flat_code.specs.inner.Narrow.{IsNarrowFun, IsNarrowOf};
-ghost use Rattle.flat_code.specs.inner.Simulation.{Extends};
-ghost use Rattle.flat_code.specs.inner.Small.{IsSmallFun};
-ghost use Rattle.flat_code.specs.inner.Symbols.{named_fresh, numbers_from, params_bound};
-ghost use Rattle.flat_code.specs.inner.View.{scope_of};
-ghost use Rattle.flat_code.specs.inner.Well.{AreCalled};
-ghost use Rattle.flat_code.specs.inner.Whole.{group_of};
-ghost use Rattle.flat_parts.specs.inner.WholeView.{whole_in};
+ghost use Rattle.flat_values.specs.inner.Made.{IsMade, IsPlaced};
+ghost use Rattle.flat_values.specs.inner.Narrow.{IsNarrowFun, IsNarrowOf};
+ghost use Rattle.flat_values.specs.inner.Simulation.{Extends};
+ghost use Rattle.flat_values.specs.inner.Small.{IsSmallFun};
+ghost use Rattle.flat_values.specs.inner.Symbols.{named_fresh, numbers_from, params_bound};
+ghost use Rattle.flat_values.specs.inner.View.{scope_of};
+ghost use Rattle.flat_values.specs.inner.Well.{AreCalled};
+ghost use Rattle.flat_values.specs.inner.Whole.{group_of};
+ghost use Rattle.flat_declarations.specs.inner.WholeView.{whole_in};
 
 use crate::endings::ending;
 use crate::want::{made, put};
-use flat_code::forms::of_type;
-use flat_code::names::Names;
-use flat_code::scope::Scope;
+use flat_declarations::source::Source;
 use flat_ir::{Flat, FlatFun, FlatProgram};
-use flat_parts::source::Source;
+use flat_values::forms::of_type;
+use flat_values::names::Names;
+use flat_values::scope::Scope;
 use nv_ast::{Fun, Name, TyText, Typed};
 use nv_base::NoMemory;
 use std::alloc::Global;
@@ -58,7 +58,7 @@ pub fn flatten(alloc: Global, t: &Typed) -> Result<FlatProgram, NoMemory>
     Ok(FlatProgram { funs, main: 0 })
 }
 
-// The function of a name, and behind it those that are called, in the order in which they are first
+// The function of a name, and after it those that are called, in the order in which they are first
 // met; none where there is no such function.
 fn functions<'a>(alloc: Global, t: &Source<'a>, main: &Name) -> Result<Vec<FlatFun>, NoMemory>
     ensures { IfOk result (λ funs. (g : FunTree) → function_in (whole_in t.now).declared.functions main.now ≡ Some g → IsBounded (whole_in t.now) main.now funs.items) }

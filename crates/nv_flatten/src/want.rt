@@ -1,6 +1,6 @@
 // What is handed on where there is no memory.
 
-/// What was made, or the want of memory handed on, once the values that are held go by a call: a value
+/// What was made, or the memory exhaustion handed on, once the live values go by a call: a value
 /// that goes by itself has all its variants in the proof of the function. In the walk it stands also where
 /// nothing is held, since `?` is two calls more in each goal of a function of a circle.
 macro_rules! made {
@@ -15,7 +15,7 @@ macro_rules! made {
     };
 }
 
-/// Puts an item at the end of a vector, or hands the want of memory on, once the item and the values
+/// Puts an item at the end of a vector, or hands the memory exhaustion on, once the item and the values
 /// that are held go by a call.
 macro_rules! put {
     ($items:expr, $item:expr $(, $held:expr)*) => {
@@ -30,7 +30,7 @@ macro_rules! put {
     };
 }
 
-/// What is inside, in a box of its own, or the want of memory handed on, once it and the values that are
+/// What is inside, in a box of its own, or the memory exhaustion handed on, once it and the values that are
 /// held go by a call.
 macro_rules! boxed {
     ($alloc:expr, $inside:expr $(, $held:expr)*) => {

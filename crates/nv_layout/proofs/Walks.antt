@@ -154,7 +154,7 @@ pub other_size : (xs : List Named) (i : ℕ) (p : Named) (n : ℕ) → i < lengt
 other_size xs i p n h e before here =
     ap (λ l. list_all (λ m. m == n) (sizes_of (list_named_outlines l))) (split_item xs i p h e) ∙ sizes-append (take i xs) (p ∷ drop (i + 1) xs) n ∙ ap (λ b. b && ((size (outline_tree p.1) == n) && list_all (λ m. m == n) (sizes_of (list_named_outlines (drop (i + 1) xs))))) before ∙ ap (λ b. b && list_all (λ m. m == n) (sizes_of (list_named_outlines (drop (i + 1) xs)))) here
 
--- ---- nodes behind their parts
+-- ---- nodes after their parts
 pub parts_shaped : (k : Layouts) (fs : List FieldNamed) (v : Vec Named Global) (r : Result Outline LayoutError) → fields_faults k (list_fields fs) ≡ [] → list_named_outlines v.items ≡ field_outlines k (list_fields fs) → Shapes (same_field (names_of (record_of (outline_tree (Outline.Parts v))))) (outline_tree (Outline.Parts v)) r → Shapes (layout_faults k (PartsLayout (list_fields fs))) (outline k (PartsLayout (list_fields fs))) r
 parts_shaped k fs v r none shape h =
     let tree : outline_tree (Outline.Parts v) ≡ PartsOutline (field_outlines k (list_fields fs)) = parts_tree v ∙ ap PartsOutline shape in

@@ -79,7 +79,7 @@ pub fn fields(alloc: Global, l: &Outline) -> Result<Vec<Field>, NoMemory>
     Ok(found)
 }
 
-// Adds the fields of an outline that begins at a bit, and answers the bit behind it.
+// Adds the fields of an outline that begins at a bit, and answers the bit after it.
 #[cycle(place)]
 #[tactic(auto, using(crate::proofs::Rows::parts_tree, crate::proofs::Rows::overlay_tree, crate::proofs::Rows::joined_tree))]
 fn place(o: &Outline, at: u32, found: &mut Vec<Field>) -> Result<u32, NoMemory>

@@ -9,7 +9,7 @@ use Rattle.nv_ast.specs.Faults.{can_move}
 use Rattle.nv_values.specs.Values.{Scope}
 use Rattle.nv_values.specs.Running.{GoesOn, store, after_store}
 use Rattle.nv_meaning.specs.Meaning.{Declared}
-use Rattle.nv_values.specs.declared.stop.Stop.TheVariants.{NoMemory, Fault}
+use Rattle.nv_values.specs.declared.stop.Interruption.TheVariants.{NoMemory, Fault}
 use Rattle.nv_meaning.specs.inner.Ran.{At, at, running, IsScope, RanScope, stated_result}
 use Rattle.nv_meaning.proofs.Grows.{grown-store}
 use Rattle.nv_meaning.proofs.Moments.{ran-here}

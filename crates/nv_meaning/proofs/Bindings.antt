@@ -33,7 +33,7 @@ if-true b x y e = ap (λ t. if t then x else y) e
 pub if-false : {A : Type 0} (b : Bool) (x y : A) → b ≡ false → (if b then x else y) ≡ y
 if-false b x y e = ap (λ t. if t then x else y) e
 
--- one more binding behind the others
+-- one more binding after the others
 pub pushed-name : (old new : List Named) (x : Bor (List ℕ)) (v : code.Value) → new ≡ old ++ (x, v) ∷ [] → scope_of new [] ≡ (x.now, view v) ∷ scope_of old []
 pushed-name old new x v e = ap (λ l. scope_of l []) e ∙ scope-append old ((x, v) ∷ []) []
 

@@ -4,7 +4,7 @@ use Rattle.nv_base.specs.Memories.{Memories}
 use Rattle.nv_base.specs.Meanings.{left_by}
 use Rattle.nv_base.specs.Progress.{FollowsAll}
 use Rattle.nv_ast.specs.Tree.{ProgramTree, FunTree}
-use Rattle.nv_values.specs.Running.{Running, Result, Gives, Raises, Stops, closed}
+use Rattle.nv_values.specs.Running.{Running, Result, Gives, Raises, Halts, closed}
 use Rattle.nv_meaning.specs.Meaning.{Declared, source, declared, function_in, run_main, calls_within}
 use Rattle.nv_meaning.specs.Laws.{Seeking}
 use Rattle.nv_meaning.specs.inner.Ran.{Grown, now_of}
@@ -14,7 +14,7 @@ use Rattle.nv_meaning.proofs.Whole.{closed-writes}
 closed-packet : (r : Result) → (closed r).packet ≡ (now_of r).packet
 closed-packet (Gives v now) = refl
 closed-packet (Raises k vs now) = refl
-closed-packet (Stops how now) = refl
+closed-packet (Halts how now) = refl
 
 main-grows : (d : Declared) (f : Option FunTree) (args : List ℕ) (n : ℕ) (now : Running) → Grown now (run_main d f args n now)
 main-grows d (Some f) args n now = eval-grows d (calls_within n d) (calls-grow n d) f.body _ now

@@ -11,7 +11,7 @@ use Rattle.nv_ast.specs.declared.tree.Op.TheVariants.{Add, Sub, And, Or, Xor, Eq
 use Rattle.nv_ast.specs.Faults.{can_move}
 use Rattle.nv_ast.specs.Tree.{Tree, NumberTree, TruthTree, VarTree, ParenTree, TupleTree, FieldsTree, DotTree, InvertTree, NegateTree, BinaryTree, ShiftTree, CallTree, UnpackTree, PackTree, RaiseTree, IfTree, TryTree, FetchTree, BlockTree, Trees, no_trees, tree_and, NamedTrees, no_named_trees, named_tree_and, StatementTree, LetStatement, StoreStatement, StatementTrees, no_statements, statement_and, FunTree}
 use Rattle.nv_values.specs.Values.{Value, Tuple, Record, Values, NamedValues, Scope, word_of, truth_of, words_of, all_matched}
-use Rattle.nv_values.specs.Running.{Running, Result, Gives, Raises, Stops, Results, GiveAll, Breaks, NamedResults, GiveNamed, BreaksNamed, Stated, GoesOn, StopsAt, and_then, and_all, and_named, and_stated, and_further, then_more, then_named, then_stated, before_rest, before_named, handled, exception_number, fetch, after_fetch, store, after_store, taken}
+use Rattle.nv_values.specs.Running.{Running, Result, Gives, Raises, Halts, Results, GiveAll, Breaks, NamedResults, GiveNamed, BreaksNamed, Stated, GoesOn, StopsAt, and_then, and_all, and_named, and_stated, and_further, then_more, then_named, then_stated, before_rest, before_named, handled, exception_number, fetch, after_fetch, store, after_store, taken}
 use Rattle.nv_meaning.specs.Meaning.{Declared, Calls, combined, binary, eval, eval_all, eval_named, run_one, run_all, enter, entered, function_in, calls_within}
 use Rattle.nv_meaning.specs.inner.Ran.{Grown, now_of, all_result, named_result, stated_result}
 
@@ -32,7 +32,7 @@ grown-further a b ws r e p g = record {
 pub grown-then : (now : Running) (q : Result) (next : Value → Running → Result) → Grown now q → ((v : Value) (last : Running) → Grown last (next v last)) → Grown now (and_then q next)
 grown-then now (Gives v last) next g h = grown-further now last g.rest (next v last) g.writes g.packet (h v last)
 grown-then now (Raises k vs last) next g h = g
-grown-then now (Stops how last) next g h = g
+grown-then now (Halts how last) next g h = g
 
 pub grown-all : (now : Running) (q : Results) (next : Values → Running → Result) → Grown now (all_result q) → ((vs : Values) (last : Running) → Grown last (next vs last)) → Grown now (and_all q next)
 grown-all now (GiveAll vs last) next g h = grown-further now last g.rest (next vs last) g.writes g.packet (h vs last)
@@ -53,17 +53,17 @@ grown-further_on now (StopsAt how) next g h = g
 pub grown-more : (now : Running) (q : Result) (next : Value → Running → Results) → Grown now q → ((v : Value) (last : Running) → Grown last (all_result (next v last))) → Grown now (all_result (then_more q next))
 grown-more now (Gives v last) next g h = grown-further now last g.rest (all_result (next v last)) g.writes g.packet (h v last)
 grown-more now (Raises k vs last) next g h = g
-grown-more now (Stops how last) next g h = g
+grown-more now (Halts how last) next g h = g
 
 pub grown-more_named : (now : Running) (q : Result) (next : Value → Running → NamedResults) → Grown now q → ((v : Value) (last : Running) → Grown last (named_result (next v last))) → Grown now (named_result (then_named q next))
 grown-more_named now (Gives v last) next g h = grown-further now last g.rest (named_result (next v last)) g.writes g.packet (h v last)
 grown-more_named now (Raises k vs last) next g h = g
-grown-more_named now (Stops how last) next g h = g
+grown-more_named now (Halts how last) next g h = g
 
 pub grown-statement : (now : Running) (q : Result) (next : Value → Running → Stated) → Grown now q → ((v : Value) (last : Running) → Grown last (stated_result (next v last))) → Grown now (stated_result (then_stated q next))
 grown-statement now (Gives v last) next g h = grown-further now last g.rest (stated_result (next v last)) g.writes g.packet (h v last)
 grown-statement now (Raises k vs last) next g h = g
-grown-statement now (Stops how last) next g h = g
+grown-statement now (Halts how last) next g h = g
 
 pub grown-before : (now : Running) (v : Value) (q : Results) → Grown now (all_result q) → Grown now (all_result (before_rest v q))
 grown-before now v (GiveAll vs last) g = record { rest = g.rest; writes = g.writes; packet = g.packet }
@@ -80,7 +80,7 @@ grown-if false now q r g h = h
 pub grown-handled : (k : ℕ) (now : Running) (handler : Values → Running → Result) (q : Result) → Grown now q → ((vs : Values) (last : Running) → Grown last (handler vs last)) → Grown now (handled k handler q)
 grown-handled k now handler (Gives v last) g h = g
 grown-handled k now handler (Raises j vs last) g h = grown-if (j == k) now (handler vs last) (Raises j vs last) (grown-further now last g.rest (handler vs last) g.writes g.packet (h vs last)) g
-grown-handled k now handler (Stops how last) g h = g
+grown-handled k now handler (Halts how last) g h = g
 
 -- ---- accesses
 fetch-rests : (m : Mem) (at : ℕ) (found : Option (List ℕ)) (now : Running) → now_of (after_fetch m at found now) ≡ now

@@ -9,7 +9,7 @@ pub mod Kept
 pub mod TreeKinds
 pub mod Operands
 pub mod Access
-pub mod Places
+pub mod NameIndices
 pub mod Sizing
 pub mod Unpacking
 pub mod Whole

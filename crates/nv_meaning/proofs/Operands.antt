@@ -18,8 +18,8 @@ use Rattle.nv_values.specs.Running.{Running, Gives, fetch}
 use Rattle.nv_meaning.specs.Meaning.{Declared, shifted}
 use Rattle.nv_meaning.specs.inner.Operand.{made_of}
 use Rattle.nv_values.specs.declared.value.Value as code
-use Rattle.nv_values.specs.declared.stop.Stop.{Stop}
-use Rattle.nv_values.specs.declared.stop.Stop.TheVariants.{NoMemory}
+use Rattle.nv_values.specs.declared.stop.Interruption.{Interruption}
+use Rattle.nv_values.specs.declared.stop.Interruption.TheVariants.{NoMemory}
 use Rattle.nv_values.specs.inner.View.{view}
 use Rattle.nv_meaning.specs.inner.Ran.{IsValue}
 use Rattle.nv_meaning.proofs.Arms.{value-as}
@@ -45,10 +45,10 @@ module _ (d : Declared) (e : Expr) (v : Value) (now : Running) where
   pub made-pack : (l : List ℕ) (a : Box Expr Global) (r : code.Value) → (out-Expr e).kind ≡ kinds.Pack l a → view r ≡ packed_value (outline d.layouts (NamedLayout l)) v → IsValue (Ok r) now (made_of d (tree_of e) v now)
   made-pack l a r h is = ap (λ t. made_of d t v now) (pack-is e l a a.value h refl) ∙ ap (λ z. Gives z now) (sym is)
 
-  pub made-fetch : (m : Mem) (n : ℕ) (a : Box Expr Global) (x : ℕ) (answer : Answer code.Value Stop) → (out-Expr e).kind ≡ kinds.Fetch m n a → x ≡ word_of v → IsValue answer now (fetch m n x now) → IsValue answer now (made_of d (tree_of e) v now)
+  pub made-fetch : (m : Mem) (n : ℕ) (a : Box Expr Global) (x : ℕ) (answer : Answer code.Value Interruption) → (out-Expr e).kind ≡ kinds.Fetch m n a → x ≡ word_of v → IsValue answer now (fetch m n x now) → IsValue answer now (made_of d (tree_of e) v now)
   made-fetch m n a x answer h is r = value-as answer now (fetch m n x now) (made_of d (tree_of e) v now) (ap (λ t. made_of d t v now) (fetch-is e m n a a.value h refl) ∙ ap (λ k. fetch m n k now) (sym is)) r
 
-  -- want of memory
+  -- memory exhaustion
   pub made-short : IsValue (Err NoMemory) now (made_of d (tree_of e) v now)
   made-short = made-grows d (tree_of e) v now
 

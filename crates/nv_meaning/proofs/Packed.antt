@@ -54,7 +54,7 @@ front-long place xs bs h = length-append (take place bs) xs ∙ ap (λ k. k + le
 pub drop-replaced : (place : ℕ) (xs bs : List ℕ) → place + length xs ≤ length bs → drop (place + length xs) (replaced place xs bs) ≡ drop (place + length xs) bs
 drop-replaced place xs bs h = ap (λ k. drop k (replaced place xs bs)) (sym (front-long place xs bs h)) ∙ drop-append_seam (take place bs ++ xs) (drop (place + length xs) bs)
 
--- one list behind another
+-- one list after another
 pub replaced-more : (place : ℕ) (xs ys bs : List ℕ) → place + length xs ≤ length bs → replaced (place + length xs) ys (replaced place xs bs) ≡ replaced place (xs ++ ys) bs
 replaced-more place xs ys bs h =
     let front : take (place + length xs) (replaced place xs bs) ≡ take place bs ++ xs = ap (λ k. take k (replaced place xs bs)) (sym (front-long place xs bs h)) ∙ take-append_seam (take place bs ++ xs) (drop (place + length xs) bs) in
@@ -83,7 +83,7 @@ replaced-zeros place n bs h blank =
     ∙ ap (λ l. take place bs ++ l) (sym (replicate-split n (length bs - (place + n))) ∙ ap (λ k. replicate k 0) (sym split) ∙ sym blank)
     ∙ take-append-drop place bs
 
--- what is behind a writing is still blank
+-- what is after a writing is still blank
 pub blank-behind : (place : ℕ) (xs bs : List ℕ) → place + length xs ≤ length bs → IsBlankFrom place bs → IsBlankFrom (place + length xs) (replaced place xs bs)
 blank-behind place xs bs h blank =
     drop-replaced place xs bs h ∙ sym (drop-drop (length xs) place bs) ∙ ap (λ l. drop (length xs) l) blank ∙ drop-replicate (length xs) (length bs - place) 0

@@ -119,7 +119,7 @@ named_words-push : (ys : List Named) (v : Named) → length (all_named_words (li
 named_words-push [] v = length-append (words_of (view v.1)) [] ∙ omega arith
 named_words-push (y ∷ ys) v = omega (arith, length-append (words_of (view y.1)) (all_named_words (list_named_values (ys ++ v ∷ []))), length-append (words_of (view y.1)) (all_named_words (list_named_values ys)), named_words-push ys v)
 
--- a place of words that stands still behind the end
+-- a place of words that stands still after the end
 capped-more : (first k m most : ℕ) (here next : ℕ) → here ≡ min (first + k) most → next ≡ min (here + m) most → next ≡ min (first + (k + m)) most
 capped-more first k m most here next e n = omega arith
 

@@ -11,7 +11,7 @@ use Rattle.nv_ast.specs.Outline.{OutlineTree, Layouts, outline, size, PartsOutli
 use Rattle.nv_ast.specs.Tree.{LayoutTree}
 use Rattle.nv_meaning.specs.inner.Tables.{place_from, laid, layout_pairs}
 use Rattle.nv_meaning.specs.inner.Sizes.{sizes_of, size_at, AreSizes}
-use Rattle.nv_meaning.proofs.Places.{Item, firsts, laid-front, laid-append, pairs-push, value-found, value-beyond, value-none, all-firsts}
+use Rattle.nv_meaning.proofs.NameIndices.{Item, firsts, laid-front, laid-append, pairs-push, value-found, value-beyond, value-none, all-firsts}
 use Rattle.nv_ast.proofs.Items.{take_item}
 
 -- the first outlines are those of the first layouts

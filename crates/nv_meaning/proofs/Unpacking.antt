@@ -57,14 +57,14 @@ pub drop-nothing : {A : Type 0} (n : ℕ) → drop {A = A} n [] ≡ []
 drop-nothing zero = refl
 drop-nothing (suc n) = refl
 
--- a place that stands still behind the end
+-- a place that stands still after the end
 pub drop-capped : (k most : ℕ) (bs : List ℕ) → length bs ≤ most → drop (min k most) bs ≡ drop k bs
 drop-capped k most bs h = elim (cases_lt k most) [
   | inl below ↦ (let e : min k most ≡ k = omega arith in ap (λ n. drop n bs) e)
   | inr past ↦ (let e : min k most ≡ most = omega arith in ap (λ n. drop n bs) e ∙ drop_all most bs h ∙ sym (drop_all k bs (omega arith)))
 ]
 
--- the bits behind a place that stands still, and behind k more
+-- the bits after a place that stands still, and behind k more
 pub drop-at : (at first k most : ℕ) (bs : List ℕ) → length bs ≤ most → at ≡ min (first + k) most → drop at bs ≡ drop k (drop first bs)
 drop-at at first k most bs h e = ap (λ n. drop n bs) e ∙ drop-capped (first + k) most bs h ∙ sym (drop-drop k first bs)
 

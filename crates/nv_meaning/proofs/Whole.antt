@@ -11,11 +11,11 @@ use Rattle.nv_base.specs.Meanings.{FullOutcome, source_writes, left_by, IsPrefix
 use Rattle.nv_ast.specs.Name.{IsName}
 use Rattle.nv_ast.specs.Tree.{ProgramTree, FunTree}
 use Rattle.nv_values.specs.Values.{Scope, words_of, all_words}
-use Rattle.nv_values.specs.Running.{Running, Result, Gives, Raises, Stops, closed, over}
+use Rattle.nv_values.specs.Running.{Running, Result, Gives, Raises, Halts, closed, over}
 use Rattle.nv_meaning.specs.Meaning.{Declared, eval, run_main, source, declared, function_in, calls_within}
 use Rattle.nv_values.specs.declared.value.Value as code
-use Rattle.nv_values.specs.declared.stop.Stop.{Stop}
-use Rattle.nv_values.specs.declared.stop.Stop.TheVariants as stops
+use Rattle.nv_values.specs.declared.stop.Interruption.{Interruption}
+use Rattle.nv_values.specs.declared.stop.Interruption.TheVariants as stops
 use Rattle.nv_values.specs.inner.View.{view, list_values}
 use Rattle.nv_meaning.specs.inner.Ran.{At, at, running, Wrote, RanValue, IsValue, Grown, now_of, Executes}
 use Rattle.nv_meaning.proofs.Grows.{grown-here}
@@ -26,7 +26,7 @@ main_name = ((inr (inl (lit≤ tt, lit≤ tt)), (inl (inr (inl (lit≤ tt, lit�
 pub closed-writes : (r : Result) → (closed r).writes ≡ (now_of r).writes
 closed-writes (Gives v now) = refl
 closed-writes (Raises k vs now) = refl
-closed-writes (Stops how now) = refl
+closed-writes (Halts how now) = refl
 
 -- the answer of a run whose main came to r after these writes
 executes : (a b : At) (r : Result) (wrote : List Write) (result : Answer Outcome NoMemory) → Wrote a b wrote → IfOk result (λ o. closed r ≡ over o (running b wrote)) → OnErr result (Grown (running b wrote) r) → Executes result a b (closed r)
@@ -43,7 +43,7 @@ executes-left a b n f (Ok o) h = h
 executes-left a b n f (Err e) h = h
 
 -- ---- the outcome that main's answer gives
-module _ (answer : Answer code.Value Stop) (now : Running) (r : Result) (h : IsValue answer now r) where
+module _ (answer : Answer code.Value Interruption) (now : Running) (r : Result) (h : IsValue answer now r) where
   pub ended : (v : code.Value) (words first : List ℕ) → answer ≡ Ok v → words ≡ words_of (view v) → first ≡ take 8 words → closed r ≡ over (outcome.Ended first) now
   ended v words first is w f =
       let e : r ≡ Gives (view v) now = subst (λ a. IsValue a now r) is h in
@@ -70,7 +70,7 @@ module _ (answer : Answer code.Value Stop) (now : Running) (r : Result) (h : IsV
   short-stop is = subst (λ a. IsValue a now r) is h
 
 -- main's body has come to an answer
-pub main-executes : (d : Declared) (n : ℕ) (p : Memories) (log : Log) (b : At) (fun : FunTree) (args : List ℕ) (s : Scope) (answer : Answer code.Value Stop) (result : Answer Outcome NoMemory)
+pub main-executes : (d : Declared) (n : ℕ) (p : Memories) (log : Log) (b : At) (fun : FunTree) (args : List ℕ) (s : Scope) (answer : Answer code.Value Interruption) (result : Answer Outcome NoMemory)
     → RanValue d (at n p log) b answer (λ call now. eval d call fun.body s now)
     → (r : Result) → r ≡ eval d (calls_within n d) fun.body s (record { calls = n; packet = p; writes = [] })
     → ((now : Running) (q : Result) → IsValue answer now q → IfOk result (λ o. closed q ≡ over o now))

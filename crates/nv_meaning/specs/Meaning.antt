@@ -14,7 +14,7 @@ use Rattle.nv_ast.specs.Types.{named_types_of}
 use Rattle.nv_values.specs.Values.{Word, Truth, Tuple, Record, Values, no_values, value_and, NamedValues, no_named_values, named_value_and, named_values_from, Scope, variable_in, word_of, truth_of, fields_of, field_named, words_of, all_matched, matched}
 pub use Rattle.nv_values.specs.Operators.{combined, shifted}
 use Rattle.nv_meaning.specs.Packing.{unpacked_value, packed_value}
-use Rattle.nv_values.specs.Running.{Running, Result, Gives, Raises, Stops, Results, GiveAll, NamedResults, GiveNamed, Stated, GoesOn, and_then, and_all, and_named, and_stated, and_further, then_more, then_named, then_stated, before_rest, before_named, handled, exception_number, fetch, store, taken, closed}
+use Rattle.nv_values.specs.Running.{Running, Result, Gives, Raises, Halts, Results, GiveAll, NamedResults, GiveNamed, Stated, GoesOn, and_then, and_all, and_named, and_stated, and_further, then_more, then_named, then_stated, before_rest, before_named, handled, exception_number, fetch, store, taken, closed}
 
 -- ---- operators: the left operand first; && and || evaluate the right one only where it decides
 abbrev pub binary : Op → Result → (Running → Result) → Result
@@ -103,12 +103,12 @@ entered _ _ scope = scope
 -- what the body of a function comes to; a call of no function is going for ever
 abbrev pub enter : Declared → Calls → Option FunTree → Values → Running → Result
 enter d call (Some f) vs now = eval d call f.body (entered f.params vs []) now
-enter d call None vs now = Stops outcome.Going now
+enter d call None vs now = Halts outcome.Going now
 
 -- calls that lie at most so deep in one another. The n calls of a run are counted in the run itself, wherever they stand,
 -- and n calls never lie deeper than n.
 abbrev pub calls_within : ℕ → Declared → Calls
-calls_within zero d f vs now = Stops outcome.Going now
+calls_within zero d f vs now = Halts outcome.Going now
 calls_within (suc depth) d f vs now = taken now.calls now (λ next. enter d (calls_within depth d) (function_in d.functions f) vs next)
 
 -- ---- programs
@@ -121,7 +121,7 @@ named_scope (named_value_and x v vs) scope = named_scope vs ((x, v) ∷ scope)
 -- what main comes to on these arguments, with this many calls; its start takes none
 abbrev pub run_main : Declared → Option FunTree → List ℕ → ℕ → Running → Result
 run_main d (Some f) args n now = eval d (calls_within n d) f.body (named_scope (named_values_from (named_types_of d.layouts f.params) args) []) now
-run_main d None args n now = Stops outcome.Going now
+run_main d None args n now = Halts outcome.Going now
 
 -- the meaning of a program on these arguments and memories: its full outcome for each number of calls
 abbrev pub source : ProgramTree → List ℕ → Memories → Meaning

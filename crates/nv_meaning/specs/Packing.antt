@@ -16,7 +16,7 @@ abbrev mutual
   value_at (OverlayOutline fs) bs = Record (alternatives_at fs bs)
   value_at (JoinedOutline os) bs = Record (joined_at os bs)
 
-  -- each field behind the one before it
+  -- each field after the one before it
   pub parts_at : NamedOutlines → List ℕ → NamedValues
   parts_at no_named_outlines bs = no_named_values
   parts_at (named_outline_and x o os) bs = named_value_and x (value_at o bs) (parts_at os (drop (size o) bs))
@@ -58,7 +58,7 @@ abbrev mutual
   joined_bits no_outlines v = []
   joined_bits (outline_and o os) v = bits_of o v ++ joined_bits os v
 
--- the first n words of a list of bits, with zeros behind its end
+-- the first n words of a list of bits, with zeros after its end
 abbrev pub words_of_bits : ℕ → List ℕ → List ℕ
 words_of_bits zero bs = []
 words_of_bits (suc n) bs = number (take 32 (bs ++ replicate 32 0)) ∷ words_of_bits n (drop 32 bs)

@@ -37,7 +37,7 @@ pub fn add_arguments<'a>(
     Ok(())
 }
 
-// The value of a parameter of a type, out of the words from a place on, and the place behind them.
+// The value of a parameter of a type, out of the words from a place on, and the place after them.
 fn argument<'a>(
     alloc: Global,
     t: &Table<'a>,
@@ -134,7 +134,7 @@ fn blank_words<'a>(alloc: Global, n: u64) -> Result<Value<'a>, NoMemory>
 
 // ---- a value of the same form with other words
 
-// The value with the words from a place on, and the place behind them.
+// The value with the words from a place on, and the place after them.
 #[cycle(filled)]
 fn filled<'a>(
     alloc: Global,

@@ -10,7 +10,7 @@ ghost use Rattle.nv_meaning.specs.inner.Ran.{at as moment, RanScope};
 
 use crate::parts::words_in;
 use nv_base::{Access, Mem, Packet, Words, Write, WriteLog};
-use nv_values::{Stop, Value, can_move, note};
+use nv_values::{Interruption, Value, can_move, note};
 use std::alloc::Global;
 
 /// Stores the words of a value from an address on, and notes the write.
@@ -21,7 +21,7 @@ pub fn stored<'a>(
     m: Mem,
     at: u32,
     v: Value<'a>,
-) -> Result<(), Stop<'a>>
+) -> Result<(), Interruption<'a>>
     ensures { (d : Declared) (left : ℕ) (scope : Scope) → RanScope d (moment left p.old log.old) (moment left p.new log.new) result scope (λ call now. store scope m at (words_of (view v.entry)) now) }
 {
     let words = words_in(alloc, &v)?;
@@ -37,7 +37,7 @@ fn write<'a>(
     m: Mem,
     at: u32,
     words: &[u32],
-) -> Result<(), Stop<'a>>
+) -> Result<(), Interruption<'a>>
     requires { may_move m (length words.now) ≡ true }
     ensures { (d : Declared) (left : ℕ) (scope : Scope) → RanScope d (moment left p.old log.old) (moment left p.new log.new) result scope (λ call now. store scope m at words.now now) }
 {
@@ -47,13 +47,13 @@ fn write<'a>(
         words: Words::of(words),
     };
     if log.count() >= 1 << 63 {
-        return Err(Stop::NoMemory);
+        return Err(Interruption::NoMemory);
     }
     match p.write(m, at as u64, words) {
         Access::Done => {
             note(log, w);
             Ok(())
         }
-        Access::Bad => Err(Stop::Fault(m, at)),
+        Access::Bad => Err(Interruption::Fault(m, at)),
     }
 }

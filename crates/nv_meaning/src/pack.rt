@@ -90,7 +90,7 @@ fn fields_in<'b, 'a>(v: &'b Value<'a>) -> &'b [Field<'a>]
 
 // ---- words
 
-// Writes the bits of a layout from a place on, and answers the place behind them. Gaps are zeros
+// Writes the bits of a layout from a place on, and answers the place after them. Gaps are zeros
 // already.
 #[cycle(write)]
 fn write_layout<'a>(

@@ -17,7 +17,7 @@ use crate::run::settled;
 use crate::table::Table;
 use nv_ast::{Fun, Name, Typed};
 use nv_base::{NoMemory, Outcome, Packet, WriteLog};
-use nv_values::{Stop, Value, first_words};
+use nv_values::{Interruption, Value, first_words};
 use std::alloc::Global;
 
 /// Runs a program on these arguments with `n` calls: outcome, packet and log are those of its
@@ -63,7 +63,7 @@ pub fn run_main<'a>(
 }
 
 // The outcome of a run whose main came to this.
-fn outcome_of(alloc: Global, answer: Result<Value, Stop>) -> Result<Outcome, NoMemory>
+fn outcome_of(alloc: Global, answer: Result<Value, Interruption>) -> Result<Outcome, NoMemory>
     ensures done { (now : Running) (r : RunResult) → IsValue answer.entry now r → IfOk result (λ o. closed r ≡ over o now) }
     ensures before { (now : Running) (r : RunResult) → IsValue answer.entry now r → OnErr result (Grown now r) }
 {
@@ -73,13 +73,13 @@ fn outcome_of(alloc: Global, answer: Result<Value, Stop>) -> Result<Outcome, NoM
             Ok(Outcome::Ended(first_words(&words)))
         }
         Err(stop) => match stop {
-            Stop::NoMemory => Err(NoMemory),
-            Stop::Raised(k, vs) => {
+            Interruption::NoMemory => Err(NoMemory),
+            Interruption::Raised(k, vs) => {
                 let words = all_words_in(alloc, &vs)?;
                 Ok(Outcome::Raised(k, first_words(&words)))
             }
-            Stop::Fault(m, at) => Ok(Outcome::Fault(m, at as u64)),
-            Stop::Going => Ok(Outcome::Going),
+            Interruption::Fault(m, at) => Ok(Outcome::Fault(m, at as u64)),
+            Interruption::Going => Ok(Outcome::Going),
         },
     }
 }

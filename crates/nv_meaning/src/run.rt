@@ -20,7 +20,9 @@ use crate::table::Table;
 use crate::unpack::unpacked;
 use nv_ast::{Expr, Kind, Name, Op, Pat, Stmt};
 use nv_base::{Mem, Packet, WriteLog, word};
-use nv_values::{Field, Stop, Value, combined, fetched, is_true, shifted, truth_in, word_in};
+use nv_values::{
+    Field, Interruption, Value, combined, fetched, is_true, shifted, truth_in, word_in,
+};
 use std::alloc::Global;
 
 /// What an expression comes to, with the calls in its place still to be made.
@@ -33,7 +35,7 @@ pub fn eval<'a>(
     p: &mut Packet,
     log: &mut WriteLog,
     left: &mut u64,
-) -> Result<Step<'a>, Stop<'a>>
+) -> Result<Step<'a>, Interruption<'a>>
     ensures ran { RanStep (declared_in t.now) (at left.old p.old log.old) (at left.new p.new log.new) result (λ call now. evaluated (declared_in t.now) call (tree_of e.now) (scope_of scope.old.items []) now) }
     ensures left { left.new ≤ left.old }
     ensures extends { Extends scope.old.items scope.new.items }
@@ -72,7 +74,7 @@ pub fn settled<'a>(
     p: &mut Packet,
     log: &mut WriteLog,
     left: &mut u64,
-) -> Result<Value<'a>, Stop<'a>>
+) -> Result<Value<'a>, Interruption<'a>>
     ensures ran { RanValue (declared_in t.now) (at left.old p.old log.old) (at left.new p.new log.new) result (λ call now. evaluated (declared_in t.now) call (tree_of e.now) (scope_of scope.old.items []) now) }
     ensures left { left.new ≤ left.old }
     ensures extends { Extends scope.old.items scope.new.items }
@@ -95,7 +97,7 @@ fn call<'a>(
     p: &mut Packet,
     log: &mut WriteLog,
     left: &mut u64,
-) -> Result<Value<'a>, Stop<'a>>
+) -> Result<Value<'a>, Interruption<'a>>
     ensures ran { RanValue (declared_in t.now) (at left.old p.old log.old) (at left.new p.new log.new) result (λ call now. call f.now (list_values vs.entry.items) now) }
     ensures left { left.new ≤ left.old }
 {
@@ -104,11 +106,11 @@ fn call<'a>(
     let mut scope = Vec::new(alloc);
     loop {
         if *left == 0 {
-            return Err(Stop::Going);
+            return Err(Interruption::Going);
         }
         *left -= 1;
         match t.function(callee) {
-            None => return Err(Stop::Going),
+            None => return Err(Interruption::Going),
             Some(function) => {
                 scope.clear();
                 enter(&function.params, args, &mut scope)?;
@@ -137,7 +139,7 @@ fn each<'a>(
     p: &mut Packet,
     log: &mut WriteLog,
     left: &mut u64,
-) -> Result<Vec<Value<'a>>, Stop<'a>>
+) -> Result<Vec<Value<'a>>, Interruption<'a>>
     ensures ran { RanValues (declared_in t.now) (at left.old p.old log.old) (at left.new p.new log.new) result (λ call now. eval_all (declared_in t.now) call (list_trees es.now) (scope_of scope.old.items []) now) }
     ensures left { left.new ≤ left.old }
     ensures extends { Extends scope.old.items scope.new.items }
@@ -161,7 +163,7 @@ fn each_named<'a>(
     p: &mut Packet,
     log: &mut WriteLog,
     left: &mut u64,
-) -> Result<Vec<Field<'a>>, Stop<'a>>
+) -> Result<Vec<Field<'a>>, Interruption<'a>>
     ensures ran { RanFields (declared_in t.now) (at left.old p.old log.old) (at left.new p.new log.new) result (λ call now. eval_named (declared_in t.now) call (list_named_trees es.now) (scope_of scope.old.items []) now) }
     ensures left { left.new ≤ left.old }
     ensures extends { Extends scope.old.items scope.new.items }
@@ -186,7 +188,7 @@ fn statements<'a>(
     p: &mut Packet,
     log: &mut WriteLog,
     left: &mut u64,
-) -> Result<(), Stop<'a>>
+) -> Result<(), Interruption<'a>>
     ensures ran { RanScope (declared_in t.now) (at left.old p.old log.old) (at left.new p.new log.new) result (scope_of scope.new.items []) (λ call now. run_all (declared_in t.now) call (list_statements sts.now) (scope_of scope.old.items []) now) }
     ensures left { left.new ≤ left.old }
     ensures extends { Extends scope.old.items scope.new.items }
@@ -207,7 +209,7 @@ fn statement<'a>(
     p: &mut Packet,
     log: &mut WriteLog,
     left: &mut u64,
-) -> Result<(), Stop<'a>>
+) -> Result<(), Interruption<'a>>
     ensures ran { RanScope (declared_in t.now) (at left.old p.old log.old) (at left.new p.new log.new) result (scope_of scope.new.items []) (λ call now. run_one (declared_in t.now) call (statement_tree st.now) (scope_of scope.old.items []) now) }
     ensures left { left.new ≤ left.old }
     ensures extends { Extends scope.old.items scope.new.items }
@@ -234,7 +236,7 @@ fn store<'a>(
     p: &mut Packet,
     log: &mut WriteLog,
     left: &mut u64,
-) -> Result<(), Stop<'a>>
+) -> Result<(), Interruption<'a>>
     ensures ran { RanScope (declared_in t.now) (at left.old p.old log.old) (at left.new p.new log.new) result (scope_of scope.new.items []) (λ call now. then_stated (evaluated (declared_in t.now) call (tree_of a.now) (scope_of scope.old.items []) now) (λ v next. then_stated (evaluated (declared_in t.now) call (tree_of e.now) (scope_of scope.old.items []) next) (λ w last. store_of (scope_of scope.old.items []) m (word_of v) (words_of w) last))) }
     ensures left { left.new ≤ left.old }
     ensures extends { Extends scope.old.items scope.new.items }
@@ -252,7 +254,7 @@ fn look_up<'a>(
     alloc: Global,
     scope: &[(&'a Name, Value<'a>)],
     x: &Name,
-) -> Result<Step<'a>, Stop<'a>>
+) -> Result<Step<'a>, Interruption<'a>>
     ensures { (call : Calls) (now : Running) → IsStep call result now (Gives (variable_in (scope_of scope.now []) x.now) now) }
 {
     Ok(Step::Done(variable(alloc, scope, x)?))
@@ -268,7 +270,7 @@ fn tuple<'a>(
     p: &mut Packet,
     log: &mut WriteLog,
     left: &mut u64,
-) -> Result<Step<'a>, Stop<'a>>
+) -> Result<Step<'a>, Interruption<'a>>
     ensures ran { RanStep (declared_in t.now) (at left.old p.old log.old) (at left.new p.new log.new) result (λ call now. and_all (eval_all (declared_in t.now) call (list_trees es.now) (scope_of scope.old.items []) now) (λ vs last. Gives (TupleOf vs) last)) }
     ensures left { left.new ≤ left.old }
     ensures extends { Extends scope.old.items scope.new.items }
@@ -288,7 +290,7 @@ fn record<'a>(
     p: &mut Packet,
     log: &mut WriteLog,
     left: &mut u64,
-) -> Result<Step<'a>, Stop<'a>>
+) -> Result<Step<'a>, Interruption<'a>>
     ensures ran { RanStep (declared_in t.now) (at left.old p.old log.old) (at left.new p.new log.new) result (λ call now. and_named (eval_named (declared_in t.now) call (list_named_trees es.now) (scope_of scope.old.items []) now) (λ vs last. Gives (RecordOf vs) last)) }
     ensures left { left.new ≤ left.old }
     ensures extends { Extends scope.old.items scope.new.items }
@@ -310,7 +312,7 @@ fn again<'a>(
     p: &mut Packet,
     log: &mut WriteLog,
     left: &mut u64,
-) -> Result<Step<'a>, Stop<'a>>
+) -> Result<Step<'a>, Interruption<'a>>
     ensures ran { RanStep (declared_in t.now) (at left.old p.old log.old) (at left.new p.new log.new) result (λ call now. and_all (eval_all (declared_in t.now) call (list_trees es.now) (scope_of scope.old.items []) now) (λ vs next. call f.now vs next)) }
     ensures left { left.new ≤ left.old }
     ensures extends { Extends scope.old.items scope.new.items }
@@ -331,14 +333,14 @@ fn raise<'a>(
     p: &mut Packet,
     log: &mut WriteLog,
     left: &mut u64,
-) -> Result<Step<'a>, Stop<'a>>
+) -> Result<Step<'a>, Interruption<'a>>
     ensures ran { RanStep (declared_in t.now) (at left.old p.old log.old) (at left.new p.new log.new) result (λ call now. and_all (eval_all (declared_in t.now) call (list_trees es.now) (scope_of scope.old.items []) now) (λ vs last. Raises (exception_number (declared_in t.now).exceptions x.now) vs last)) }
     ensures left { left.new ≤ left.old }
     ensures extends { Extends scope.old.items scope.new.items }
     ensures same { OnOk result (scope.new.items ≡ scope.old.items) }
 {
     let vs = each(alloc, t, es, scope, p, log, left)?;
-    Err(Stop::Raised(t.exception(x), vs))
+    Err(Interruption::Raised(t.exception(x), vs))
 }
 
 #[cycle(run)]
@@ -353,7 +355,7 @@ fn binary<'a>(
     p: &mut Packet,
     log: &mut WriteLog,
     left: &mut u64,
-) -> Result<Step<'a>, Stop<'a>>
+) -> Result<Step<'a>, Interruption<'a>>
     ensures ran { RanStep (declared_in t.now) (at left.old p.old log.old) (at left.new p.new log.new) result (λ call now. binary_of op (evaluated (declared_in t.now) call (tree_of a.now) (scope_of scope.old.items []) now) (λ next. evaluated (declared_in t.now) call (tree_of b.now) (scope_of scope.old.items []) next)) }
     ensures left { left.new ≤ left.old }
     ensures extends { Extends scope.old.items scope.new.items }
@@ -402,7 +404,7 @@ fn choose<'a>(
     p: &mut Packet,
     log: &mut WriteLog,
     left: &mut u64,
-) -> Result<Step<'a>, Stop<'a>>
+) -> Result<Step<'a>, Interruption<'a>>
     ensures ran { RanStep (declared_in t.now) (at left.old p.old log.old) (at left.new p.new log.new) result (λ call now. and_then (evaluated (declared_in t.now) call (tree_of c.now) (scope_of scope.old.items []) now) (λ v next. if truth_of v then evaluated (declared_in t.now) call (tree_of a.now) (scope_of scope.old.items []) next else evaluated (declared_in t.now) call (tree_of b.now) (scope_of scope.old.items []) next)) }
     ensures left { left.new ≤ left.old }
     ensures extends { Extends scope.old.items scope.new.items }
@@ -429,7 +431,7 @@ fn try_<'a>(
     p: &mut Packet,
     log: &mut WriteLog,
     left: &mut u64,
-) -> Result<Step<'a>, Stop<'a>>
+) -> Result<Step<'a>, Interruption<'a>>
     ensures ran { RanStep (declared_in t.now) (at left.old p.old log.old) (at left.new p.new log.new) result (λ call now. handled (exception_number (declared_in t.now).exceptions x.now) (λ vs next. evaluated (declared_in t.now) call (tree_of h.now) (all_matched (list_patterns ps.now) vs (scope_of scope.old.items [])) next) (evaluated (declared_in t.now) call (tree_of a.now) (scope_of scope.old.items []) now)) }
     ensures left { left.new ≤ left.old }
     ensures extends { Extends scope.old.items scope.new.items }
@@ -439,17 +441,17 @@ fn try_<'a>(
     match settled(alloc, t, a, scope, p, log, left) {
         Ok(v) => Ok(Step::Done(v)),
         Err(stop) => match stop {
-            Stop::Raised(k, vs) => {
+            Interruption::Raised(k, vs) => {
                 if k == t.exception(x) {
                     scope.truncate(mark);
                     handle(alloc, t, ps, vs, h, scope, p, log, left)
                 } else {
-                    Err(Stop::Raised(k, vs))
+                    Err(Interruption::Raised(k, vs))
                 }
             }
-            Stop::NoMemory => Err(Stop::NoMemory),
-            Stop::Fault(m, at) => Err(Stop::Fault(m, at)),
-            Stop::Going => Err(Stop::Going),
+            Interruption::NoMemory => Err(Interruption::NoMemory),
+            Interruption::Fault(m, at) => Err(Interruption::Fault(m, at)),
+            Interruption::Going => Err(Interruption::Going),
         },
     }
 }
@@ -467,7 +469,7 @@ fn handle<'a>(
     p: &mut Packet,
     log: &mut WriteLog,
     left: &mut u64,
-) -> Result<Step<'a>, Stop<'a>>
+) -> Result<Step<'a>, Interruption<'a>>
     ensures ran { RanStep (declared_in t.now) (at left.old p.old log.old) (at left.new p.new log.new) result (λ call now. evaluated (declared_in t.now) call (tree_of h.now) (all_matched (list_patterns ps.now) (list_values vs.entry.items) (scope_of scope.old.items [])) now) }
     ensures left { left.new ≤ left.old }
     ensures extends { Extends scope.old.items scope.new.items }
@@ -491,7 +493,7 @@ fn block<'a>(
     p: &mut Packet,
     log: &mut WriteLog,
     left: &mut u64,
-) -> Result<Step<'a>, Stop<'a>>
+) -> Result<Step<'a>, Interruption<'a>>
     ensures ran { RanStep (declared_in t.now) (at left.old p.old log.old) (at left.new p.new log.new) result (λ call now. and_stated (run_all (declared_in t.now) call (list_statements sts.now) (scope_of scope.old.items []) now) (λ inner next. evaluated (declared_in t.now) call (tree_of tail.now) inner next)) }
     ensures left { left.new ≤ left.old }
     ensures extends { Extends scope.old.items scope.new.items }
@@ -516,7 +518,7 @@ fn of_operand<'a>(
     p: &mut Packet,
     log: &mut WriteLog,
     left: &mut u64,
-) -> Result<Step<'a>, Stop<'a>>
+) -> Result<Step<'a>, Interruption<'a>>
     ensures ran { RanStep (declared_in t.now) (at left.old p.old log.old) (at left.new p.new log.new) result (λ call now. and_then (evaluated (declared_in t.now) call (tree_of a.now) (scope_of scope.old.items []) now) (λ v last. made (declared_in t.now) (tree_of e.now) v last)) }
     ensures left { left.new ≤ left.old }
     ensures extends { Extends scope.old.items scope.new.items }
@@ -534,7 +536,7 @@ fn made_of<'a>(
     e: &'a Expr,
     v: Value<'a>,
     p: &Packet,
-) -> Result<Value<'a>, Stop<'a>>
+) -> Result<Value<'a>, Interruption<'a>>
     ensures { (now : Running) → now.packet ≡ p.now → IsValue result now (made (declared_in t.now) (tree_of e.now) (view v.entry) now) }
 {
     match &e.kind {

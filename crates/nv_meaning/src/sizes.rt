@@ -6,7 +6,7 @@ ghost use Rattle.nv_ast.specs.Outline.{Layouts, outline, outlines, field_outline
 ghost use Rattle.nv_meaning.specs.inner.Tables.{place_from, laid, layout_pairs};
 ghost use Rattle.nv_meaning.specs.inner.Sizes.{size_at, sizes_of, AreSizes};
 
-use crate::table::Places;
+use crate::table::NameIndices;
 use nv_ast::{FieldText, LayoutText, Name};
 use nv_base::NoMemory;
 use std::alloc::Global;
@@ -16,7 +16,7 @@ use std::alloc::Global;
 pub fn sizes<'a>(
     alloc: Global,
     layouts: &[(&'a Name, &'a LayoutText)],
-    places: &Places<'a>,
+    places: &NameIndices<'a>,
 ) -> Result<Vec<u64>, NoMemory>
     requires { (x : List ℕ) → get_by (λ key. bytes_eq x key.now) places.now ≡ place_from 0 x (map (λ l. l.0.now) layouts.now) }
     ensures { IfOk result (λ ns. ns.items ≡ sizes_of (laid [] (layout_pairs layouts.now))) }
@@ -30,7 +30,7 @@ pub fn sizes<'a>(
 }
 
 /// The size of the layout of a name, 0 where there is none.
-pub fn name_size(places: &Places, sizes: &[u64], x: &Name) -> u64
+pub fn name_size(places: &NameIndices, sizes: &[u64], x: &Name) -> u64
     ensures { result ≡ size_at sizes.now (get_by (λ key. bytes_eq x.now key.now) places.now) }
 {
     match places.get(&x) {
@@ -51,7 +51,7 @@ fn number_at(numbers: &[u64], place: usize) -> u64
 }
 
 #[cycle(size)]
-fn layout_size(places: &Places, sizes: &[u64], l: &LayoutText) -> u64
+fn layout_size(places: &NameIndices, sizes: &[u64], l: &LayoutText) -> u64
     ensures { (known : Layouts) → AreSizes (λ x. get_by (λ key. bytes_eq x key.now) places.now) sizes.now known → result ≡ min (bit_size (outline known (layout_tree l.now))) u64.MAX }
 {
     match l {
@@ -63,7 +63,7 @@ fn layout_size(places: &Places, sizes: &[u64], l: &LayoutText) -> u64
 }
 
 #[cycle(size)]
-fn joined_size(places: &Places, sizes: &[u64], ls: &[LayoutText]) -> u64
+fn joined_size(places: &NameIndices, sizes: &[u64], ls: &[LayoutText]) -> u64
     ensures { (known : Layouts) → AreSizes (λ x. get_by (λ key. bytes_eq x key.now) places.now) sizes.now known → result ≡ min (total_size (outlines known (list_layouts ls.now))) u64.MAX }
 {
     let mut total: u64 = 0;
@@ -74,7 +74,7 @@ fn joined_size(places: &Places, sizes: &[u64], ls: &[LayoutText]) -> u64
 }
 
 #[cycle(size)]
-fn parts_size(places: &Places, sizes: &[u64], fs: &[(Name, FieldText)]) -> u64
+fn parts_size(places: &NameIndices, sizes: &[u64], fs: &[(Name, FieldText)]) -> u64
     ensures { (known : Layouts) → AreSizes (λ x. get_by (λ key. bytes_eq x key.now) places.now) sizes.now known → result ≡ min (total_named_size (field_outlines known (list_fields fs.now))) u64.MAX }
 {
     let mut total: u64 = 0;
@@ -85,7 +85,7 @@ fn parts_size(places: &Places, sizes: &[u64], fs: &[(Name, FieldText)]) -> u64
 }
 
 #[cycle(size)]
-fn longest(places: &Places, sizes: &[u64], fs: &[(Name, FieldText)]) -> u64
+fn longest(places: &NameIndices, sizes: &[u64], fs: &[(Name, FieldText)]) -> u64
     ensures { (known : Layouts) → AreSizes (λ x. get_by (λ key. bytes_eq x key.now) places.now) sizes.now known → result ≡ min (greatest_size (field_outlines known (list_fields fs.now))) u64.MAX }
 {
     let mut most: u64 = 0;
@@ -96,7 +96,7 @@ fn longest(places: &Places, sizes: &[u64], fs: &[(Name, FieldText)]) -> u64
 }
 
 #[cycle(size)]
-fn field_size(places: &Places, sizes: &[u64], f: &FieldText) -> u64
+fn field_size(places: &NameIndices, sizes: &[u64], f: &FieldText) -> u64
     ensures { (known : Layouts) → AreSizes (λ x. get_by (λ key. bytes_eq x key.now) places.now) sizes.now known → result ≡ min (bit_size (field_outline known (field_tree f.now))) u64.MAX }
 {
     match f {

@@ -16,7 +16,7 @@ use std::alloc::Global;
 use std::collections::HashMap;
 
 /// The place of the first of each name.
-pub type Places<'a> = HashMap<&'a Name, usize>;
+pub type NameIndices<'a> = HashMap<&'a Name, usize>;
 
 /// The functions, layouts and exceptions of a program in order, where the first of each name stands,
 /// and the size of each layout in bits.
@@ -25,9 +25,9 @@ pub struct Table<'a> {
     pub functions: Vec<&'a Fun>,
     pub layouts: Vec<(&'a Name, &'a LayoutText)>,
     pub exceptions: Vec<&'a Name>,
-    pub function_places: Places<'a>,
-    pub layout_places: Places<'a>,
-    pub exception_places: Places<'a>,
+    pub function_places: NameIndices<'a>,
+    pub layout_places: NameIndices<'a>,
+    pub exception_places: NameIndices<'a>,
     pub sizes: Vec<u64>,
     ghost few_exceptions: { length exceptions.items ≤ 65535 },
     ghost functions_found: { (x : List ℕ) → get_by (λ key. bytes_eq x key.now) function_places ≡ place_from 0 x (map (λ f. f.now.name) functions.items) },
@@ -37,7 +37,7 @@ pub struct Table<'a> {
 }
 
 // Notes the place of a name, where it has none yet.
-fn declare<'a>(places: &mut Places<'a>, name: &'a Name, place: usize) -> Result<(), NoMemory>
+fn declare<'a>(places: &mut NameIndices<'a>, name: &'a Name, place: usize) -> Result<(), NoMemory>
     ensures { OnOk result ((x : List ℕ) → get_by (λ key. bytes_eq x key.now) places.new ≡ or_else (get_by (λ key. bytes_eq x key.now) places.old) (if bytes_eq x name.now then Some place else None)) }
 {
     if places.get(&name).is_none() {
@@ -132,7 +132,7 @@ fn add_exception<'a>(decl: &'a Decl, exceptions: &mut Vec<&'a Name>) -> Result<(
     }
 }
 
-fn function_places<'a>(alloc: Global, functions: &[&'a Fun]) -> Result<Places<'a>, NoMemory>
+fn function_places<'a>(alloc: Global, functions: &[&'a Fun]) -> Result<NameIndices<'a>, NoMemory>
     ensures { IfOk result (λ places. (x : List ℕ) → get_by (λ key. bytes_eq x key.now) places ≡ place_from 0 x (map (λ f. f.now.name) functions.now)) }
 {
     let mut places = HashMap::new(alloc);
@@ -145,7 +145,7 @@ fn function_places<'a>(alloc: Global, functions: &[&'a Fun]) -> Result<Places<'a
 fn layout_places<'a>(
     alloc: Global,
     layouts: &[(&'a Name, &'a LayoutText)],
-) -> Result<Places<'a>, NoMemory>
+) -> Result<NameIndices<'a>, NoMemory>
     ensures { IfOk result (λ places. (x : List ℕ) → get_by (λ key. bytes_eq x key.now) places ≡ place_from 0 x (map (λ l. l.0.now) layouts.now)) }
 {
     let mut places = HashMap::new(alloc);
@@ -155,7 +155,7 @@ fn layout_places<'a>(
     Ok(places)
 }
 
-fn exception_places<'a>(alloc: Global, exceptions: &[&'a Name]) -> Result<Places<'a>, NoMemory>
+fn exception_places<'a>(alloc: Global, exceptions: &[&'a Name]) -> Result<NameIndices<'a>, NoMemory>
     ensures { IfOk result (λ places. (x : List ℕ) → get_by (λ key. bytes_eq x key.now) places ≡ place_from 0 x (map (λ x. x.now) exceptions.now)) }
 {
     let mut places = HashMap::new(alloc);

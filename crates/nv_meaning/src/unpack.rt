@@ -17,7 +17,7 @@ use nv_layout::{Field as BitField, extract};
 use nv_values::{Field, Value};
 use std::alloc::Global;
 
-// So many words that no number holds their bits are more than memory holds.
+// N words that no number holds their bits are more than memory holds.
 const MOST_WORDS: usize = 1 << 32;
 
 /// What unpack gives of a packed value.
@@ -149,7 +149,7 @@ fn add_alternatives<'a>(
     Ok(last)
 }
 
-// The value of a field whose bits begin at a place, and the place behind them.
+// The value of a field whose bits begin at a place, and the place after them.
 #[cycle(unpack)]
 fn field_value<'a>(
     alloc: Global,

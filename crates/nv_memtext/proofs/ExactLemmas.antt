@@ -10,7 +10,7 @@ use Rattle.nv_memtext.specs.declared.line.Stretch.{Stretch}
 use Rattle.nv_memtext.specs.declared.read.Job.{Job}
 use Rattle.nv_memtext.specs.declared.read.MemError.{MemError}
 use Rattle.nv_memtext.specs.declared.read.MemError.TheVariants.{NoMemory, Bad, TooLarge}
-use Rattle.mem_lines.specs.Spelling.{name_of}
+use Rattle.nv_memtext.specs.Spelling.{name_of}
 use Rattle.nv_memtext.specs.MemoryText.{SpellsSizes, SpellsArgs, SpellsStretch, SpellStretches, stretched, IsMemoryText, IsWhole, IsFront, nothing, one_line, lines, IsTooLarge, IsBad, Gives}
 use Rattle.nv_memtext.specs.Answer.{IsTrueError, AnswersJob, AnswersBad, AnswersTooLarge}
 use Rattle.nv_memtext.specs.inner.Reading.{HasFirst}

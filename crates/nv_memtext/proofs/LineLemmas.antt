@@ -8,18 +8,18 @@ use Rattle.line_text.proofs.NumberLemmas.{decimal_one}
 use Rattle.nv_base.specs.declared.term.Mem.{Mem}
 use Rattle.nv_base.specs.declared.term.Mem.TheVariants.{Sram, Sdram, Scratch}
 use Rattle.nv_base.specs.Memories.{IsAccess, first_word}
-use Rattle.mem_lines.specs.Spelling.{name_of, SpellWords}
-use Rattle.mem_lines.specs.Places.{room}
+use Rattle.nv_memtext.specs.Spelling.{name_of, SpellWords}
+use Rattle.nv_memtext.specs.Places.{room}
 use Rattle.nv_memtext.specs.MemoryText.{SpellsSizes, SpellsArgs, SpellsStretch}
 use Rattle.nv_memtext.specs.declared.line.Stretch.{Stretch}
-use Rattle.mem_lines.proofs.WordLemmas.{SpellWords-lack, SpellWords-one}
+use Rattle.nv_memtext.proofs.WordLemmas.{SpellWords-lack, SpellWords-one}
 
 pub sizes_parts : (line : List ℕ) (a b : ℕ) → SpellsSizes line a b → parts line ≡ codes "memory" ∷ decimal a ∷ decimal b ∷ []
 sizes_parts line a b s =
     ap parts s.spelled ∙ parts-parted (codes "memory") (decimal a ∷ decimal b ∷ [])
     (Lacks-test 32 (codes "memory") refl, (Lacks-decimal 32 a (lit≤ tt) (omega (arith, s.sram_digits)), (Lacks-decimal 32 b (lit≤ tt) (omega (arith, s.sdram_digits)), tt)))
 
--- what stands behind the name
+-- what stands after the name
 pub sizes_rest : (line : List ℕ) (new : List (List ℕ)) (a b : ℕ) → parts line ≡ codes "memory" ∷ new → SpellsSizes line a b → new ≡ decimal a ∷ decimal b ∷ []
 sizes_rest line new a b e s = let f = sizes_parts line a b s in cc (e, f)
 
@@ -66,13 +66,13 @@ stretch_parts line sram sdram s a b h =
     ap parts h.spelled ∙ parts-parted (name_of s.mem) (decimal s.at ∷ h.parts)
     (name_lacks s.mem, (Lacks-decimal 32 s.at (lit≤ tt) (omega arith), SpellWords-lack 32 h.parts s.words (lit≤ tt) h.words))
 
--- no number behind the name
+-- no number after the name
 pub no_address : (line name : List ℕ) (new : List (List ℕ)) (sram sdram : ℕ) → sram ≤ 65536 → sdram ≤ 65536 → parts line ≡ name ∷ new → ((n : ℕ) (ps : List (List ℕ)) → n ≤ 9999999999 → new ≡ decimal n ∷ ps → ⊥) → (s : Stretch) → SpellsStretch sram sdram line s → ⊥
 no_address line name new sram sdram a b e none s h =
     let f = stretch_parts line sram sdram s a b h in
     none s.at h.parts (at_small s.mem s.at (length s.words) sram sdram a b h.inside) (cc (e, f))
 
--- no words behind the address
+-- no words after the address
 pub no_words : (line name : List ℕ) (new new' : List (List ℕ)) (at sram sdram : ℕ) → sram ≤ 65536 → sdram ≤ 65536 → parts line ≡ name ∷ new → new ≡ decimal at ∷ new' → ((ws : List ℕ) → length ws ≤ 8 → SpellWords new' ws → ⊥) → (s : Stretch) → SpellsStretch sram sdram line s → ⊥
 no_words line name new new' at sram sdram a b e e' none s h =
     let f = stretch_parts line sram sdram s a b h in

@@ -10,8 +10,8 @@ use Rattle.line_text.specs.Line.{text_of, parted}
 use Rattle.line_text.specs.Number.{hex_word}
 use Rattle.line_text.proofs.SplitLaws.{parted-cons, text_of-append}
 use Rattle.nv_base.specs.declared.term.Mem.{Mem}
-use Rattle.mem_lines.specs.Spelling.{name_of}
-use Rattle.mem_lines.specs.Places.{stretch_start}
+use Rattle.nv_memtext.specs.Spelling.{name_of}
+use Rattle.nv_memtext.specs.Places.{stretch_start}
 use Rattle.nv_memtext.specs.OutcomeText.{stretch_line, stretch_lines, stretch_words, numbers_below}
 
 -- one piece more
@@ -20,7 +20,7 @@ piece_more f start xs i x lt e =
     append_assoc start (flat_map f (take i xs)) (f x)
     ∙ ap (λ t. start ++ t) (ap (λ t. flat_map f (take i xs) ++ t) (sym (append-nil (f x))) ∙ (sym (flat_map-append f (take i xs) (x ∷ [])) ∙ ap (flat_map f) (ap (λ y. take i xs ++ y ∷ []) (sym e) ∙ sym (take_at_read xs i x lt).1)))
 
--- a line of words, each behind a space
+-- a line of words, each after a space
 pub words_line : (p : List ℕ) (ws : List ℕ) → parted (p ∷ map hex_word ws) ≡ p ++ flat_map (λ w. 32 ∷ hex_word w) ws
 words_line p ws = parted-cons p (map hex_word ws) ∙ ap (λ t. p ++ t) (flat_map-map (λ (q : List ℕ). 32 ∷ q) hex_word ws)
 
@@ -69,7 +69,7 @@ memory_more m ws start out out' k e f =
     sym (text_of-append (flat_map (stretch_lines m ws) (numbers_below k)) (stretch_lines m ws k))
     ∙ ap text_of (ap (λ t. flat_map (stretch_lines m ws) (numbers_below k) ++ t) (sym (append-nil (stretch_lines m ws k))) ∙ sym (flat_map-append (stretch_lines m ws) (numbers_below k) (k ∷ [])))))
 
--- a text behind a text
+-- a text after a text
 pub text_more : (start : List ℕ) (ls ms : List (List ℕ)) (i j : List ℕ) → i ≡ start ++ text_of ls → j ≡ i ++ text_of ms → j ≡ start ++ text_of (ls ++ ms)
 text_more start ls ms i j e f = join2 start i j (text_of ls) (text_of ms) e f ∙ ap (λ t. start ++ t) (sym (text_of-append ls ms))
 

@@ -12,12 +12,12 @@ use Rattle.nv_base.specs.Memories.{Memories, blank, first_too_large, stored, wor
 use Rattle.nv_base.specs.declared.term.Mem.{Mem}
 use Rattle.nv_base.specs.declared.term.Mem.TheVariants.{Sram, Sdram, Scratch}
 use Rattle.nv_memtext.specs.declared.line.Stretch.{Stretch}
-use Rattle.mem_lines.specs.Spelling.{name_of}
-use Rattle.mem_lines.specs.Places.{room}
+use Rattle.nv_memtext.specs.Spelling.{name_of}
+use Rattle.nv_memtext.specs.Places.{room}
 use Rattle.nv_memtext.specs.MemoryText.{SpellsSizes, SpellsArgs, SpellsStretch, SpellStretches, stretched, IsMemoryText, IsTooLarge, Gives}
 use Rattle.nv_memtext.specs.inner.Reading.{HasFirst, HasLines, HasLengths}
 use Rattle.nv_memtext.proofs.LineLemmas.{sizes_parts, at_small}
-use Rattle.mem_lines.proofs.WordLemmas.{SpellWords-lack}
+use Rattle.nv_memtext.proofs.WordLemmas.{SpellWords-lack}
 
 -- a first line gives one pair of sizes
 pub sizes_one : (line : List ℕ) (a b c d : ℕ) → SpellsSizes line a b → SpellsSizes line c d → (a ≡ c) × (b ≡ d)

@@ -1,3 +1,5 @@
+pub mod Spelling
+pub mod Places
 pub mod MemoryText
 pub mod OutcomeText
 pub mod Answer

@@ -4,8 +4,8 @@ use Rattle.line_text.specs.Line.{text_of, parted}
 use Rattle.line_text.specs.Format.{FirstFault}
 use Rattle.nv_base.specs.Memories.{Memories, IsAccess, blank, first_too_large, first_word, stored}
 use Rattle.nv_memtext.specs.declared.line.Stretch.{Stretch}
-use Rattle.mem_lines.specs.Places.{room}
-use Rattle.mem_lines.specs.Spelling.{name_of, SpellWords}
+use Rattle.nv_memtext.specs.Places.{room}
+use Rattle.nv_memtext.specs.Spelling.{name_of, SpellWords}
 
 -- line 1: `memory`, the words of SRAM and the quadwords of SDRAM, each of at most ten digits
 pub record SpellsSizes (line : List ℕ) (sram sdram : ℕ) : Type 0 where

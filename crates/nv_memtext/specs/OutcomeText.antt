@@ -10,8 +10,8 @@ use Rattle.nv_base.specs.declared.outcome.Outcome.TheVariants.{Ended, Raised, Fa
 use Rattle.nv_base.specs.declared.outcome.Write.{Write}
 use Rattle.nv_base.specs.declared.term.Mem.{Mem}
 use Rattle.nv_base.specs.declared.term.Mem.TheVariants.{Sram, Sdram, Scratch}
-use Rattle.mem_lines.specs.Places.{stretch_start}
-use Rattle.mem_lines.specs.Spelling.{name_of}
+use Rattle.nv_memtext.specs.Places.{stretch_start}
+use Rattle.nv_memtext.specs.Spelling.{name_of}
 
 -- how the run stands
 abbrev pub outcome_line : Outcome → List ℕ

@@ -3,12 +3,14 @@
 ghost use Rattle.std.specs.Prelude.{◌≡◌, ◌≢◌, ◌<◌, ◌≤◌, ℕ, List, IfSome, IfNone, MatchOption};
 ghost use Rattle.nv_base.specs.Memories.{size_limit};
 ghost use Rattle.nv_base.specs.declared.term.Mem.{Mem};
-ghost use Rattle.mem_lines.specs.Spelling.{name_of};
+ghost use Rattle.nv_memtext.specs.Spelling.{name_of};
 ghost use Rattle.nv_memtext.specs.MemoryText.{SpellsSizes, SpellsArgs, SpellsStretch};
 ghost use Rattle.nv_memtext.specs.declared.line.Stretch.{Stretch};
 
+use crate::access::{is_access, is_inside};
+use crate::size::Sizes;
+use crate::words::words_of;
 use line_text::Parts;
-use mem_lines::{Sizes, is_access, is_inside, words_of};
 use nv_base::{Mem, Words};
 
 /// The greatest number of at most ten digits.

@@ -4,11 +4,11 @@ ghost use Rattle.std.specs.Prelude.{◌≡◌, ◌+◌, ◌*◌, ◌/◌, ◌<�
 ghost use Rattle.std.specs.List.{flat_map, list_all};
 ghost use Rattle.line_text.specs.Line.{text_of};
 ghost use Rattle.line_text.specs.Number.{hex_word};
-ghost use Rattle.mem_lines.specs.Spelling.{name_of};
+ghost use Rattle.nv_memtext.specs.Spelling.{name_of};
 ghost use Rattle.nv_memtext.specs.OutcomeText.{outcome_line, write_line, stretch_line, stretch_lines, memory_lines, sizes_line, log_lines, packet_lines, state_lines, run_lines, name_lines, outcome_text, named_text};
 
+use crate::stretch::start;
 use line_text::{push_decimal, push_word};
-use mem_lines::start;
 use nv_base::{Mem, NoMemory, Outcome, Packet, SOURCE_SCRATCH, Write, WriteLog};
 use std::alloc::{AllocError, Global};
 
@@ -26,7 +26,7 @@ pub fn memory_name(mem: Mem) -> &'static [u8]
     }
 }
 
-/// Writes words, each behind a space.
+/// Writes words, each after a space.
 fn push_words(out: &mut Vec<u8>, words: &[u32]) -> Result<(), AllocError>
     ensures { OnOk result (out.new.items ≡ out.old.items ++ flat_map (λ w. 32 ∷ hex_word w) words.now) }
 {
@@ -185,7 +185,7 @@ fn push_log(out: &mut Vec<u8>, log: &WriteLog) -> Result<(), AllocError>
     push_writes(out, front(log.kept(), SHOWN))
 }
 
-/// Writes the lines behind the outcome.
+/// Writes the lines after the outcome.
 fn push_state(out: &mut Vec<u8>, p: &Packet, log: &WriteLog) -> Result<(), AllocError>
     ensures { OnOk result (out.new.items ≡ out.old.items ++ text_of (state_lines p.now log.now)) }
 {
@@ -232,7 +232,7 @@ pub fn print_outcome(
     Ok(out)
 }
 
-/// The text of an outcome, and behind the line of an exception one with its name and the line of its declaration, where
+/// The text of an outcome, and after the line of an exception one with its name and the line of its declaration, where
 /// these are given.
 pub fn print_named(
     alloc: Global,

@@ -8,8 +8,8 @@ ghost use Rattle.nv_memtext.specs.inner.Reading.{HasFirst, HasLines, HasLengths}
 ghost use Rattle.nv_memtext.specs.declared.read.MemError.TheVariants.{NoMemory as WantOfMemory};
 
 use crate::line::{Stretch, args_of, sizes_of, stretch_of};
+use crate::size::{Sizes, too_large};
 use line_text::Lines;
-use mem_lines::{Sizes, too_large};
 use nv_base::{NoMemory, Packet, PacketError, Words};
 use std::alloc::Global;
 use thiserror::Error;
@@ -129,7 +129,7 @@ fn read_text(alloc: Global, bytes: &[u8], params: u8) -> Result<Job, MemError>
 
 /// Reads a memory text. `params` is the number of arguments that the code takes.
 ///
-/// Each answer but want of memory, which may come for any text, comes exactly where its clauses say.
+/// Each answer but memory exhaustion, which may come for any text, comes exactly where its clauses say.
 pub fn read_memory(alloc: Global, bytes: &[u8], params: u8) -> Result<Job, MemError>
     requires { length bytes.now < 2 ^ 32 }
     ensures gives { IfOk result (λ job. Gives params bytes.now job.packet job.args) }

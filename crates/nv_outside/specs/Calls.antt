@@ -1,4 +1,4 @@
--- The loads and saves that a store is asked for, and calls in their order.
+-- The loads and saves that a store is required, and calls in their order.
 use Rattle.std.specs.Prelude.{◌≡◌, ◌⊎◌, ℕ, List, [], ◌∷◌, ◌++◌, ◌^◌, ◌-◌, length, min, ⊤}
 
 -- a load or a save of this name

@@ -65,7 +65,7 @@ impl MemFiles {
         }
     }
 
-    /// Puts these bytes under a name, as `save` does, but takes no number and fails for want of memory alone.
+    /// Puts these bytes under a name, as `save` does, but takes no number and fails for memory exhaustion alone.
     pub fn give(&mut self, name: &str, bytes: &[u8]) -> Saved
         ensures done { result ≡ Saved.Done → Replaced (files_of self.old) (files_of self.new) name.now bytes.now }
         ensures unchanged { result ≡ Saved.Failed → (q : List ℕ) → files_of self.new q ≡ files_of self.old q }

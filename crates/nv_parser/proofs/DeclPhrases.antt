@@ -10,7 +10,7 @@ use Rattle.nv_ast.specs.Height.{height, pattern_inside, type_height, highest_nam
 use Rattle.nv_ast.specs.Grammar.{IsLayout, one_layout, named_layout, IsTypes, empty_types, IsType, bool_type, IsParams, empty_params, IsExpr, tail_alone, operators, una, chain, no_operator, post, no_dot, number, IsLevel, IsFun, function, IsMoreFuns, no_fun, next_fun, IsDecl, layout_decl, exception_decl, group, IsDecls, no_decl, next_decl}
 use Rattle.nv_parser.specs.declared.cursor.Failure.{Failure}
 use Rattle.nv_parser.specs.inner.Cursor.{Front, NotSign, NotKey, NotName, IsSyntax}
-use Rattle.nv_parser.specs.inner.Failing.{Bound, NoBound, AtMost, Within, HasRoom, Same, Alone, part_of, bound_of, Phrases, Follow, Anything, Ahead, Phrase, One, ASign, AKey, AName, Then, Many, none, next, Behind, SameFront, Completes, Starts, StartsNone, Reads, FailsAs}
+use Rattle.nv_parser.specs.inner.Failing.{Bound, NoBound, AtMost, Within, HasRoom, Same, Alone, part_of, bound_of, Phrases, Follow, Anything, Ahead, Phrase, One, ASign, AKey, AName, Then, Many, none, next, HasRead, SameFront, Completes, Starts, StartsNone, Reads, FailsAs}
 use Rattle.nv_parser.specs.inner.Phrases.{AType, SomeTypes, SomeParams, ALayout, AFun, ADecl, NextFun, AtEnd}
 use Rattle.nv_parser.specs.inner.ExprPhrases.{AnExpr, IsLow}
 use Rattle.nv_parser.proofs.Bounds.{within_max, max_left, max_right, within_zero}

@@ -12,7 +12,7 @@ use Rattle.nv_ast.specs.Height.{fun_height, highest_fun, decl_height, highest_de
 use Rattle.nv_ast.specs.ProgramView.{fun_tree, decl_tree}
 use Rattle.nv_ast.specs.Exceptions.{exceptions}
 use Rattle.nv_ast.specs.Grammar.{IsParams, IsType, IsTypes, IsExpr, IsLayout, IsFun, function, IsMoreFuns, no_fun, next_fun, IsDecl, layout_decl, exception_decl, group, IsDecls, no_decl, next_decl, IsProgram}
-use Rattle.nv_parser.specs.inner.Lists.{FunsBehind}
+use Rattle.nv_parser.specs.inner.Lists.{FunsAfter}
 
 pub function_of : {x : List ℕ} {ps : NamedTypes} {r : TypeTree} {e : Tree} (s t u v w y : Span) {t0 t1 t2 t3 t4 t5 t6 t7 t8 k : List Token} → t0 ≡ a_name s x ∷ t1 → t1 ≡ sign_open_bracket t ∷ t2 → IsParams ps t2 t3 → t3 ≡ sign_close_bracket u ∷ t4 → t4 ≡ sign_colon v ∷ t5 → IsType r t5 t6 → t6 ≡ sign_open_brace w ∷ t7 → IsExpr e t7 t8 → t8 ≡ sign_close_brace y ∷ k → IsFun (record { name = x; params = ps; result = r; body = e; span = to s y }) t0 k
 function_of {ps = ps} {r = rr} {e = body} s t u v w y {t2 = t2} {t5 = t5} {t7 = t7} e0 e1 p e3 e4 r e6 b e8 =
@@ -36,17 +36,17 @@ funs_on : {fs : List FunTree} {f : FunTree} {s : Span} {ts us vs k : List Token}
 funs_on no_fun e d = rw e (next_fun d no_fun)
 funs_on (next_fun b c) e d = next_fun b (funs_on c e d)
 
-pub funs_start : (all : List Fun) (f : Fun) (ts : List Token) → all ≡ f ∷ [] → FunsBehind (fun_tree f) (map fun_tree all) ts ts
+pub funs_start : (all : List Fun) (f : Fun) (ts : List Token) → all ≡ f ∷ [] → FunsAfter (fun_tree f) (map fun_tree all) ts ts
 funs_start all f ts e = record { new = []; list = no_fun; whole = ap (map fun_tree) e }
 
-pub funs_step : (items all : List Fun) (f : Fun) (first : FunTree) (s : Span) (ts us vs k : List Token) → FunsBehind first (map fun_tree items) ts us → us ≡ key_and s ∷ vs → IsFun (fun_tree f) vs k → all ≡ items ++ f ∷ [] → FunsBehind first (map fun_tree all) ts k
+pub funs_step : (items all : List Fun) (f : Fun) (first : FunTree) (s : Span) (ts us vs k : List Token) → FunsAfter first (map fun_tree items) ts us → us ≡ key_and s ∷ vs → IsFun (fun_tree f) vs k → all ≡ items ++ f ∷ [] → FunsAfter first (map fun_tree all) ts k
 funs_step items all f first s ts us vs k b g d e = record {
   new = b.new ++ fun_tree f ∷ [];
   list = funs_on b.list g d;
   whole = ap (map fun_tree) e ∙ (map_push items f ∙ ap (λ z. z ++ fun_tree f ∷ []) b.whole);
 }
 
-pub group_of : {f : FunTree} {all : List FunTree} (s : Span) {us vs k : List Token} → IsFun f us vs → FunsBehind f all vs k → IsDecl (GroupDecl all) (key_fun s ∷ us) k
+pub group_of : {f : FunTree} {all : List FunTree} (s : Span) {us vs k : List Token} → IsFun f us vs → FunsAfter f all vs k → IsDecl (GroupDecl all) (key_fun s ∷ us) k
 group_of s d b = rw b.whole (group d b.list)
 
 pub layout_decl_of : {x : List ℕ} {l : LayoutTree} (s t u v : Span) {t0 t1 t2 t3 k : List Token} → t0 ≡ a_name t x ∷ t1 → t1 ≡ sign_is u ∷ t2 → IsLayout l t2 t3 → t3 ≡ sign_semicolon v ∷ k → IsDecl (LayoutDecl x l (to s v)) (key_layout s ∷ t0) k

@@ -1,4 +1,4 @@
--- Statements and tails: a memory's keyword begins both, and the token behind it tells which.
+-- Statements and tails: a memory's keyword begins both, and the token after it tells which.
 use Rattle.std.proofs.Common.{◌≡◌, ◌≢◌, refl, sym, ◌∙◌, ap, subst, ℕ, zero, suc, ◌+◌, ◌-◌, ◌<◌, ◌≤◌, max, List, [], ◌∷◌, ◌++◌, append_assoc, arith, Bool, true, false}
 use Rattle.std.proofs.lemmas.Bool.{false≢true}
 use Rattle.nv_base.specs.declared.term.Mem.{Mem}
@@ -14,7 +14,7 @@ use Rattle.nv_ast.specs.Grammar.{IsExpr, IsStatements, IsStatement, IsTail, IsLe
 use Rattle.nv_parser.specs.declared.cursor.Failure.{Failure}
 use Rattle.nv_parser.specs.inner.Cursor.{Front, NotSign}
 use Rattle.nv_parser.specs.inner.Follow.{Above}
-use Rattle.nv_parser.specs.inner.Failing.{Bound, NoBound, AtMost, bound_of, Phrases, Follow, Anything, Phrase, Then, Many, none, next, Behind, SameFront, Completes, Starts, Reads, Fails, FailsAs, no_memory, syntax, deep}
+use Rattle.nv_parser.specs.inner.Failing.{Bound, NoBound, AtMost, bound_of, Phrases, Follow, Anything, Phrase, Then, Many, none, next, HasRead, SameFront, Completes, Starts, Reads, Fails, FailsAs, no_memory, syntax, deep}
 use Rattle.nv_parser.specs.inner.ExprPhrases.{IsLow, LowExpr, LowStatement, LowStatements, AnExpr, ATail, AStatement, ABody, StartsStatement, starts_let, starts_store, NoStatement, NotMem, Onward}
 use Rattle.nv_parser.proofs.Follow.{level_first, tail_no_statement}
 use Rattle.nv_parser.proofs.Sequence.{same_front}

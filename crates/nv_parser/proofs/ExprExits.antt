@@ -260,7 +260,7 @@ statement_stops {room = room} {ts = ts} h l f g = stops_at [] ts refl l (begun (
 
 -- ---- operators
 
--- what goes on behind an operand is higher
+-- what goes on after an operand is higher
 rest_higher : {l : ℕ} {a e : Tree} (op : Op) (t : Token) {us k : List Token} → t.sort ≡ Sign (sign_of op) → level_of op ≡ l → IsRest l a e (t ∷ us) k → Above (l + 2) k → 1 + height a ≤ height e
 rest_higher op t p q no_operator f = let h = rank_of t op p in absurd (omega arith)
 rest_higher op t p q (operator p' q' n d r) f = let h = rest_tall r in omega arith

@@ -145,7 +145,7 @@ no_room {n = n} e d =
     let g : height d.tree ≤ n = d.low.height in
     omega arith
 
--- what stands behind an operand makes it no lower
+-- what stands after an operand makes it no lower
 pub rest_low : {b : Bound} {l : ℕ} {a e : Tree} {ts k : List Token} → IsRest l a e ts k → LowExpr b e → LowExpr b a
 rest_low no_operator h = h
 rest_low (operator p q n d r) h = low_left _ _ (low_under (rest_low r h))

@@ -1,4 +1,4 @@
--- Expressions made of what is read behind a first part.
+-- Expressions made of what is read after a first part.
 use Rattle.std.proofs.Common.{◌≡◌, ◌≢◌, refl, sym, ◌∙◌, ap, subst, ℕ, suc, zero, List, [], ◌∷◌, arith, true, false, ◌-◌}
 use Rattle.nv_base.specs.declared.term.Mem.{Mem}
 use Rattle.nv_base.specs.declared.term.Mem.TheVariants.{Sram, Sdram, Scratch}
@@ -10,13 +10,13 @@ use Rattle.nv_ast.specs.declared.tree.ShiftOp.{ShiftOp}
 use Rattle.nv_ast.specs.Tokens.{at, to, a_name, a_number, mem_key, key_let, key_if, key_else, key_raise, key_try, key_handle, key_unpack, key_pack, sign_is, sign_arrow, sign_semicolon, sign_comma, sign_open, sign_close, sign_open_brace, sign_close_brace, sign_open_bracket, sign_close_bracket}
 use Rattle.nv_ast.specs.Tree.{Tree, Trees, tree_and, NamedTrees, PatternTree, PatternTrees, ParenTree, TupleTree, FieldsTree, BinaryTree, ShiftTree, IfTree, RaiseTree, TryTree, FetchTree, BlockTree, UnpackTree, PackTree, CallTree, StatementTree, StatementTrees, LetStatement, StoreStatement, statement_and, span_of, statement_span}
 use Rattle.nv_ast.specs.Grammar.{IsExpr, block, IsStatements, IsStatement, let_statement, store_sram, store_sdram, store_scratch, IsTail, if_else, raise, try_handle, IsArgs, some_args, IsMoreExprs, no_expr, next_expr, IsLevel, chain, IsRest, no_operator, operator, comparison, shift, IsAtom, tuple, paren, fields, fetch_sram, fetch_sdram, fetch_scratch, IsMoreMembers, IsPattern, IsPatterns, next_statement, unpack, pack, call}
-use Rattle.nv_parser.specs.inner.Lists.{ExprsBehind, MembersBehind, StatementsBehind}
+use Rattle.nv_parser.specs.inner.Lists.{ExprsAfter, MembersAfter, StatementsAfter}
 use Rattle.nv_parser.specs.inner.ExprPhrases.{EnclosedBy, NameInSquare}
 use Rattle.nv_parser.specs.inner.Operators.{StartsOperator, StartsShift}
 use Rattle.nv_parser.proofs.Follow.{first_rank}
 
 -- statements and a tail
-pub block_of : {st : StatementTree} {all : StatementTrees} {e x : Tree} {ts us vs k : List Token} → IsStatement st ts us → StatementsBehind st all us vs → IsTail e vs k → x ≡ BlockTree (to (statement_span st) (span_of e)) all e → IsExpr x ts k
+pub block_of : {st : StatementTree} {all : StatementTrees} {e x : Tree} {ts us vs k : List Token} → IsStatement st ts us → StatementsAfter st all us vs → IsTail e vs k → x ≡ BlockTree (to (statement_span st) (span_of e)) all e → IsExpr x ts k
 block_of d b t e = rw (e, b.whole) (block (next_statement d b.list) t)
 
 pub let_of : {p : PatternTree} {e : Tree} (s t u : Span) {ts us vs ws ys k : List Token} → ts ≡ key_let s ∷ us → IsPattern p us vs → vs ≡ sign_is t ∷ ws → IsTail e ws ys → ys ≡ sign_semicolon u ∷ k → IsStatement (LetStatement (to s u) p e) ts k
@@ -30,7 +30,7 @@ store_rule Scratch s t u v w d e = store_scratch d e
 pub raise_of : {x : List ℕ} {es : Trees} {y : Tree} (s t u v : Span) {ts us vs ws k : List Token} → ts ≡ a_name t x ∷ us → us ≡ sign_open_bracket u ∷ vs → IsArgs es vs ws → ws ≡ sign_close_bracket v ∷ k → y ≡ RaiseTree (to s v) x es → IsTail y (key_raise s ∷ ts) k
 raise_of {es = es} s t u v {vs = vs} e f d g h = rw (h, e, f) (raise (subst (λ z. IsArgs es vs z) g d))
 
-pub args_of : {a : Tree} {all : Trees} {us vs k : List Token} → IsExpr a us vs → ExprsBehind a all vs k → IsArgs all us k
+pub args_of : {a : Tree} {all : Trees} {us vs k : List Token} → IsExpr a us vs → ExprsAfter a all vs k → IsArgs all us k
 args_of d b = rw b.whole (some_args d b.list)
 
 -- a level's operand and what follows it
@@ -55,14 +55,14 @@ exprs_two d no_expr e = let h : ◌≡◌ {A = ℕ} 13 10 = ap first_rank e in a
 exprs_two d (next_expr f g) e = tuple d (next_expr f g)
 
 -- a tuple
-pub tuple_of : {e x : Tree} {all : Trees} (s t u : Span) {us vs ws xs k : List Token} → IsExpr e us vs → vs ≡ sign_comma u ∷ ws → ExprsBehind e all vs xs → xs ≡ sign_close t ∷ k → x ≡ TupleTree (to s t) all → IsAtom x (sign_open s ∷ us) k
+pub tuple_of : {e x : Tree} {all : Trees} (s t u : Span) {us vs ws xs k : List Token} → IsExpr e us vs → vs ≡ sign_comma u ∷ ws → ExprsAfter e all vs xs → xs ≡ sign_close t ∷ k → x ≡ TupleTree (to s t) all → IsAtom x (sign_open s ∷ us) k
 tuple_of s t u {vs = vs} d e b f g = rw (g, b.whole) (exprs_two d (subst (λ z. IsMoreExprs b.new vs z) f b.list) e)
 
 pub paren_of : {e x : Tree} (s t : Span) {us vs k : List Token} → IsExpr e us vs → vs ≡ sign_close t ∷ k → x ≡ ParenTree (to s t) e → IsAtom x (sign_open s ∷ us) k
 paren_of {e = e} s t {us = us} d f g = rw g (paren (subst (λ z. IsExpr e us z) f d))
 
 -- a record
-pub fields_of : {e y : Tree} {all : NamedTrees} {x : List ℕ} (s t u v : Span) {ts us vs ws xs k : List Token} → ts ≡ a_name t x ∷ us → us ≡ sign_is u ∷ vs → IsExpr e vs ws → MembersBehind x e all ws xs → xs ≡ sign_close_brace v ∷ k → y ≡ FieldsTree (to s v) all → IsAtom y (sign_open_brace s ∷ ts) k
+pub fields_of : {e y : Tree} {all : NamedTrees} {x : List ℕ} (s t u v : Span) {ts us vs ws xs k : List Token} → ts ≡ a_name t x ∷ us → us ≡ sign_is u ∷ vs → IsExpr e vs ws → MembersAfter x e all ws xs → xs ≡ sign_close_brace v ∷ k → y ≡ FieldsTree (to s v) all → IsAtom y (sign_open_brace s ∷ ts) k
 fields_of s t u v {ws = ws} e f d b g h = rw (h, b.whole, e, f) (fields d (subst (λ z. IsMoreMembers b.new ws z) g b.list))
 
 pub fetch_rule : (m : Mem) {n : ℕ} {e : Tree} (s t u v w y : Span) {us k : List Token} → IsExpr e us (sign_close y ∷ k) → IsAtom (FetchTree (to s y) m n e) (at s (Key (mem_key m)) ∷ sign_open_bracket t ∷ a_number u n ∷ sign_close_bracket v ∷ sign_open w ∷ us) k

@@ -1,4 +1,4 @@
--- Each production of an expression as a step: what stands behind its first tokens.
+-- Each production of an expression as a step: what stands after its first tokens.
 use Rattle.std.proofs.Common.{◌≡◌, ◌≢◌, refl, sym, ◌∙◌, ap, subst, ℕ, zero, suc, ◌+◌, ◌-◌, ◌<◌, ◌≤◌, max, List, [], ◌∷◌, ◌++◌, append_assoc, arith, Bool, true, false}
 use Rattle.nv_base.specs.declared.term.Mem.{Mem}
 use Rattle.nv_base.specs.declared.term.Mem.TheVariants.{Sram, Sdram, Scratch}
@@ -268,7 +268,7 @@ level_binds m room = record {
   free = λ t. free_low (height t) (pattern_inside t);
 }
 
--- an operator behind a left operand, and its right operand
+-- an operator after a left operand, and its right operand
 abbrev pub OperandRow : ℕ → Op → Tree → Phrases
 OperandRow l op a = Bind (IsLevel l) (λ b. ARest l (BinaryTree (to (span_of a) (span_of b)) op a b))
 

@@ -9,7 +9,7 @@ use Rattle.nv_ast.specs.Height.{layout_height, highest_layout, field_height, hig
 use Rattle.nv_ast.specs.Grammar.{IsLayout, one_layout, joined_layouts, IsMoreLayouts, no_layout, next_layout, IsLayoutAtom, named_layout, gap_layout, parts_layout, IsMoreFields, no_field, next_field, IsField, plain_field, overlay_field, IsAlternative, bits_field, inner_field, IsMoreAlternatives, no_alternative, next_alternative}
 use Rattle.nv_parser.specs.declared.cursor.Failure.{Failure}
 use Rattle.nv_parser.specs.inner.Cursor.{Front, NotSign, NotKey, NotName, NotNumber, IsSyntax}
-use Rattle.nv_parser.specs.inner.Failing.{Bound, NoBound, AtMost, Within, HasRoom, Same, Inside, part_of, bound_of, Phrases, Anything, Phrase, One, ASign, AKey, AName, ANumber, Then, Many, none, next, Behind, SameFront, Completes, Starts, StartsNone, Reads, FailsAs}
+use Rattle.nv_parser.specs.inner.Failing.{Bound, NoBound, AtMost, Within, HasRoom, Same, Inside, part_of, bound_of, Phrases, Anything, Phrase, One, ASign, AKey, AName, ANumber, Then, Many, none, next, HasRead, SameFront, Completes, Starts, StartsNone, Reads, FailsAs}
 use Rattle.nv_parser.specs.inner.Phrases.{LowLayouts, LowFields, ALayout, ALayoutAtom, AField, AnAlternative, NextLayout, NamedField, NextField, NamedAlternative, NextAlternative}
 use Rattle.nv_parser.proofs.Bounds.{within_one, within_node, node_within, within_max, max_left, max_right, within_zero, room_here, within_more}
 use Rattle.nv_parser.proofs.Follow.{Above, overlay_no_alternative, number_no_layout}
@@ -148,13 +148,13 @@ inside_none : {l : LayoutTree} {s : Span} {us k : List Token} → IsLayoutAtom l
 inside_none (gap_layout {n = n}) f g = f n refl
 inside_none (parts_layout {x = x} d e) f g = g x refl
 
-pub inside_starts_none : (s : Span) {ts : List Token} → NotNumber ts → NotName ts → StartsNone (Behind (sign_open_brace s ∷ []) ALayoutAtom) ts
+pub inside_starts_none : (s : Span) {ts : List Token} → NotNumber ts → NotName ts → StartsNone (HasRead (sign_open_brace s ∷ []) ALayoutAtom) ts
 inside_starts_none s {ts = ts} f g = record { none = λ us k h d. inside_none d.whole.spelled (front_same _ ts us h f) (front_same _ ts us h g) }
 
-pub inside_completes : (s : Span) (room : ℕ) → 1 ≤ room → Completes (Behind (sign_open_brace s ∷ []) ALayoutAtom) (AtMost room) []
+pub inside_completes : (s : Span) (room : ℕ) → 1 ≤ room → Completes (HasRead (sign_open_brace s ∷ []) ALayoutAtom) (AtMost room) []
 inside_completes s room h = record { more = a_number no_span 0 ∷ sign_close_brace no_span ∷ []; spelled = λ k. record { whole = record { tree = GapLayout 0; spelled = gap_layout; low = h } } }
 
-pub inside_starts : (s : Span) {t : Span} {x : List ℕ} {ts rest : List Token} → ts ≡ a_name t x ∷ rest → Starts (Behind (sign_open_brace s ∷ []) ALayoutAtom) ts
+pub inside_starts : (s : Span) {t : Span} {x : List ℕ} {ts rest : List Token} → ts ≡ a_name t x ∷ rest → Starts (HasRead (sign_open_brace s ∷ []) ALayoutAtom) ts
 inside_starts s {t = t} {x = x} {rest = rest} e = record {
   token = a_name t x;
   rest = rest;
@@ -179,7 +179,7 @@ field_high (OverlayField fs) = omega arith
 parts_high : {l : LayoutTree} {s t : Span} {x : List ℕ} {us k : List Token} → IsLayoutAtom l (sign_open_brace s ∷ a_name t x ∷ us) k → 2 ≤ layout_height l
 parts_high (parts_layout {f = f} d e) = let h = field_high f in omega arith
 
-pub no_parts : (s t : Span) (x : List ℕ) (room : ℕ) (ts rest : List Token) → room ≡ 1 → ts ≡ a_name t x ∷ rest → (us k : List Token) → SameFront ts us → Behind (sign_open_brace s ∷ []) ALayoutAtom (AtMost room) us k → Anything k → ⊥
+pub no_parts : (s t : Span) (x : List ℕ) (room : ℕ) (ts rest : List Token) → room ≡ 1 → ts ≡ a_name t x ∷ rest → (us k : List Token) → SameFront ts us → HasRead (sign_open_brace s ∷ []) ALayoutAtom (AtMost room) us k → Anything k → ⊥
 no_parts s t x room ts rest r e us k h d f =
     let (vs, g) = same_first (a_name t x) ts us rest e h in
     let i = parts_high (subst (λ z. IsLayoutAtom d.whole.tree (sign_open_brace s ∷ z) k) g d.whole.spelled) in
@@ -333,7 +333,7 @@ overlay_fills room h = then_fills (then_fills (next_alternative_fills room h) (m
 pub row_fills : (room : ℕ) → 1 ≤ room → Fills (Then NamedAlternative OverlayEnd) room
 row_fills room h = then_fills (named_alternative_fills room h) (overlay_fills room h)
 
--- no bar behind the first alternative
+-- no bar after the first alternative
 pub bar_fails : (room : ℕ) → 1 ≤ room → (ts : List Token) (e : Failure) → IsSyntax ts e × NotSign 3 ts → FailsAs OverlayEnd Anything room ts e
 bar_fails room h ts e f =
     first_fails (one_carries 10 (λ x. omega arith)) (one_fills room tt) (first_fails {F = Above 0} {G = Above 10} (many_carries alternatives_listed) (many_fills room) (first_fails {F = Anything} carries_anything (named_alternative_fills room h) (sign_fails 3 room ts e f)))
@@ -472,7 +472,7 @@ joined_made {l = l} low room d h r =
     more false room o n h w = tt
     more true room o n h w = omega arith
 
--- behind an atom with '##' in front
+-- after an atom with '##' in front
 pub joined_rule : {l : LayoutTree} {ts rest : List Token} (room : ℕ) (d : AtomFrame l ts rest) → layout_height l + 1 ≤ room → ((us : List Token) → SameFront rest us → Above 0 us → ⊥) → RuleAt room (room - 1) d.seen (Then NextLayout (Many NextLayout)) (Above 0) ALayout (Above 0) rest
 joined_rule room d h n = record {
   make = λ low us k r. joined_made low room (d.all us) h r;
@@ -481,10 +481,10 @@ joined_rule room d h n = record {
 }
 
 -- an atom as high as the room has nothing joined to it
-pub atom_completes : {l : LayoutTree} {ts rest : List Token} (room : ℕ) (d : AtomFrame l ts rest) → layout_height l ≤ room → Completes (Behind d.seen ALayout) (AtMost room) []
+pub atom_completes : {l : LayoutTree} {ts rest : List Token} (room : ℕ) (d : AtomFrame l ts rest) → layout_height l ≤ room → Completes (HasRead d.seen ALayout) (AtMost room) []
 atom_completes {l = l} room d h = record { more = []; spelled = λ k. record { whole = record { tree = l; spelled = one_layout (d.all k); low = h } } }
 
-pub join_starts : {l : LayoutTree} {s : Span} {ts us rest : List Token} (d : AtomFrame l ts us) → us ≡ sign_join s ∷ rest → Starts (Behind d.seen ALayout) us
+pub join_starts : {l : LayoutTree} {s : Span} {ts us rest : List Token} (d : AtomFrame l ts us) → us ≡ sign_join s ∷ rest → Starts (HasRead d.seen ALayout) us
 join_starts {l = l} {s = s} {rest = rest} d e = record {
   token = sign_join s;
   rest = rest;
@@ -499,5 +499,5 @@ too_high : {x l : LayoutTree} (seen : List Token) {us k : List Token} (room : �
 too_high seen room (one_layout d) e n f w h = n (subst (λ z. Above 0 z) (det_layout_atom d e).1 f)
 too_high seen room (joined_layouts {l = l} {m = m} {ls = ls} d g) e n f w h = let i = ap layout_height (det_layout_atom d e).0 in absurd (omega arith)
 
-pub join_dead : {l : LayoutTree} {ts rest : List Token} (room : ℕ) (d : AtomFrame l ts rest) → layout_height l ≡ room → ((us : List Token) → SameFront rest us → Above 0 us → ⊥) → (us k : List Token) → SameFront rest us → Behind d.seen ALayout (AtMost room) us k → Above 0 k → ⊥
+pub join_dead : {l : LayoutTree} {ts rest : List Token} (room : ℕ) (d : AtomFrame l ts rest) → layout_height l ≡ room → ((us : List Token) → SameFront rest us → Above 0 us → ⊥) → (us k : List Token) → SameFront rest us → HasRead d.seen ALayout (AtMost room) us k → Above 0 k → ⊥
 join_dead room d h n us k s e f = too_high d.seen room e.whole.spelled (d.all us) (n us s) f e.whole.low h

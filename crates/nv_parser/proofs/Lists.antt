@@ -17,7 +17,7 @@ use Rattle.nv_ast.specs.TypeView.{type_tree, list_types, list_named_types}
 use Rattle.nv_ast.specs.PatternView.{pattern_tree, list_patterns}
 use Rattle.nv_ast.specs.ExprView.{tree_of, statement_tree, list_statements, list_trees, list_named_trees}
 use Rattle.nv_ast.specs.Height.{layout_height, highest_layout, field_height, highest_field, type_height, highest_type, highest_named_type, pattern_height, highest_pattern, height, highest, highest_named, pattern_inside, pattern_inside_all, pattern_inside_named, statement_height, highest_statement, pattern_inside_statement, pattern_inside_statements}
-use Rattle.nv_parser.specs.inner.Lists.{LayoutsBehind, FieldsBehind, AlternativesBehind, TypesBehind, NamedTypesBehind, PatternsBehind, ExprsBehind, MembersBehind, StatementsBehind, FunsBehind}
+use Rattle.nv_parser.specs.inner.Lists.{LayoutsAfter, FieldsAfter, AlternativesAfter, TypesAfter, NamedTypesAfter, PatternsAfter, ExprsAfter, MembersAfter, StatementsAfter, FunsAfter}
 
 -- ---- layouts
 abbrev pub snoc_layouttrees : LayoutTrees → LayoutTree → LayoutTrees
@@ -44,12 +44,12 @@ layouts_on : {all : LayoutTrees} {e : LayoutTree} {s : Span} {ts us vs k : List 
 layouts_on no_layout g d = rw g (next_layout d no_layout)
 layouts_on (next_layout b c) g d = next_layout b (layouts_on c g d)
 
--- nothing is read behind the first
-pub layouts_start : (all : List LayoutText) (i : LayoutText) (ts : List Token) → all ≡ i ∷ [] → LayoutsBehind (layout_tree i) (list_layouts all) ts ts
+-- nothing is read after the first
+pub layouts_start : (all : List LayoutText) (i : LayoutText) (ts : List Token) → all ≡ i ∷ [] → LayoutsAfter (layout_tree i) (list_layouts all) ts ts
 layouts_start all i ts e = record { new = no_layouts; list = no_layout; whole = ap list_layouts e }
 
 -- one more is read
-pub layouts_step : (items all : List LayoutText) (i : LayoutText) (first : LayoutTree) (s : Span) (ts us vs k : List Token) → LayoutsBehind first (list_layouts items) ts us → us ≡ sign_join s ∷ vs → IsLayoutAtom (layout_tree i) vs k → all ≡ items ++ i ∷ [] → LayoutsBehind first (list_layouts all) ts k
+pub layouts_step : (items all : List LayoutText) (i : LayoutText) (first : LayoutTree) (s : Span) (ts us vs k : List Token) → LayoutsAfter first (list_layouts items) ts us → us ≡ sign_join s ∷ vs → IsLayoutAtom (layout_tree i) vs k → all ≡ items ++ i ∷ [] → LayoutsAfter first (list_layouts all) ts k
 layouts_step items all i first s ts us vs k b g d e = record {
   new = snoc_layouttrees b.new (layout_tree i);
   list = layouts_on b.list g d;
@@ -81,12 +81,12 @@ fields_on : {all : FieldTrees} {e : FieldTree} {s t u : Span} {x : List ℕ} {ts
 fields_on no_field g d = rw g (next_field d no_field)
 fields_on (next_field b c) g d = next_field b (fields_on c g d)
 
--- nothing is read behind the first
-pub fields_start : (all : List (List ℕ × FieldText)) (i : (List ℕ × FieldText)) (ts : List Token) → all ≡ i ∷ [] → FieldsBehind i.0 (field_tree i.1) (list_fields all) ts ts
+-- nothing is read after the first
+pub fields_start : (all : List (List ℕ × FieldText)) (i : (List ℕ × FieldText)) (ts : List Token) → all ≡ i ∷ [] → FieldsAfter i.0 (field_tree i.1) (list_fields all) ts ts
 fields_start all i ts e = record { new = no_fields; list = no_field; whole = ap list_fields e }
 
 -- one more is read
-pub fields_step : (items all : List (List ℕ × FieldText)) (i : (List ℕ × FieldText)) (x : List ℕ) (first : FieldTree) (s t u : Span) (ts us as_ bs vs k : List Token) → FieldsBehind x first (list_fields items) ts us → us ≡ sign_comma s ∷ as_ → as_ ≡ a_name t i.0 ∷ bs → bs ≡ sign_colon u ∷ vs → IsField (field_tree i.1) vs k → all ≡ items ++ i ∷ [] → FieldsBehind x first (list_fields all) ts k
+pub fields_step : (items all : List (List ℕ × FieldText)) (i : (List ℕ × FieldText)) (x : List ℕ) (first : FieldTree) (s t u : Span) (ts us as_ bs vs k : List Token) → FieldsAfter x first (list_fields items) ts us → us ≡ sign_comma s ∷ as_ → as_ ≡ a_name t i.0 ∷ bs → bs ≡ sign_colon u ∷ vs → IsField (field_tree i.1) vs k → all ≡ items ++ i ∷ [] → FieldsAfter x first (list_fields all) ts k
 fields_step items all i x first s t u ts us as_ bs vs k b g h i' d e = record {
   new = snoc_fieldtrees b.new i.0 (field_tree i.1);
   list = fields_on {s = s} {t = t} {u = u} b.list (rw (g, h, i') refl) d;
@@ -97,12 +97,12 @@ alternatives_on : {all : FieldTrees} {e : FieldTree} {s t u : Span} {x : List �
 alternatives_on no_alternative g d = rw g (next_alternative d no_alternative)
 alternatives_on (next_alternative b c) g d = next_alternative b (alternatives_on c g d)
 
--- nothing is read behind the first
-pub alternatives_start : (all : List (List ℕ × FieldText)) (i : (List ℕ × FieldText)) (ts : List Token) → all ≡ i ∷ [] → AlternativesBehind i.0 (field_tree i.1) (list_fields all) ts ts
+-- nothing is read after the first
+pub alternatives_start : (all : List (List ℕ × FieldText)) (i : (List ℕ × FieldText)) (ts : List Token) → all ≡ i ∷ [] → AlternativesAfter i.0 (field_tree i.1) (list_fields all) ts ts
 alternatives_start all i ts e = record { new = no_fields; list = no_alternative; whole = ap list_fields e }
 
 -- one more is read
-pub alternatives_step : (items all : List (List ℕ × FieldText)) (i : (List ℕ × FieldText)) (x : List ℕ) (first : FieldTree) (s t u : Span) (ts us as_ bs vs k : List Token) → AlternativesBehind x first (list_fields items) ts us → us ≡ sign_bar s ∷ as_ → as_ ≡ a_name t i.0 ∷ bs → bs ≡ sign_colon u ∷ vs → IsAlternative (field_tree i.1) vs k → all ≡ items ++ i ∷ [] → AlternativesBehind x first (list_fields all) ts k
+pub alternatives_step : (items all : List (List ℕ × FieldText)) (i : (List ℕ × FieldText)) (x : List ℕ) (first : FieldTree) (s t u : Span) (ts us as_ bs vs k : List Token) → AlternativesAfter x first (list_fields items) ts us → us ≡ sign_bar s ∷ as_ → as_ ≡ a_name t i.0 ∷ bs → bs ≡ sign_colon u ∷ vs → IsAlternative (field_tree i.1) vs k → all ≡ items ++ i ∷ [] → AlternativesAfter x first (list_fields all) ts k
 alternatives_step items all i x first s t u ts us as_ bs vs k b g h i' d e = record {
   new = snoc_fieldtrees b.new i.0 (field_tree i.1);
   list = alternatives_on {s = s} {t = t} {u = u} b.list (rw (g, h, i') refl) d;
@@ -134,12 +134,12 @@ types_on : {all : TypeTrees} {e : TypeTree} {s : Span} {ts us vs k : List Token}
 types_on no_type g d = rw g (next_type d no_type)
 types_on (next_type b c) g d = next_type b (types_on c g d)
 
--- nothing is read behind the first
-pub types_start : (all : List TyText) (i : TyText) (ts : List Token) → all ≡ i ∷ [] → TypesBehind (type_tree i) (list_types all) ts ts
+-- nothing is read after the first
+pub types_start : (all : List TyText) (i : TyText) (ts : List Token) → all ≡ i ∷ [] → TypesAfter (type_tree i) (list_types all) ts ts
 types_start all i ts e = record { new = no_types; list = no_type; whole = ap list_types e }
 
 -- one more is read
-pub types_step : (items all : List TyText) (i : TyText) (first : TypeTree) (s : Span) (ts us vs k : List Token) → TypesBehind first (list_types items) ts us → us ≡ sign_comma s ∷ vs → IsType (type_tree i) vs k → all ≡ items ++ i ∷ [] → TypesBehind first (list_types all) ts k
+pub types_step : (items all : List TyText) (i : TyText) (first : TypeTree) (s : Span) (ts us vs k : List Token) → TypesAfter first (list_types items) ts us → us ≡ sign_comma s ∷ vs → IsType (type_tree i) vs k → all ≡ items ++ i ∷ [] → TypesAfter first (list_types all) ts k
 types_step items all i first s ts us vs k b g d e = record {
   new = snoc_typetrees b.new (type_tree i);
   list = types_on b.list g d;
@@ -171,12 +171,12 @@ named_types_on : {all : NamedTypes} {e : TypeTree} {s t u : Span} {x : List ℕ}
 named_types_on no_named_type g d = rw g (next_named_type d no_named_type)
 named_types_on (next_named_type b c) g d = next_named_type b (named_types_on c g d)
 
--- nothing is read behind the first
-pub named_types_start : (all : List (List ℕ × TyText)) (i : (List ℕ × TyText)) (ts : List Token) → all ≡ i ∷ [] → NamedTypesBehind i.0 (type_tree i.1) (list_named_types all) ts ts
+-- nothing is read after the first
+pub named_types_start : (all : List (List ℕ × TyText)) (i : (List ℕ × TyText)) (ts : List Token) → all ≡ i ∷ [] → NamedTypesAfter i.0 (type_tree i.1) (list_named_types all) ts ts
 named_types_start all i ts e = record { new = no_named_types; list = no_named_type; whole = ap list_named_types e }
 
 -- one more is read
-pub named_types_step : (items all : List (List ℕ × TyText)) (i : (List ℕ × TyText)) (x : List ℕ) (first : TypeTree) (s t u : Span) (ts us as_ bs vs k : List Token) → NamedTypesBehind x first (list_named_types items) ts us → us ≡ sign_comma s ∷ as_ → as_ ≡ a_name t i.0 ∷ bs → bs ≡ sign_colon u ∷ vs → IsType (type_tree i.1) vs k → all ≡ items ++ i ∷ [] → NamedTypesBehind x first (list_named_types all) ts k
+pub named_types_step : (items all : List (List ℕ × TyText)) (i : (List ℕ × TyText)) (x : List ℕ) (first : TypeTree) (s t u : Span) (ts us as_ bs vs k : List Token) → NamedTypesAfter x first (list_named_types items) ts us → us ≡ sign_comma s ∷ as_ → as_ ≡ a_name t i.0 ∷ bs → bs ≡ sign_colon u ∷ vs → IsType (type_tree i.1) vs k → all ≡ items ++ i ∷ [] → NamedTypesAfter x first (list_named_types all) ts k
 named_types_step items all i x first s t u ts us as_ bs vs k b g h i' d e = record {
   new = snoc_namedtypes b.new i.0 (type_tree i.1);
   list = named_types_on {s = s} {t = t} {u = u} b.list (rw (g, h, i') refl) d;
@@ -208,12 +208,12 @@ patterns_on : {all : PatternTrees} {e : PatternTree} {s : Span} {ts us vs k : Li
 patterns_on no_pattern g d = rw g (next_pattern d no_pattern)
 patterns_on (next_pattern b c) g d = next_pattern b (patterns_on c g d)
 
--- nothing is read behind the first
-pub patterns_start : (all : List Pat) (i : Pat) (ts : List Token) → all ≡ i ∷ [] → PatternsBehind (pattern_tree i) (list_patterns all) ts ts
+-- nothing is read after the first
+pub patterns_start : (all : List Pat) (i : Pat) (ts : List Token) → all ≡ i ∷ [] → PatternsAfter (pattern_tree i) (list_patterns all) ts ts
 patterns_start all i ts e = record { new = no_patterns; list = no_pattern; whole = ap list_patterns e }
 
 -- one more is read
-pub patterns_step : (items all : List Pat) (i : Pat) (first : PatternTree) (s : Span) (ts us vs k : List Token) → PatternsBehind first (list_patterns items) ts us → us ≡ sign_comma s ∷ vs → IsPattern (pattern_tree i) vs k → all ≡ items ++ i ∷ [] → PatternsBehind first (list_patterns all) ts k
+pub patterns_step : (items all : List Pat) (i : Pat) (first : PatternTree) (s : Span) (ts us vs k : List Token) → PatternsAfter first (list_patterns items) ts us → us ≡ sign_comma s ∷ vs → IsPattern (pattern_tree i) vs k → all ≡ items ++ i ∷ [] → PatternsAfter first (list_patterns all) ts k
 patterns_step items all i first s ts us vs k b g d e = record {
   new = snoc_patterntrees b.new (pattern_tree i);
   list = patterns_on b.list g d;
@@ -245,12 +245,12 @@ exprs_on : {all : Trees} {e : Tree} {s : Span} {ts us vs k : List Token} → IsM
 exprs_on no_expr g d = rw g (next_expr d no_expr)
 exprs_on (next_expr b c) g d = next_expr b (exprs_on c g d)
 
--- nothing is read behind the first
-pub exprs_start : (all : List Expr) (i : Expr) (ts : List Token) → all ≡ i ∷ [] → ExprsBehind (tree_of i) (list_trees all) ts ts
+-- nothing is read after the first
+pub exprs_start : (all : List Expr) (i : Expr) (ts : List Token) → all ≡ i ∷ [] → ExprsAfter (tree_of i) (list_trees all) ts ts
 exprs_start all i ts e = record { new = no_trees; list = no_expr; whole = ap list_trees e }
 
 -- one more is read
-pub exprs_step : (items all : List Expr) (i : Expr) (first : Tree) (s : Span) (ts us vs k : List Token) → ExprsBehind first (list_trees items) ts us → us ≡ sign_comma s ∷ vs → IsExpr (tree_of i) vs k → all ≡ items ++ i ∷ [] → ExprsBehind first (list_trees all) ts k
+pub exprs_step : (items all : List Expr) (i : Expr) (first : Tree) (s : Span) (ts us vs k : List Token) → ExprsAfter first (list_trees items) ts us → us ≡ sign_comma s ∷ vs → IsExpr (tree_of i) vs k → all ≡ items ++ i ∷ [] → ExprsAfter first (list_trees all) ts k
 exprs_step items all i first s ts us vs k b g d e = record {
   new = snoc_trees b.new (tree_of i);
   list = exprs_on b.list g d;
@@ -282,12 +282,12 @@ members_on : {all : NamedTrees} {e : Tree} {s t u : Span} {x : List ℕ} {ts us 
 members_on no_member g d = rw g (next_member d no_member)
 members_on (next_member b c) g d = next_member b (members_on c g d)
 
--- nothing is read behind the first
-pub members_start : (all : List (List ℕ × Expr)) (i : (List ℕ × Expr)) (ts : List Token) → all ≡ i ∷ [] → MembersBehind i.0 (tree_of i.1) (list_named_trees all) ts ts
+-- nothing is read after the first
+pub members_start : (all : List (List ℕ × Expr)) (i : (List ℕ × Expr)) (ts : List Token) → all ≡ i ∷ [] → MembersAfter i.0 (tree_of i.1) (list_named_trees all) ts ts
 members_start all i ts e = record { new = no_named_trees; list = no_member; whole = ap list_named_trees e }
 
 -- one more is read
-pub members_step : (items all : List (List ℕ × Expr)) (i : (List ℕ × Expr)) (x : List ℕ) (first : Tree) (s t u : Span) (ts us as_ bs vs k : List Token) → MembersBehind x first (list_named_trees items) ts us → us ≡ sign_comma s ∷ as_ → as_ ≡ a_name t i.0 ∷ bs → bs ≡ sign_is u ∷ vs → IsExpr (tree_of i.1) vs k → all ≡ items ++ i ∷ [] → MembersBehind x first (list_named_trees all) ts k
+pub members_step : (items all : List (List ℕ × Expr)) (i : (List ℕ × Expr)) (x : List ℕ) (first : Tree) (s t u : Span) (ts us as_ bs vs k : List Token) → MembersAfter x first (list_named_trees items) ts us → us ≡ sign_comma s ∷ as_ → as_ ≡ a_name t i.0 ∷ bs → bs ≡ sign_is u ∷ vs → IsExpr (tree_of i.1) vs k → all ≡ items ++ i ∷ [] → MembersAfter x first (list_named_trees all) ts k
 members_step items all i x first s t u ts us as_ bs vs k b g h i' d e = record {
   new = snoc_namedtrees b.new i.0 (tree_of i.1);
   list = members_on {s = s} {t = t} {u = u} b.list (rw (g, h, i') refl) d;
@@ -356,10 +356,10 @@ statements_on : {all : StatementTrees} {e : StatementTree} {ts us k : List Token
 statements_on no_statement d = next_statement d no_statement
 statements_on (next_statement b c) d = next_statement b (statements_on c d)
 
-pub statements_start : (all : List Stmt) (i : Stmt) (ts : List Token) → all ≡ i ∷ [] → StatementsBehind (statement_tree i) (list_statements all) ts ts
+pub statements_start : (all : List Stmt) (i : Stmt) (ts : List Token) → all ≡ i ∷ [] → StatementsAfter (statement_tree i) (list_statements all) ts ts
 statements_start all i ts e = record { new = no_statements; list = no_statement; whole = ap list_statements e }
 
-pub statements_step : (items all : List Stmt) (i : Stmt) (first : StatementTree) (ts us k : List Token) → StatementsBehind first (list_statements items) ts us → IsStatement (statement_tree i) us k → all ≡ items ++ i ∷ [] → StatementsBehind first (list_statements all) ts k
+pub statements_step : (items all : List Stmt) (i : Stmt) (first : StatementTree) (ts us k : List Token) → StatementsAfter first (list_statements items) ts us → IsStatement (statement_tree i) us k → all ≡ items ++ i ∷ [] → StatementsAfter first (list_statements all) ts k
 statements_step items all i first ts us k b d e = record {
   new = snoc_statements b.new (statement_tree i);
   list = statements_on b.list d;

@@ -9,7 +9,7 @@ use Rattle.nv_ast.specs.Height.{pattern_height, highest_pattern}
 use Rattle.nv_ast.specs.Grammar.{IsPattern, name_pattern, any_pattern, unit_pattern, tuple_pattern, IsMorePatterns, no_pattern, next_pattern, IsPatterns, empty_patterns, some_patterns}
 use Rattle.nv_parser.specs.declared.cursor.Failure.{Failure}
 use Rattle.nv_parser.specs.inner.Cursor.{Front, NotSign, NotKey, NotName, IsSyntax}
-use Rattle.nv_parser.specs.inner.Failing.{Bound, NoBound, AtMost, Within, HasRoom, Same, Inside, part_of, bound_of, Phrases, Anything, Ahead, Phrase, One, ASign, AKey, AName, Then, Many, none, next, Behind, SameFront, Completes, Starts, StartsNone, Reads, FailsAs}
+use Rattle.nv_parser.specs.inner.Failing.{Bound, NoBound, AtMost, Within, HasRoom, Same, Inside, part_of, bound_of, Phrases, Anything, Ahead, Phrase, One, ASign, AKey, AName, Then, Many, none, next, HasRead, SameFront, Completes, Starts, StartsNone, Reads, FailsAs}
 use Rattle.nv_parser.specs.inner.Phrases.{LowPatterns, APattern, SomePatterns, NextPattern}
 use Rattle.nv_parser.proofs.Bounds.{within_one, within_node, node_within, within_max, max_left, max_right, within_zero, room_here}
 use Rattle.nv_parser.proofs.Follow.{Above, close_starts_no_pattern, pattern_first, first_rank}
@@ -149,7 +149,7 @@ starts_none {ts = ts} f g n = record {
 }
 
 -- '(' is completed by ')'
-pub open_completes : (s : Span) (room : ℕ) → 1 ≤ room → Completes (Behind (sign_open s ∷ []) APattern) (AtMost room) []
+pub open_completes : (s : Span) (room : ℕ) → 1 ≤ room → Completes (HasRead (sign_open s ∷ []) APattern) (AtMost room) []
 open_completes s room h = record { more = sign_close no_span ∷ []; spelled = λ k. record { whole = record { tree = TuplePattern no_patterns; spelled = unit_pattern; low = h } } }
 
 next_fills : (room : ℕ) → 1 ≤ room → Fills NextPattern room
@@ -162,7 +162,7 @@ TupleEnd = Then (Then NextPattern (Many NextPattern)) (ASign 25)
 pub end_fills : (room : ℕ) → 1 ≤ room → Fills TupleEnd room
 end_fills room h = then_fills (then_fills (next_fills room h) (many_fills room)) (one_fills room tt)
 
--- no comma behind the first part
+-- no comma after the first part
 pub comma_fails : (room : ℕ) → 1 ≤ room → (ts : List Token) (e : Failure) → IsSyntax ts e × NotSign 22 ts → FailsAs TupleEnd Anything room ts e
 comma_fails room h ts e f = first_fails (one_carries 10 (λ x. omega arith)) (one_fills room tt) (first_fails {F = Anything} {G = Above 10} carries_anything (many_fills room) (first_fails {F = Anything} carries_anything (pattern_fills room h) (sign_fails 22 room ts e f)))
 

@@ -9,7 +9,7 @@ use Rattle.nv_ast.specs.Tokens.{at}
 use Rattle.nv_parser.specs.declared.cursor.Failure.{Failure}
 use Rattle.nv_parser.specs.declared.cursor.Failure.TheVariants.{NoMemory, Syntax, Deep}
 use Rattle.nv_parser.specs.inner.Cursor.{Front, NotSign, NotKey, NotName, NotNumber, IsSyntax, IsSyntaxOrMemory}
-use Rattle.nv_parser.specs.inner.Failing.{Bound, NoBound, AtMost, HasRoom, Part, Same, Inside, Alone, room_of, part_of, bound_of, Phrases, Follow, Anything, Ahead, One, ASign, AKey, AName, ANumber, Then, Many, none, next, Behind, SameFront, Completes, Starts, StartsNone, Reads, GoesOn, ReadMany, read_none, read_next, Fails, FailsAs, no_memory, syntax, deep}
+use Rattle.nv_parser.specs.inner.Failing.{Bound, NoBound, AtMost, HasRoom, Part, Same, Inside, Alone, room_of, part_of, bound_of, Phrases, Follow, Anything, Ahead, One, ASign, AKey, AName, ANumber, Then, Many, none, next, HasRead, SameFront, Completes, Starts, StartsNone, Reads, GoesOn, ReadMany, read_none, read_next, Fails, FailsAs, no_memory, syntax, deep}
 use Rattle.nv_parser.proofs.Follow.{Above, above_weaken, rank}
 use Rattle.nv_parser.proofs.Bounds.{room_here}
 
@@ -19,7 +19,7 @@ pub same_front : (ts : List Token) → SameFront ts ts
 same_front [] = tt
 same_front (t ∷ ts) = refl
 
--- behind the same tokens
+-- after the same tokens
 pub same_behind : (seen left us ts : List Token) → SameFront left us → ts ≡ seen ++ left → SameFront ts (seen ++ us)
 same_behind [] left us ts h e = subst (λ z. SameFront z us) (sym e) h
 same_behind (s ∷ seen) left us ts h e = subst (λ z. SameFront z (s ∷ (seen ++ us))) (sym e) refl
@@ -53,7 +53,7 @@ carries_anything = record { on = λ b ts k q g. tt }
 pub then_carries : {P Q : Phrases} {H F G : Follow} → Carries P F H → Carries Q G F → Carries (Then P Q) G H
 then_carries p q = record { on = λ b ts k r g. p.on b ts r.middle r.first (q.on b r.middle k r.second g) }
 
-pub one_carries : {X : Type 0} {sort_of : X → Sort} {G : Follow} (n : ℕ) → ((x : X) → n < rank (sort_of x)) → Carries (One sort_of) G (Above n)
+pub one_carries : {X : Type 0} {origin_of : X → Sort} {G : Follow} (n : ℕ) → ((x : X) → n < rank (origin_of x)) → Carries (One origin_of) G (Above n)
 one_carries n h = record { on = λ b ts k r g. subst (λ z. Above n z) (sym r.split) (h r.value) }
 
 pub sign_ahead : {G : Follow} (n : ℕ) → Carries (ASign n) G (Ahead n)
@@ -85,35 +85,35 @@ then_fills {room = room} p q = record {
   };
 }
 
-pub one_fills : {X : Type 0} {sort_of : X → Sort} (room : ℕ) → X → Fills (One sort_of) room
-one_fills {sort_of = sort_of} room x = record {
+pub one_fills : {X : Type 0} {origin_of : X → Sort} (room : ℕ) → X → Fills (One origin_of) room
+one_fills {origin_of = origin_of} room x = record {
   with_ = λ low. record {
-    more = at (record { first = 0; after = 0 }) (sort_of x) ∷ [];
+    more = at (record { first = 0; after = 0 }) (origin_of x) ∷ [];
     spelled = λ k. record { span = record { first = 0; after = 0 }; value = x; split = refl };
   };
 }
 
 -- ---- one token
 
-pub one_reads : {X : Type 0} (sort_of : X → Sort) (room : ℕ) (s : Span) (x : X) {ts rest : List Token} → ts ≡ at s (sort_of x) ∷ rest → Reads (One sort_of) Anything room ts rest
-one_reads sort_of room s x e = record {
-  seen = at s (sort_of x) ∷ [];
+pub one_reads : {X : Type 0} (origin_of : X → Sort) (room : ℕ) (s : Span) (x : X) {ts rest : List Token} → ts ≡ at s (origin_of x) ∷ rest → Reads (One origin_of) Anything room ts rest
+one_reads origin_of room s x e = record {
+  seen = at s (origin_of x) ∷ [];
   split = e;
   again = λ low k. record { span = s; value = x; split = refl };
-  only = λ low us k h r f. let g : at s (sort_of x) ∷ us ≡ at r.span (sort_of r.value) ∷ k = r.split in cc;
+  only = λ low us k h r f. let g : at s (origin_of x) ∷ us ≡ at r.span (origin_of r.value) ∷ k = r.split in cc;
 }
 
-pub one_none : {X : Type 0} (sort_of : X → Sort) (x : X) (s : Span) (k us : List Token) → us ≡ at s (sort_of x) ∷ k → Front (λ t. (y : X) → t.sort ≡ sort_of y → ⊥) us → ⊥
-one_none sort_of x s k [] e f = let h : ⊥ = cc in h
-one_none sort_of x s k (u ∷ us) e f = f x (let h : u ≡ at s (sort_of x) = cc in ap (λ z. z.sort) h)
+pub one_none : {X : Type 0} (origin_of : X → Sort) (x : X) (s : Span) (k us : List Token) → us ≡ at s (origin_of x) ∷ k → Front (λ t. (y : X) → t.sort ≡ origin_of y → ⊥) us → ⊥
+one_none origin_of x s k [] e f = let h : ⊥ = cc in h
+one_none origin_of x s k (u ∷ us) e f = f x (let h : u ≡ at s (origin_of x) = cc in ap (λ z. z.sort) h)
 
-pub one_fails : {X : Type 0} (sort_of : X → Sort) (room : ℕ) (x : X) {ts : List Token} → Front (λ t. (y : X) → t.sort ≡ sort_of y → ⊥) ts → Fails (One sort_of) Anything false room ts ts
-one_fails sort_of room x {ts = ts} n = record {
+pub one_fails : {X : Type 0} (origin_of : X → Sort) (room : ℕ) (x : X) {ts : List Token} → Front (λ t. (y : X) → t.sort ≡ origin_of y → ⊥) ts → Fails (One origin_of) Anything false room ts ts
+one_fails origin_of room x {ts = ts} n = record {
   seen = [];
   split = refl;
   begins = (one_fills room x).with_ true;
   goes_on = tt;
-  dead = λ us k h r f. one_none sort_of r.value r.span k us r.split (front_same _ ts us h n);
+  dead = λ us k h r f. one_none origin_of r.value r.span k us r.split (front_same _ ts us h n);
 }
 
 pub not_sort : (s : Sort) (ts : List Token) → Front (λ t. t.sort ≡ s → ⊥) ts → Front (λ t. (y : Unit {0}) → t.sort ≡ s → ⊥) ts
@@ -159,7 +159,7 @@ completes_first {seen = seen} p q = record {
   spelled = λ k. record { middle = q.more ++ k; first = rw append_assoc (p.spelled (q.more ++ k)); second = q.spelled k };
 }
 
-starts_first : {P Q : Phrases} {seen left : List Token} → Completes Q NoBound [] → Starts (Behind seen P) left → Starts (Behind seen (Then P Q)) left
+starts_first : {P Q : Phrases} {seen left : List Token} → Completes Q NoBound [] → Starts (HasRead seen P) left → Starts (HasRead seen (Then P Q)) left
 starts_first {seen = seen} q g = record {
   token = g.token;
   rest = g.rest;
@@ -211,7 +211,7 @@ past_dead {Q = Q} {room = room} {us = us} low p seen left e c dead vs k h r g =
 pub past_split : (pre us seen left ts : List Token) → ts ≡ pre ++ us → us ≡ seen ++ left → ts ≡ (pre ++ seen) ++ left
 past_split pre us seen left ts e f = e ∙ (ap (λ z. pre ++ z) f ∙ sym (append_assoc pre seen left))
 
-past_starts : {P Q : Phrases} {F : Follow} {room : ℕ} {ts us : List Token} (p : Reads P F room ts us) (seen left : List Token) → Starts (Behind seen Q) left → Starts (Behind (p.seen ++ seen) (Then P Q)) left
+past_starts : {P Q : Phrases} {F : Follow} {room : ℕ} {ts us : List Token} (p : Reads P F room ts us) (seen left : List Token) → Starts (HasRead seen Q) left → Starts (HasRead (p.seen ++ seen) (Then P Q)) left
 past_starts p seen left q = record {
   token = q.token;
   rest = q.rest;
@@ -247,18 +247,18 @@ then_fails {ts = ts} {us = us} c p (deep {left = left} q) = deep (record {
 })
 
 -- one token is read, and what follows it fails
-pub one_then : {X : Type 0} (sort_of : X → Sort) {Q : Phrases} {G : Follow} {room : ℕ} {ts us : List Token} {e : Failure} (s : Span) (x : X) → ts ≡ at s (sort_of x) ∷ us → FailsAs Q G room us e → FailsAs (Then (One sort_of) Q) G room ts e
-one_then sort_of {room = room} s x h q = then_fails carries_anything (one_reads sort_of room s x h) q
+pub one_then : {X : Type 0} (origin_of : X → Sort) {Q : Phrases} {G : Follow} {room : ℕ} {ts us : List Token} {e : Failure} (s : Span) (x : X) → ts ≡ at s (origin_of x) ∷ us → FailsAs Q G room us e → FailsAs (Then (One origin_of) Q) G room ts e
+one_then origin_of {room = room} s x h q = then_fails carries_anything (one_reads origin_of room s x h) q
 
 -- ---- rules
 
--- within a room, a phrase behind some tokens is a row of parts within another, and every such row is one, as far as the token in front tells
+-- within a room, a phrase after some tokens is a row of parts within another, and every such row is one, as far as the token in front tells
 pub record RuleAt (room m : ℕ) (pre : List Token) (Row : Phrases) (G : Follow) (P : Phrases) (F : Follow) (ts : List Token) : Type 0 where
   pub make : (low : Bool) (us k : List Token) → Row (bound_of low m) us k → P (bound_of low room) (pre ++ us) k
   pub row : (low : Bool) (us k : List Token) → SameFront ts us → P (bound_of low room) (pre ++ us) k → F k → Row (bound_of low m) us k
   pub follow : (low : Bool) (us k : List Token) → SameFront ts us → P (bound_of low room) (pre ++ us) k → F k → G k
 
-pub at_reads : {pre : List Token} {Row P : Phrases} {G F : Follow} {room m : ℕ} {ts rest : List Token} → RuleAt room m pre Row G P F ts → Reads Row G m ts rest → Reads (Behind pre P) F room ts rest
+pub at_reads : {pre : List Token} {Row P : Phrases} {G F : Follow} {room m : ℕ} {ts rest : List Token} → RuleAt room m pre Row G P F ts → Reads Row G m ts rest → Reads (HasRead pre P) F room ts rest
 at_reads {ts = ts} {rest = rest} r d = record {
   seen = d.seen;
   split = d.split;
@@ -268,10 +268,10 @@ at_reads {ts = ts} {rest = rest} r d = record {
       d.only low us k s (r.row low (d.seen ++ us) k h w.whole f) (r.follow low (d.seen ++ us) k h w.whole f);
 }
 
-at_completes : {pre : List Token} {Row P : Phrases} {G F : Follow} {room m : ℕ} {ts : List Token} (r : RuleAt room m pre Row G P F ts) (low : Bool) (seen : List Token) → Completes Row (bound_of low m) seen → Completes (Behind pre P) (bound_of low room) seen
+at_completes : {pre : List Token} {Row P : Phrases} {G F : Follow} {room m : ℕ} {ts : List Token} (r : RuleAt room m pre Row G P F ts) (low : Bool) (seen : List Token) → Completes Row (bound_of low m) seen → Completes (HasRead pre P) (bound_of low room) seen
 at_completes r low seen c = record { more = c.more; spelled = λ k. record { whole = r.make low (seen ++ (c.more ++ k)) k (c.spelled k) } }
 
-at_starts : {pre : List Token} {Row P : Phrases} {G F : Follow} {room m : ℕ} {ts : List Token} (r : RuleAt room m pre Row G P F ts) (seen left : List Token) → Starts (Behind seen Row) left → Starts (Behind seen (Behind pre P)) left
+at_starts : {pre : List Token} {Row P : Phrases} {G F : Follow} {room m : ℕ} {ts : List Token} (r : RuleAt room m pre Row G P F ts) (seen left : List Token) → Starts (HasRead seen Row) left → Starts (HasRead seen (HasRead pre P)) left
 at_starts r seen left g = record {
   token = g.token;
   rest = g.rest;
@@ -284,12 +284,12 @@ at_starts r seen left g = record {
 
 at_dead : {pre : List Token} {Row P : Phrases} {G F : Follow} {room m : ℕ} {ts : List Token} (r : RuleAt room m pre Row G P F ts) (low : Bool) (seen left : List Token) → ts ≡ seen ++ left →
     ((us k : List Token) → SameFront left us → Row (bound_of low m) (seen ++ us) k → G k → ⊥) →
-    (us k : List Token) → SameFront left us → Behind pre P (bound_of low room) (seen ++ us) k → F k → ⊥
+    (us k : List Token) → SameFront left us → HasRead pre P (bound_of low room) (seen ++ us) k → F k → ⊥
 at_dead {ts = ts} r low seen left e dead us k s w f =
     let h = same_behind seen left us ts s e in
     dead us k s (r.row low (seen ++ us) k h w.whole f) (r.follow low (seen ++ us) k h w.whole f)
 
-pub at_fails : {pre : List Token} {Row P : Phrases} {G F : Follow} {room m : ℕ} {ts : List Token} {e : Failure} → RuleAt room m pre Row G P F ts → FailsAs Row G m ts e → FailsAs (Behind pre P) F room ts e
+pub at_fails : {pre : List Token} {Row P : Phrases} {G F : Follow} {room m : ℕ} {ts : List Token} {e : Failure} → RuleAt room m pre Row G P F ts → FailsAs Row G m ts e → FailsAs (HasRead pre P) F room ts e
 at_fails r no_memory = no_memory
 at_fails r (syntax {left = left} d) = syntax (record {
   seen = d.seen;
@@ -325,15 +325,15 @@ rule_at {part = part} {Row = Row} r room h = record {
   follow = λ low us k s d f. (r.parts (bound_of low room) us k s d f).1;
 }
 
-pub rule_reads : {part : Part} {pre : List Token} {Row P : Phrases} {G F : Follow} {room : ℕ} {ts rest : List Token} → Rule part pre Row G P F ts → 1 ≤ room → Reads Row G (room_of part room) ts rest → Reads (Behind pre P) F room ts rest
+pub rule_reads : {part : Part} {pre : List Token} {Row P : Phrases} {G F : Follow} {room : ℕ} {ts rest : List Token} → Rule part pre Row G P F ts → 1 ≤ room → Reads Row G (room_of part room) ts rest → Reads (HasRead pre P) F room ts rest
 rule_reads {room = room} r h d = at_reads (rule_at r room h) d
 
-pub rule_fails : {part : Part} {pre : List Token} {Row P : Phrases} {G F : Follow} {room : ℕ} {ts : List Token} {e : Failure} → Rule part pre Row G P F ts → 1 ≤ room → FailsAs Row G (room_of part room) ts e → FailsAs (Behind pre P) F room ts e
+pub rule_fails : {part : Part} {pre : List Token} {Row P : Phrases} {G F : Follow} {room : ℕ} {ts : List Token} {e : Failure} → Rule part pre Row G P F ts → 1 ≤ room → FailsAs Row G (room_of part room) ts e → FailsAs (HasRead pre P) F room ts e
 rule_fails {room = room} r h d = at_fails (rule_at r room h) d
 
 -- ---- tokens before
 
-pub behind_reads : {pre : List Token} {P : Phrases} {F : Follow} {room : ℕ} {us rest : List Token} (ts : List Token) → ts ≡ pre ++ us → Reads (Behind pre P) F room us rest → Reads P F room ts rest
+pub behind_reads : {pre : List Token} {P : Phrases} {F : Follow} {room : ℕ} {us rest : List Token} (ts : List Token) → ts ≡ pre ++ us → Reads (HasRead pre P) F room us rest → Reads P F room ts rest
 behind_reads {pre = pre} {us = us} {rest = rest} ts e d = record {
   seen = pre ++ d.seen;
   split = past_split pre us d.seen rest ts e d.split;
@@ -341,10 +341,10 @@ behind_reads {pre = pre} {us = us} {rest = rest} ts e d = record {
   only = λ low vs k h w f. d.only low vs k h (record { whole = rw append_assoc at w }) f;
 }
 
-behind_completes : {pre : List Token} {P : Phrases} {b : Bound} {seen : List Token} → Completes (Behind pre P) b seen → Completes P b (pre ++ seen)
+behind_completes : {pre : List Token} {P : Phrases} {b : Bound} {seen : List Token} → Completes (HasRead pre P) b seen → Completes P b (pre ++ seen)
 behind_completes c = record { more = c.more; spelled = λ k. rw append_assoc (c.spelled k).whole }
 
-behind_starts : {pre : List Token} {P : Phrases} {seen left : List Token} → Starts (Behind seen (Behind pre P)) left → Starts (Behind (pre ++ seen) P) left
+behind_starts : {pre : List Token} {P : Phrases} {seen left : List Token} → Starts (HasRead seen (HasRead pre P)) left → Starts (HasRead (pre ++ seen) P) left
 behind_starts g = record {
   token = g.token;
   rest = g.rest;
@@ -352,7 +352,7 @@ behind_starts g = record {
   on = record { more = g.on.more; spelled = λ k. record { whole = rw append_assoc (g.on.spelled k).whole.whole } };
 }
 
-pub behind_fails : {pre : List Token} {P : Phrases} {F : Follow} {room : ℕ} {us : List Token} {e : Failure} (ts : List Token) → ts ≡ pre ++ us → FailsAs (Behind pre P) F room us e → FailsAs P F room ts e
+pub behind_fails : {pre : List Token} {P : Phrases} {F : Follow} {room : ℕ} {us : List Token} {e : Failure} (ts : List Token) → ts ≡ pre ++ us → FailsAs (HasRead pre P) F room us e → FailsAs P F room ts e
 behind_fails ts h no_memory = no_memory
 behind_fails {pre = pre} {us = us} ts h (syntax {left = left} d) = syntax (record {
   seen = pre ++ d.seen;
@@ -398,7 +398,7 @@ high_fails c p n = record {
 }
 
 -- it begins no first part
-pub part_none_fails : {part : Part} {pre : List Token} {P Q W : Phrases} {G F : Follow} {room : ℕ} {ts : List Token} → Rule part pre (Then P Q) G W F ts → Completes (Behind pre W) (AtMost room) [] → StartsNone P ts → Fails (Behind pre W) F false room ts ts
+pub part_none_fails : {part : Part} {pre : List Token} {P Q W : Phrases} {G F : Follow} {room : ℕ} {ts : List Token} → Rule part pre (Then P Q) G W F ts → Completes (HasRead pre W) (AtMost room) [] → StartsNone P ts → Fails (HasRead pre W) F false room ts ts
 part_none_fails {P = P} r c n = record {
   seen = [];
   split = refl;
@@ -408,7 +408,7 @@ part_none_fails {P = P} r c n = record {
 }
 
 -- it begins a part for which there is no room
-pub part_deep_fails : {pre : List Token} {P Q W : Phrases} {G F : Follow} {room : ℕ} {ts : List Token} → Rule Inside pre (Then P Q) G W F ts → room ≡ 1 → Completes (Behind pre W) (AtMost room) [] → Starts P ts → Completes Q NoBound [] → ((us k : List Token) → P (AtMost 0) us k → ⊥) → Fails (Behind pre W) F true room ts ts
+pub part_deep_fails : {pre : List Token} {P Q W : Phrases} {G F : Follow} {room : ℕ} {ts : List Token} → Rule Inside pre (Then P Q) G W F ts → room ≡ 1 → Completes (HasRead pre W) (AtMost room) [] → Starts P ts → Completes Q NoBound [] → ((us k : List Token) → P (AtMost 0) us k → ⊥) → Fails (HasRead pre W) F true room ts ts
 part_deep_fails {P = P} {room = room} r h c p q n = record {
   seen = [];
   split = refl;
@@ -437,7 +437,7 @@ part_deep_fails {P = P} {room = room} r h c p q n = record {
 
 -- ---- the first part
 
--- the phrase has a first part, with H behind it
+-- the phrase has a first part, with H after it
 pub record FirstPart (X : Phrases) (H : Follow) (b : Bound) (us : List Token) : Type 0 where
   pub middle : List Token
   pub part : X b us middle
@@ -468,13 +468,13 @@ whole_fails {room = room} make first (deep d) = deep (record {
 
 -- ---- lists
 
--- items that may follow one another, each with F behind it, and of which none begins with what may follow the list
+-- items that may follow one another, each with F after it, and of which none begins with what may follow the list
 pub record Listed (P : Phrases) (F G : Follow) : Type 0 where
   pub starts : (b : Bound) (ts k : List Token) → P b ts k → F ts
   pub ends : (b : Bound) (ts us k : List Token) → P b ts k → SameFront ts us → G us → ⊥
   pub over : (k : List Token) → G k → F k
 
--- each item behind a sign
+-- each item after a sign
 pub sign_listed : (sign m n : ℕ) (Q : Phrases) → m < rank (Sign sign) → rank (Sign sign) ≤ n → m ≤ n → Listed (Then (ASign sign) Q) (Above m) (Above n)
 sign_listed sign m n Q h g i = record {
   starts = λ b ts k d. subst (λ z. Above m z) (sym d.first.split) h;
@@ -512,7 +512,7 @@ item_here : {P : Phrases} {F G : Follow} {room : ℕ} {ts rest : List Token} →
 item_here {P = P} {room = room} {ts = ts} {rest = rest} l d us s g =
     l.ends (AtMost room) ts us rest (subst (λ z. P (AtMost room) z rest) (sym d.split) (d.again true rest)) s g
 
--- what is read or fails behind them is the list's
+-- what is read or fails after them is the list's
 pub read_many_reads : {P : Phrases} {F G : Follow} {room : ℕ} {ts us rest : List Token} → Listed P F G → 1 ≤ room → ReadMany P F room ts us → Reads (Many P) G room us rest → Reads (Many P) G room ts rest
 read_many_reads l h read_none r = r
 read_many_reads l h (read_next m d) r = read_many_reads l h m (row_reads (list_rule (item_here l d)) h (then_reads (many_carries l) d r))
@@ -551,7 +551,7 @@ some_completes : {P : Phrases} {b : Bound} (seen : List Token) → Completes (Th
 some_completes [] c d = c
 some_completes (t ∷ seen) c d = record { more = d.more; spelled = λ k. some_of (longer t seen d.more k) (d.spelled k) }
 
-next_starts : {P : Phrases} (seen left : List Token) → Starts (Behind seen (Many P)) left → Starts (Behind seen (Then P (Many P))) left
+next_starts : {P : Phrases} (seen left : List Token) → Starts (HasRead seen (Many P)) left → Starts (HasRead seen (Then P (Many P))) left
 next_starts seen left d = record {
   token = d.token;
   rest = d.rest;

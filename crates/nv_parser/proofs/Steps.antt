@@ -5,7 +5,7 @@ use Rattle.nv_ast.specs.declared.token.Token.{Token}
 use Rattle.nv_parser.specs.declared.cursor.Failure.{Failure}
 use Rattle.nv_parser.specs.declared.cursor.Failure.TheVariants.{NoMemory, Syntax, Deep}
 use Rattle.std.specs.Borrow.{Bor}
-use Rattle.nv_parser.specs.inner.Failing.{Bound, NoBound, AtMost, bound_of, Phrases, Follow, Phrase, Behind, SameFront, Completes, Starts, Reads, GoesOn, Fails, FailsAs, no_memory, syntax, deep}
+use Rattle.nv_parser.specs.inner.Failing.{Bound, NoBound, AtMost, bound_of, Phrases, Follow, Phrase, HasRead, SameFront, Completes, Starts, Reads, GoesOn, Fails, FailsAs, no_memory, syntax, deep}
 use Rattle.nv_parser.specs.inner.ExprPhrases.{rebound, At, Onward}
 use Rattle.nv_parser.proofs.Sequence.{same_front, same_behind, Fills, past_split}
 use Rattle.nv_parser.proofs.Frames.{Frame}
@@ -35,7 +35,7 @@ step_reads {pre = pre} {us = us} {rest = rest} s ts e d = record {
 pub step_completes : {pre : List Token} {Row P : Phrases} {G F : Follow} {inner room : ℕ} {us : List Token} (low : Bool) → Step pre Row inner G P room F us → (seen : List Token) → Completes Row (bound_of low inner) seen → Completes P (bound_of low room) (pre ++ seen)
 step_completes low s seen c = record { more = c.more; spelled = λ k. rw append_assoc (s.make low (seen ++ (c.more ++ k)) k (c.spelled k)) }
 
-step_starts : {pre : List Token} {Row P : Phrases} {G F : Follow} {inner room : ℕ} {us : List Token} → Step pre Row inner G P room F us → (seen left : List Token) → Starts (Behind seen Row) left → Starts (Behind (pre ++ seen) P) left
+step_starts : {pre : List Token} {Row P : Phrases} {G F : Follow} {inner room : ℕ} {us : List Token} → Step pre Row inner G P room F us → (seen left : List Token) → Starts (HasRead seen Row) left → Starts (HasRead (pre ++ seen) P) left
 step_starts s seen left g = record {
   token = g.token;
   rest = g.rest;
@@ -129,7 +129,7 @@ pub record Bind {T : Type 0} (R : T → List Token → List Token → Type 0) (Q
   pub first : R tree ts middle
   pub second : Q tree b middle k
 
--- the first part, within `inner`, has F behind it and is the same whatever follows; alone it is a whole
+-- the first part, within `inner`, has F after it and is the same whatever follows; alone it is a whole
 pub record Binds {T : Type 0} (R : T → List Token → List Token → Type 0) (Low : Bound → T → Type 0) (Q : T → Phrases) (room inner : ℕ) (G F : Follow) : Type 0 where
   pub on : (t : T) (low : Bool) (ts k : List Token) → Q t (bound_of low room) ts k → G k → F ts
   pub is_low : (t : T) (low : Bool) (ts k : List Token) → Q t (bound_of low room) ts k → Low (bound_of low inner) t
@@ -161,10 +161,10 @@ bind_completes low b c =
     let q = b.fills d.tree low d.is_low in
     record { more = d.more ++ q.more; spelled = λ k. record { tree = d.tree; middle = q.more ++ k; first = rw append_assoc (d.spelled (q.more ++ k)); second = q.spelled k } }
 
-plain_starts : {T : Type 0} {R : T → List Token → List Token → Type 0} {Low : Bound → T → Type 0} {seen left : List Token} (g : Starts (Behind seen (Phrase R Low)) left) → Completes (Phrase R Low) NoBound (seen ++ g.token ∷ [])
+plain_starts : {T : Type 0} {R : T → List Token → List Token → Type 0} {Low : Bound → T → Type 0} {seen left : List Token} (g : Starts (HasRead seen (Phrase R Low)) left) → Completes (Phrase R Low) NoBound (seen ++ g.token ∷ [])
 plain_starts g = record { more = g.on.more; spelled = λ k. rw append_assoc (g.on.spelled k).whole }
 
-bind_starts : {T : Type 0} {R : T → List Token → List Token → Type 0} {Low : Bound → T → Type 0} {Q : T → Phrases} {room inner : ℕ} {G F : Follow} {seen left : List Token} → Binds R Low Q room inner G F → Starts (Behind seen (Phrase R Low)) left → Starts (Behind seen (Bind R Q)) left
+bind_starts : {T : Type 0} {R : T → List Token → List Token → Type 0} {Low : Bound → T → Type 0} {Q : T → Phrases} {room inner : ℕ} {G F : Follow} {seen left : List Token} → Binds R Low Q room inner G F → Starts (HasRead seen (Phrase R Low)) left → Starts (HasRead seen (Bind R Q)) left
 bind_starts b g =
     let c = bind_completes false b (plain_starts g) in
     record { token = g.token; rest = g.rest; split = g.split; on = record { more = c.more; spelled = λ k. record { whole = rw append_assoc at (c.spelled k) } } }

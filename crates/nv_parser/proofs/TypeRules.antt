@@ -10,7 +10,7 @@ use Rattle.nv_ast.specs.Height.{type_height, highest_type, highest_named_type}
 use Rattle.nv_ast.specs.Grammar.{IsType, word_type, words_type, bool_type, packed_type, unpacked_type, unit_type, tuple_type, record_type, IsMoreTypes, no_type, next_type, IsMoreNamedTypes, no_named_type, next_named_type, IsTypes, empty_types, some_types, IsParams, empty_params, some_params}
 use Rattle.nv_parser.specs.declared.cursor.Failure.{Failure}
 use Rattle.nv_parser.specs.inner.Cursor.{Front, NotSign, NotKey, NotName, IsSyntax}
-use Rattle.nv_parser.specs.inner.Failing.{Bound, NoBound, AtMost, Within, HasRoom, Same, Inside, part_of, bound_of, Phrases, Anything, Ahead, Phrase, One, ASign, AKey, AName, ANumber, Then, Many, none, next, Behind, SameFront, Completes, Starts, StartsNone, Reads, FailsAs}
+use Rattle.nv_parser.specs.inner.Failing.{Bound, NoBound, AtMost, Within, HasRoom, Same, Inside, part_of, bound_of, Phrases, Anything, Ahead, Phrase, One, ASign, AKey, AName, ANumber, Then, Many, none, next, HasRead, SameFront, Completes, Starts, StartsNone, Reads, FailsAs}
 use Rattle.nv_parser.specs.inner.Phrases.{LowTypes, LowNamedTypes, AType, SomeTypes, SomeParams, NextType, NamedType, NextNamedType, NameInBrackets}
 use Rattle.nv_parser.proofs.Bounds.{within_one, within_node, node_within, within_max, max_left, max_right, within_zero, room_here}
 use Rattle.nv_parser.proofs.Follow.{Above, above_weaken, close_starts_no_type, type_first, first_rank}
@@ -30,7 +30,7 @@ word_is : {a : TypeTree} {s : Span} {us k : List Token} → IsType a (key_word s
 word_is word_type f = refl
 word_is words_type f = absurd (f refl)
 
-pub word_ends : (s : Span) (room : ℕ) → 1 ≤ room → (ts : List Token) → NotSign 28 ts → Reads (Behind (key_word s ∷ []) AType) (Above 0) room ts ts
+pub word_ends : (s : Span) (room : ℕ) → 1 ≤ room → (ts : List Token) → NotSign 28 ts → Reads (HasRead (key_word s ∷ []) AType) (Above 0) room ts ts
 word_ends s room h ts n = record {
   seen = [];
   split = refl;
@@ -181,7 +181,7 @@ tuple_made b h r =
 pub tuple_rule : (s : Span) (ts : List Token) → NotSign 25 ts → Rule Inside (sign_open s ∷ []) TupleRow Anything AType (Above 0) ts
 tuple_rule s ts n = record { make = λ b h us k r. tuple_made b h r; parts = λ b us k h d f. (tuple_is d.spelled (front_same _ ts us h n) b d.low, tt) }
 
--- what stands behind the first part begins with a comma
+-- what stands after the first part begins with a comma
 pub tuple_carries : Carries TupleEnd Anything (Above 0)
 tuple_carries = then_carries (then_carries (then_carries (one_carries {G = Anything} 0 (λ x. omega arith)) (carries_anything {G = Anything})) (carries_anything {G = Anything})) carries_anything
 
@@ -203,7 +203,7 @@ next_fills room h = then_fills (one_fills room tt) (type_fills room h)
 pub end_fills : (room : ℕ) → 1 ≤ room → Fills TupleEnd room
 end_fills room h = then_fills (then_fills (next_fills room h) (many_fills room)) (one_fills room tt)
 
--- no comma behind the first part
+-- no comma after the first part
 pub comma_fails : (room : ℕ) → 1 ≤ room → (ts : List Token) (e : Failure) → IsSyntax ts e × NotSign 22 ts → FailsAs TupleEnd Anything room ts e
 comma_fails room h ts e f = first_fails (one_carries 10 (λ x. omega arith)) (one_fills room tt) (first_fails {F = Above 0} {G = Above 10} (many_carries types_listed) (many_fills room) (first_fails {F = Anything} carries_anything (type_fills room h) (sign_fails 22 room ts e f)))
 
@@ -216,7 +216,7 @@ close_fails n d e = then_fails (one_carries 10 (λ x. omega arith)) (some_reads 
 pub close_reads : {room : ℕ} {ts us rest : List Token} → (us ≡ ts → ⊥) → Reads (Many NextType) (Above 10) room ts us → Reads (ASign 25) Anything room us rest → Reads TupleEnd Anything room ts rest
 close_reads n d e = then_reads (one_carries 10 (λ x. omega arith)) (some_reads n d) e
 
-pub open_completes : (s : Span) (room : ℕ) → 1 ≤ room → Completes (Behind (sign_open s ∷ []) AType) (AtMost room) []
+pub open_completes : (s : Span) (room : ℕ) → 1 ≤ room → Completes (HasRead (sign_open s ∷ []) AType) (AtMost room) []
 open_completes s room h = record { more = sign_close no_span ∷ []; spelled = λ k. record { whole = record { tree = TupleType no_types; spelled = unit_type; low = h } } }
 
 -- ---- (',' NAME ':' type)*

@@ -16,9 +16,9 @@ pub enum Failure<'a> {
     Deep(&'a [Token]),
 }
 
-/// What was read, how high it is, and the tokens behind it.
+/// What was read, how high it is, and the tokens after it.
 #[derive(Drop)]
-pub struct Found<'a, T> {
+pub struct Parsed<'a, T> {
     pub value: T,
     pub height: u8,
     pub rest: &'a [Token],

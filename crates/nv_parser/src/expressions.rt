@@ -6,14 +6,14 @@ ghost use Rattle.nv_ast.specs.Tokens.{at, mem_key, key_if, key_raise, key_try};
 ghost use Rattle.nv_ast.specs.Height.{height, highest, highest_statement, statement_height, pattern_inside, pattern_inside_all, pattern_inside_statement, pattern_inside_statements};
 ghost use Rattle.nv_ast.specs.ExprView.{tree_of, statement_tree, list_trees, list_statements};
 ghost use Rattle.nv_ast.specs.Grammar.{IsExpr, IsStatement, IsTail, IsArgs};
-ghost use Rattle.nv_parser.specs.inner.Lists.{ExprsBehind, StatementsBehind};
+ghost use Rattle.nv_parser.specs.inner.Lists.{ExprsAfter, StatementsAfter};
 ghost use Rattle.nv_parser.specs.inner.Follow.{Above, sign_rank};
 ghost use Rattle.nv_parser.specs.inner.Failing.{Anything, Ahead, Many, Reads, FailsAs, Fails};
 ghost use Rattle.nv_parser.specs.inner.ExprPhrases.{AnExpr, ATail, AStatement, ABody, SomeArgs, NextExpr, Enclosed, Onward, EnclosedBy, StartsStatement, NoStatement};
 
 use crate::codes::{key, sign};
 use crate::cursor::{
-    Failure, Found, joined, key_here, name_here, number_here, push, read, sign_here, take_key,
+    Failure, Parsed, joined, key_here, name_here, number_here, push, read, sign_here, take_key,
     take_name, take_number, take_sign,
 };
 use crate::nodes;
@@ -33,7 +33,7 @@ pub fn expr<'a>(
     alloc: Global,
     tokens: &'a [Token],
     room: u8,
-) -> Result<Found<'a, Expr>, Failure<'a>>
+) -> Result<Parsed<'a, Expr>, Failure<'a>>
     requires { 1 ≤ room }
     ensures read { IfOk result (λ f. IsExpr (tree_of f.value) tokens.now f.rest.now) }
     ensures measured { IfOk result (λ f. f.height ≡ height (tree_of f.value)) }
@@ -70,7 +70,7 @@ fn too_high<'a>(tokens: &'a [Token], room: u8) -> &'a [Token]
 
 /// A statement at least, and a tail.
 #[cycle(expressions)]
-fn block<'a>(alloc: Global, tokens: &'a [Token], room: u8) -> Result<Found<'a, Expr>, Failure<'a>>
+fn block<'a>(alloc: Global, tokens: &'a [Token], room: u8) -> Result<Parsed<'a, Expr>, Failure<'a>>
     requires room { 3 ≤ room }
     requires starts { StartsStatement tokens.now }
     ensures read { IfOk result (λ f. IsExpr (tree_of f.value) tokens.now f.rest.now) }
@@ -88,7 +88,7 @@ fn block<'a>(alloc: Global, tokens: &'a [Token], room: u8) -> Result<Found<'a, E
     let Ok(block) = nodes::block(alloc, span, statements.value, tail.value) else {
         return Err(Failure::NoMemory);
     };
-    Ok(Found {
+    Ok(Parsed {
         value: block,
         height: tall,
         rest: tail.rest,
@@ -103,12 +103,12 @@ fn more_statements<'a>(
     tall: u8,
     tokens: &'a [Token],
     room: u8,
-) -> Result<Found<'a, Vec<Stmt>>, Failure<'a>>
+) -> Result<Parsed<'a, Vec<Stmt>>, Failure<'a>>
     requires room { 2 ≤ room }
     requires measured { tall ≡ statement_height (statement_tree first) }
     requires low { tall ≤ room }
     requires inside { pattern_inside_statement (statement_tree first) ≤ 100 }
-    ensures read { IfOk result (λ f. StatementsBehind (statement_tree first) (list_statements f.value.items) tokens.now f.rest.now) }
+    ensures read { IfOk result (λ f. StatementsAfter (statement_tree first) (list_statements f.value.items) tokens.now f.rest.now) }
     ensures measured { IfOk result (λ f. f.height ≡ highest_statement (list_statements f.value.items)) }
     ensures low { IfOk result (λ f. f.height ≤ room) }
     ensures inside { IfOk result (λ f. pattern_inside_statements (list_statements f.value.items) ≤ 100) }
@@ -126,7 +126,7 @@ fn more_statements<'a>(
         rest = next.rest;
         push!(statements, next.value);
     }
-    Ok(Found {
+    Ok(Parsed {
         value: statements,
         height: highest,
         rest,
@@ -139,7 +139,7 @@ fn statement<'a>(
     alloc: Global,
     tokens: &'a [Token],
     room: u8,
-) -> Result<Found<'a, Stmt>, Failure<'a>>
+) -> Result<Parsed<'a, Stmt>, Failure<'a>>
     requires { 2 ≤ room }
     ensures read { IfOk result (λ f. IsStatement (statement_tree f.value) tokens.now f.rest.now) }
     ensures measured { IfOk result (λ f. f.height ≡ statement_height (statement_tree f.value)) }
@@ -162,7 +162,7 @@ fn statement<'a>(
         pattern.value,
         value.value
     );
-    Ok(Found {
+    Ok(Parsed {
         value: Stmt::Let(pattern.value, value.value, joined(first, last)),
         height: value.height + 1,
         rest,
@@ -177,7 +177,7 @@ fn store<'a>(
     first: Span,
     tokens: &'a [Token],
     room: u8,
-) -> Result<Found<'a, Stmt>, Failure<'a>>
+) -> Result<Parsed<'a, Stmt>, Failure<'a>>
     requires { 2 ≤ room }
     ensures read { IfOk result (λ f. IsStatement (statement_tree f.value) (at first (Key (mem_key mem)) ∷ tokens.now) f.rest.now) }
     ensures measured { IfOk result (λ f. f.height ≡ statement_height (statement_tree f.value)) }
@@ -195,7 +195,7 @@ fn store<'a>(
         value.value
     );
     let tall = address.height.max(value.height) + 1;
-    Ok(Found {
+    Ok(Parsed {
         value: Stmt::Store(mem, address.value, value.value, joined(first, last)),
         height: tall,
         rest,
@@ -210,7 +210,7 @@ pub fn enclosed<'a>(
     opening: u8,
     closing: u8,
     room: u8,
-) -> Result<(Span, Found<'a, Expr>), Failure<'a>>
+) -> Result<(Span, Parsed<'a, Expr>), Failure<'a>>
     requires room { 1 ≤ room }
     requires closes { 9 < sign_rank closing }
     ensures read { IfOk result (λ r. EnclosedBy opening closing r.0 (tree_of r.1.value) tokens.now r.1.rest.now) }
@@ -223,7 +223,7 @@ pub fn enclosed<'a>(
     let (_, after) = read!(take_sign(tokens, opening));
     let inside = read!(expr(alloc, after, room));
     let (last, rest) = read!(take_sign(inside.rest, closing), inside.value);
-    let found = Found {
+    let found = Parsed {
         value: inside.value,
         height: inside.height,
         rest,
@@ -233,7 +233,7 @@ pub fn enclosed<'a>(
 
 /// A choice, a raise, a handled expression or operators.
 #[cycle(expressions)]
-fn tail<'a>(alloc: Global, tokens: &'a [Token], room: u8) -> Result<Found<'a, Expr>, Failure<'a>>
+fn tail<'a>(alloc: Global, tokens: &'a [Token], room: u8) -> Result<Parsed<'a, Expr>, Failure<'a>>
     requires { 1 ≤ room }
     ensures read { IfOk result (λ f. IsTail (tree_of f.value) tokens.now f.rest.now) }
     ensures measured { IfOk result (λ f. f.height ≡ height (tree_of f.value)) }
@@ -268,7 +268,7 @@ fn if_else<'a>(
     first: Span,
     tokens: &'a [Token],
     room: u8,
-) -> Result<Found<'a, Expr>, Failure<'a>>
+) -> Result<Parsed<'a, Expr>, Failure<'a>>
     requires { 2 ≤ room }
     ensures read { IfOk result (λ f. IsTail (tree_of f.value) (key_if first ∷ tokens.now) f.rest.now) }
     ensures measured { IfOk result (λ f. f.height ≡ height (tree_of f.value)) }
@@ -285,7 +285,7 @@ fn if_else<'a>(
     let Ok(whole) = nodes::if_else(alloc, first, condition.value, yes.value, no_.value) else {
         return Err(Failure::NoMemory);
     };
-    Ok(Found {
+    Ok(Parsed {
         value: whole,
         height: tall,
         rest: no_.rest,
@@ -299,7 +299,7 @@ fn raise<'a>(
     first: Span,
     tokens: &'a [Token],
     room: u8,
-) -> Result<Found<'a, Expr>, Failure<'a>>
+) -> Result<Parsed<'a, Expr>, Failure<'a>>
     requires { 1 ≤ room }
     ensures read { IfOk result (λ f. IsTail (tree_of f.value) (key_raise first ∷ tokens.now) f.rest.now) }
     ensures measured { IfOk result (λ f. f.height ≡ height (tree_of f.value)) }
@@ -312,7 +312,7 @@ fn raise<'a>(
     let (_, after) = read!(take_sign(after, sign::OPEN_BRACKET));
     let arguments = read!(args(alloc, after, room - 1));
     let (last, rest) = read!(take_sign(arguments.rest, sign::CLOSE_BRACKET));
-    Ok(Found {
+    Ok(Parsed {
         value: nodes::raise(joined(first, last), name, arguments.value),
         height: arguments.height + 1,
         rest,
@@ -326,7 +326,7 @@ fn try_handle<'a>(
     first: Span,
     tokens: &'a [Token],
     room: u8,
-) -> Result<Found<'a, Expr>, Failure<'a>>
+) -> Result<Parsed<'a, Expr>, Failure<'a>>
     requires { 2 ≤ room }
     ensures read { IfOk result (λ f. IsTail (tree_of f.value) (key_try first ∷ tokens.now) f.rest.now) }
     ensures measured { IfOk result (λ f. f.height ≡ height (tree_of f.value)) }
@@ -351,7 +351,7 @@ fn try_handle<'a>(
     else {
         return Err(Failure::NoMemory);
     };
-    Ok(Found {
+    Ok(Parsed {
         value: whole,
         height: tall,
         rest: handler.rest,
@@ -364,7 +364,7 @@ pub fn args<'a>(
     alloc: Global,
     tokens: &'a [Token],
     room: u8,
-) -> Result<Found<'a, Vec<Expr>>, Failure<'a>>
+) -> Result<Parsed<'a, Vec<Expr>>, Failure<'a>>
     ensures read { IfOk result (λ f. IsArgs (list_trees f.value.items) tokens.now f.rest.now) }
     ensures measured { IfOk result (λ f. f.height ≡ highest (list_trees f.value.items)) }
     ensures low { IfOk result (λ f. f.height ≤ room) }
@@ -373,7 +373,7 @@ pub fn args<'a>(
     ensures answers { MatchResult result (λ f. Reads SomeArgs (Ahead 29) room tokens.now f.rest.now) (λ e. FailsAs SomeArgs (Ahead 29) room tokens.now e) }
 {
     if let Some(_) = sign_here(tokens, sign::CLOSE_BRACKET) {
-        return Ok(Found {
+        return Ok(Parsed {
             value: Vec::new(alloc),
             height: 0,
             rest: tokens,
@@ -390,7 +390,7 @@ pub fn args<'a>(
     Ok(all)
 }
 
-/// The expressions that follow a first one, each behind a comma.
+/// The expressions that follow a first one, each after a comma.
 #[cycle(expressions)]
 pub fn more_exprs<'a>(
     alloc: Global,
@@ -398,12 +398,12 @@ pub fn more_exprs<'a>(
     tall: u8,
     tokens: &'a [Token],
     room: u8,
-) -> Result<Found<'a, Vec<Expr>>, Failure<'a>>
+) -> Result<Parsed<'a, Vec<Expr>>, Failure<'a>>
     requires room { 1 ≤ room }
     requires measured { tall ≡ height (tree_of first) }
     requires low { tall ≤ room }
     requires inside { pattern_inside (tree_of first) ≤ 100 }
-    ensures read { IfOk result (λ f. ExprsBehind (tree_of first) (list_trees f.value.items) tokens.now f.rest.now) }
+    ensures read { IfOk result (λ f. ExprsAfter (tree_of first) (list_trees f.value.items) tokens.now f.rest.now) }
     ensures measured { IfOk result (λ f. f.height ≡ highest (list_trees f.value.items)) }
     ensures low { IfOk result (λ f. f.height ≤ room) }
     ensures inside { IfOk result (λ f. pattern_inside_all (list_trees f.value.items) ≤ 100) }
@@ -420,7 +420,7 @@ pub fn more_exprs<'a>(
         rest = next.rest;
         push!(exprs, next.value);
     }
-    Ok(Found {
+    Ok(Parsed {
         value: exprs,
         height: highest,
         rest,

@@ -8,13 +8,13 @@ ghost use Rattle.nv_ast.specs.LayoutView.{layout_tree, field_tree, list_layouts,
 ghost use Rattle.nv_ast.specs.Grammar.{IsLayout, IsLayoutAtom, IsField, IsAlternative};
 ghost use Rattle.nv_parser.specs.inner.Cursor.{NotSign, NotKey, NotNumber};
 ghost use Rattle.nv_parser.specs.inner.Follow.{Above};
-ghost use Rattle.nv_parser.specs.inner.Failing.{Anything, Many, Behind, Reads, FailsAs};
+ghost use Rattle.nv_parser.specs.inner.Failing.{Anything, Many, HasRead, Reads, FailsAs};
 ghost use Rattle.nv_parser.specs.inner.Phrases.{ALayout, ALayoutAtom, AField, AnAlternative, NextLayout, NextField, NextAlternative};
-ghost use Rattle.nv_parser.specs.inner.Lists.{LayoutsBehind, FieldsBehind, AlternativesBehind};
+ghost use Rattle.nv_parser.specs.inner.Lists.{LayoutsAfter, FieldsAfter, AlternativesAfter};
 
 use crate::codes::{key, sign};
 use crate::cursor::{
-    Failure, Found, key_here, name_here, number_here, push, read, sign_here, take_name, take_sign,
+    Failure, Parsed, key_here, name_here, number_here, push, read, sign_here, take_name, take_sign,
 };
 use nv_ast::{FieldText, LayoutText, Name, Token};
 use std::alloc::Global;
@@ -25,7 +25,7 @@ pub fn layout<'a>(
     alloc: Global,
     tokens: &'a [Token],
     room: u8,
-) -> Result<Found<'a, LayoutText>, Failure<'a>>
+) -> Result<Parsed<'a, LayoutText>, Failure<'a>>
     requires { 1 ≤ room }
     ensures read { IfOk result (λ f. IsLayout (layout_tree f.value) tokens.now f.rest.now) }
     ensures answers { MatchResult result (λ f. Reads ALayout (Above 0) room tokens.now f.rest.now) (λ e. FailsAs ALayout (Above 0) room tokens.now e) }
@@ -42,7 +42,7 @@ pub fn layout<'a>(
         return Err(Failure::Deep(first.rest));
     }
     let joined = read!(more_layouts(alloc, first.value, first.height, first.rest, room - 1));
-    Ok(Found {
+    Ok(Parsed {
         value: joined_layout(joined.value),
         height: joined.height + 1,
         rest: joined.rest,
@@ -57,11 +57,11 @@ fn more_layouts<'a>(
     height: u8,
     tokens: &'a [Token],
     room: u8,
-) -> Result<Found<'a, Vec<LayoutText>>, Failure<'a>>
+) -> Result<Parsed<'a, Vec<LayoutText>>, Failure<'a>>
     requires room { 1 ≤ room }
     requires measured { height ≡ layout_height (layout_tree first) }
     requires low { height ≤ room }
-    ensures read { IfOk result (λ f. LayoutsBehind (layout_tree first) (list_layouts f.value.items) tokens.now f.rest.now) }
+    ensures read { IfOk result (λ f. LayoutsAfter (layout_tree first) (list_layouts f.value.items) tokens.now f.rest.now) }
     ensures answers { MatchResult result (λ f. Reads (Many NextLayout) (Above 0) room tokens.now f.rest.now) (λ e. FailsAs (Many NextLayout) (Above 0) room tokens.now e) }
     ensures measured { IfOk result (λ f. f.height ≡ highest_layout (list_layouts f.value.items)) }
     ensures low { IfOk result (λ f. f.height ≤ room) }
@@ -78,7 +78,7 @@ fn more_layouts<'a>(
         rest = next.rest;
         push!(layouts, next.value);
     }
-    Ok(Found {
+    Ok(Parsed {
         value: layouts,
         height: highest,
         rest,
@@ -91,7 +91,7 @@ fn layout_atom<'a>(
     alloc: Global,
     tokens: &'a [Token],
     room: u8,
-) -> Result<Found<'a, LayoutText>, Failure<'a>>
+) -> Result<Parsed<'a, LayoutText>, Failure<'a>>
     requires { 1 ≤ room }
     ensures read { IfOk result (λ f. IsLayoutAtom (layout_tree f.value) tokens.now f.rest.now) }
     ensures answers { MatchResult result (λ f. Reads ALayoutAtom Anything room tokens.now f.rest.now) (λ e. FailsAs ALayoutAtom Anything room tokens.now e) }
@@ -101,7 +101,7 @@ fn layout_atom<'a>(
 {
     let Some((_, after)) = sign_here(tokens, sign::OPEN_BRACE) else {
         let (_, name, rest) = read!(take_name(alloc, tokens));
-        return Ok(Found {
+        return Ok(Parsed {
             value: LayoutText::Named(name),
             height: 1,
             rest,
@@ -109,7 +109,7 @@ fn layout_atom<'a>(
     };
     if let Some((_, bits, rest)) = number_here(after) {
         let (_, rest) = read!(take_sign(rest, sign::CLOSE_BRACE));
-        return Ok(Found {
+        return Ok(Parsed {
             value: LayoutText::Gap(bits),
             height: 1,
             rest,
@@ -124,17 +124,17 @@ fn layout_atom<'a>(
     parts(alloc, after, room)
 }
 
-/// Fields behind an opening brace.
+/// Fields after an opening brace.
 #[cycle(layouts)]
 fn parts<'a>(
     alloc: Global,
     tokens: &'a [Token],
     room: u8,
-) -> Result<Found<'a, LayoutText>, Failure<'a>>
+) -> Result<Parsed<'a, LayoutText>, Failure<'a>>
     requires room { 2 ≤ room }
     requires fields { NotNumber tokens.now }
     ensures read { IfOk result (λ f. (s : Span) → IsLayoutAtom (layout_tree f.value) (sign_open_brace s ∷ tokens.now) f.rest.now) }
-    ensures answers { MatchResult result (λ f. (s : Span) → Reads (Behind (sign_open_brace s ∷ []) ALayoutAtom) Anything room tokens.now f.rest.now) (λ e. (s : Span) → FailsAs (Behind (sign_open_brace s ∷ []) ALayoutAtom) Anything room tokens.now e) }
+    ensures answers { MatchResult result (λ f. (s : Span) → Reads (HasRead (sign_open_brace s ∷ []) ALayoutAtom) Anything room tokens.now f.rest.now) (λ e. (s : Span) → FailsAs (HasRead (sign_open_brace s ∷ []) ALayoutAtom) Anything room tokens.now e) }
     ensures measured { IfOk result (λ f. f.height ≡ layout_height (layout_tree f.value)) }
     ensures low { IfOk result (λ f. f.height ≤ room) }
     ensures shorter { IfOk result (λ f. length f.rest.now < length tokens.now) }
@@ -144,14 +144,14 @@ fn parts<'a>(
     let first = read!(field(alloc, after, room - 1));
     let fields = read!(more_fields(alloc, name, first.value, first.height, first.rest, room - 1));
     let (_, rest) = read!(take_sign(fields.rest, sign::CLOSE_BRACE));
-    Ok(Found {
+    Ok(Parsed {
         value: parts_layout(fields.value),
         height: fields.height + 1,
         rest,
     })
 }
 
-/// The fields that follow a first one, each behind a comma.
+/// The fields that follow a first one, each after a comma.
 #[cycle(layouts)]
 fn more_fields<'a>(
     alloc: Global,
@@ -160,11 +160,11 @@ fn more_fields<'a>(
     height: u8,
     tokens: &'a [Token],
     room: u8,
-) -> Result<Found<'a, Vec<(Name, FieldText)>>, Failure<'a>>
+) -> Result<Parsed<'a, Vec<(Name, FieldText)>>, Failure<'a>>
     requires room { 1 ≤ room }
     requires measured { height ≡ field_height (field_tree first) }
     requires low { height ≤ room }
-    ensures read { IfOk result (λ f. FieldsBehind name (field_tree first) (list_fields f.value.items) tokens.now f.rest.now) }
+    ensures read { IfOk result (λ f. FieldsAfter name (field_tree first) (list_fields f.value.items) tokens.now f.rest.now) }
     ensures answers { MatchResult result (λ f. Reads (Many NextField) (Above 10) room tokens.now f.rest.now) (λ e. FailsAs (Many NextField) (Above 10) room tokens.now e) }
     ensures measured { IfOk result (λ f. f.height ≡ highest_field (list_fields f.value.items)) }
     ensures low { IfOk result (λ f. f.height ≤ room) }
@@ -182,7 +182,7 @@ fn more_fields<'a>(
         rest = next.rest;
         push!(fields, (name, next.value));
     }
-    Ok(Found {
+    Ok(Parsed {
         value: fields,
         height: highest,
         rest,
@@ -195,7 +195,7 @@ fn field<'a>(
     alloc: Global,
     tokens: &'a [Token],
     room: u8,
-) -> Result<Found<'a, FieldText>, Failure<'a>>
+) -> Result<Parsed<'a, FieldText>, Failure<'a>>
     requires { 1 ≤ room }
     ensures read { IfOk result (λ f. IsField (field_tree f.value) tokens.now f.rest.now) }
     ensures answers { MatchResult result (λ f. Reads AField (Above 0) room tokens.now f.rest.now) (λ e. FailsAs AField (Above 0) room tokens.now e) }
@@ -218,7 +218,7 @@ fn alternative_field<'a>(
     alloc: Global,
     tokens: &'a [Token],
     room: u8,
-) -> Result<Found<'a, FieldText>, Failure<'a>>
+) -> Result<Parsed<'a, FieldText>, Failure<'a>>
     requires room { 1 ≤ room }
     requires plain { NotKey 19 tokens.now }
     ensures read { IfOk result (λ f. IsField (field_tree f.value) tokens.now f.rest.now) }
@@ -231,16 +231,16 @@ fn alternative_field<'a>(
     Ok(found)
 }
 
-/// The alternatives behind an `overlay`.
+/// The alternatives after an `overlay`.
 #[cycle(layouts)]
 fn overlay<'a>(
     alloc: Global,
     tokens: &'a [Token],
     room: u8,
-) -> Result<Found<'a, FieldText>, Failure<'a>>
+) -> Result<Parsed<'a, FieldText>, Failure<'a>>
     requires { 2 ≤ room }
     ensures read { IfOk result (λ f. (s : Span) → IsField (field_tree f.value) (key_overlay s ∷ tokens.now) f.rest.now) }
-    ensures answers { MatchResult result (λ f. (s : Span) → Reads (Behind (key_overlay s ∷ []) AField) (Above 0) room tokens.now f.rest.now) (λ e. (s : Span) → FailsAs (Behind (key_overlay s ∷ []) AField) (Above 0) room tokens.now e) }
+    ensures answers { MatchResult result (λ f. (s : Span) → Reads (HasRead (key_overlay s ∷ []) AField) (Above 0) room tokens.now f.rest.now) (λ e. (s : Span) → FailsAs (HasRead (key_overlay s ∷ []) AField) (Above 0) room tokens.now e) }
     ensures measured { IfOk result (λ f. f.height ≡ field_height (field_tree f.value)) }
     ensures low { IfOk result (λ f. f.height ≤ room) }
     ensures shorter { IfOk result (λ f. length f.rest.now < length tokens.now) }
@@ -262,14 +262,14 @@ fn overlay<'a>(
         room - 1
     ));
     let (_, rest) = read!(take_sign(alternatives.rest, sign::CLOSE_BRACE));
-    Ok(Found {
+    Ok(Parsed {
         value: overlay_field(alternatives.value),
         height: alternatives.height + 1,
         rest,
     })
 }
 
-/// The alternatives that follow a first one, each behind a bar.
+/// The alternatives that follow a first one, each after a bar.
 #[cycle(layouts)]
 fn more_alternatives<'a>(
     alloc: Global,
@@ -278,11 +278,11 @@ fn more_alternatives<'a>(
     height: u8,
     tokens: &'a [Token],
     room: u8,
-) -> Result<Found<'a, Vec<(Name, FieldText)>>, Failure<'a>>
+) -> Result<Parsed<'a, Vec<(Name, FieldText)>>, Failure<'a>>
     requires room { 1 ≤ room }
     requires measured { height ≡ field_height (field_tree first) }
     requires low { height ≤ room }
-    ensures read { IfOk result (λ f. AlternativesBehind name (field_tree first) (list_fields f.value.items) tokens.now f.rest.now) }
+    ensures read { IfOk result (λ f. AlternativesAfter name (field_tree first) (list_fields f.value.items) tokens.now f.rest.now) }
     ensures ends { IfOk result (λ f. NotSign 3 f.rest.now) }
     ensures answers { MatchResult result (λ f. Reads (Many NextAlternative) (Above 10) room tokens.now f.rest.now) (λ e. FailsAs (Many NextAlternative) (Above 10) room tokens.now e) }
     ensures measured { IfOk result (λ f. f.height ≡ highest_field (list_fields f.value.items)) }
@@ -301,7 +301,7 @@ fn more_alternatives<'a>(
         rest = next.rest;
         push!(alternatives, (name, next.value));
     }
-    Ok(Found {
+    Ok(Parsed {
         value: alternatives,
         height: highest,
         rest,
@@ -314,7 +314,7 @@ fn alternative<'a>(
     alloc: Global,
     tokens: &'a [Token],
     room: u8,
-) -> Result<Found<'a, FieldText>, Failure<'a>>
+) -> Result<Parsed<'a, FieldText>, Failure<'a>>
     requires { 1 ≤ room }
     ensures read { IfOk result (λ f. IsAlternative (field_tree f.value) tokens.now f.rest.now) }
     ensures answers { MatchResult result (λ f. Reads AnAlternative (Above 0) room tokens.now f.rest.now) (λ e. FailsAs AnAlternative (Above 0) room tokens.now e) }
@@ -323,14 +323,14 @@ fn alternative<'a>(
     ensures shorter { IfOk result (λ f. length f.rest.now < length tokens.now) }
 {
     if let Some((_, bits, rest)) = number_here(tokens) {
-        return Ok(Found {
+        return Ok(Parsed {
             value: FieldText::Bits(bits),
             height: 1,
             rest,
         });
     }
     let inner = read!(layout(alloc, tokens, room));
-    Ok(Found {
+    Ok(Parsed {
         value: FieldText::Inner(inner.value),
         height: inner.height,
         rest: inner.rest,

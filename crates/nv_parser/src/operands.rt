@@ -6,14 +6,14 @@ ghost use Rattle.nv_ast.specs.Tokens.{at, mem_key, key_unpack, key_pack, sign_op
 ghost use Rattle.nv_ast.specs.Height.{height, highest, highest_named, pattern_inside, pattern_inside_named};
 ghost use Rattle.nv_ast.specs.ExprView.{tree_of, list_named_trees};
 ghost use Rattle.nv_ast.specs.Grammar.{IsLevel, IsRest, IsUna, IsDots, IsAtom};
-ghost use Rattle.nv_parser.specs.inner.Lists.{MembersBehind};
+ghost use Rattle.nv_parser.specs.inner.Lists.{MembersAfter};
 ghost use Rattle.nv_parser.specs.inner.Follow.{Above};
 ghost use Rattle.nv_parser.specs.inner.Failing.{Anything, Many, Reads, FailsAs};
 ghost use Rattle.nv_parser.specs.inner.ExprPhrases.{ALevel, ARest, AnUna, SomeDots, AnAtom, NextMember, LayoutInBrackets, NameInSquare, NoPlainAtom, BeginsName};
 
 use crate::codes::{key, sign};
 use crate::cursor::{
-    Failure, Found, joined, key_here, name_here, number_here, push, read, sign_here, take_key,
+    Failure, Parsed, joined, key_here, name_here, number_here, push, read, sign_here, take_key,
     take_name, take_number, take_sign,
 };
 use crate::expressions::{args, enclosed, expr, more_exprs};
@@ -31,7 +31,7 @@ pub fn level<'a>(
     l: u8,
     tokens: &'a [Token],
     room: u8,
-) -> Result<Found<'a, Expr>, Failure<'a>>
+) -> Result<Parsed<'a, Expr>, Failure<'a>>
     requires known { l ≤ 8 }
     requires room { 1 ≤ room }
     ensures read { IfOk result (λ f. IsLevel l (tree_of f.value) tokens.now f.rest.now) }
@@ -67,7 +67,7 @@ fn chain<'a>(
     tall: u8,
     tokens: &'a [Token],
     room: u8,
-) -> Result<Found<'a, Expr>, Failure<'a>>
+) -> Result<Parsed<'a, Expr>, Failure<'a>>
     requires known { l ≤ 7 }
     requires many { l ≢ 5 }
     requires operators { l ≢ 1 }
@@ -97,7 +97,7 @@ fn chain<'a>(
         };
         left = both;
     }
-    Ok(Found {
+    Ok(Parsed {
         value: left,
         height: highest,
         rest,
@@ -112,7 +112,7 @@ fn comparison<'a>(
     tall: u8,
     tokens: &'a [Token],
     room: u8,
-) -> Result<Found<'a, Expr>, Failure<'a>>
+) -> Result<Parsed<'a, Expr>, Failure<'a>>
     requires measured { tall ≡ height (tree_of first) }
     requires low { tall ≤ room }
     requires inside { pattern_inside (tree_of first) ≤ 100 }
@@ -124,7 +124,7 @@ fn comparison<'a>(
     ensures answers { MatchResult result (λ f. Reads (ARest 5 (tree_of first)) (Above 7) room tokens.now f.rest.now) (λ e. FailsAs (ARest 5 (tree_of first)) (Above 7) room tokens.now e) }
 {
     let Some((op, after)) = operator_here(tokens, 5) else {
-        return Ok(Found {
+        return Ok(Parsed {
             value: first,
             height: tall,
             rest: tokens,
@@ -139,7 +139,7 @@ fn comparison<'a>(
     let Ok(both) = nodes::binary(alloc, op, first, right.value) else {
         return Err(Failure::NoMemory);
     };
-    Ok(Found {
+    Ok(Parsed {
         value: both,
         height: highest,
         rest: right.rest,
@@ -153,7 +153,7 @@ fn shifts<'a>(
     tall: u8,
     tokens: &'a [Token],
     room: u8,
-) -> Result<Found<'a, Expr>, Failure<'a>>
+) -> Result<Parsed<'a, Expr>, Failure<'a>>
     requires measured { tall ≡ height (tree_of first) }
     requires low { tall ≤ room }
     requires inside { pattern_inside (tree_of first) ≤ 100 }
@@ -180,7 +180,7 @@ fn shifts<'a>(
         };
         left = shifted;
     }
-    Ok(Found {
+    Ok(Parsed {
         value: left,
         height: highest,
         rest,
@@ -189,7 +189,7 @@ fn shifts<'a>(
 
 /// An inverted or negated operand, or one with dots.
 #[cycle(expressions)]
-fn una<'a>(alloc: Global, tokens: &'a [Token], room: u8) -> Result<Found<'a, Expr>, Failure<'a>>
+fn una<'a>(alloc: Global, tokens: &'a [Token], room: u8) -> Result<Parsed<'a, Expr>, Failure<'a>>
     requires { 1 ≤ room }
     ensures read { IfOk result (λ f. IsUna (tree_of f.value) tokens.now f.rest.now) }
     ensures measured { IfOk result (λ f. f.height ≡ height (tree_of f.value)) }
@@ -222,7 +222,7 @@ fn invert<'a>(
     first: Span,
     tokens: &'a [Token],
     room: u8,
-) -> Result<Found<'a, Expr>, Failure<'a>>
+) -> Result<Parsed<'a, Expr>, Failure<'a>>
     requires { 2 ≤ room }
     ensures read { IfOk result (λ f. IsUna (tree_of f.value) (sign_tilde first ∷ tokens.now) f.rest.now) }
     ensures measured { IfOk result (λ f. f.height ≡ height (tree_of f.value)) }
@@ -235,7 +235,7 @@ fn invert<'a>(
     let Ok(whole) = nodes::invert(alloc, first, inside.value) else {
         return Err(Failure::NoMemory);
     };
-    Ok(Found {
+    Ok(Parsed {
         value: whole,
         height: inside.height + 1,
         rest: inside.rest,
@@ -249,7 +249,7 @@ fn negate<'a>(
     first: Span,
     tokens: &'a [Token],
     room: u8,
-) -> Result<Found<'a, Expr>, Failure<'a>>
+) -> Result<Parsed<'a, Expr>, Failure<'a>>
     requires { 2 ≤ room }
     ensures read { IfOk result (λ f. IsUna (tree_of f.value) (sign_bang first ∷ tokens.now) f.rest.now) }
     ensures measured { IfOk result (λ f. f.height ≡ height (tree_of f.value)) }
@@ -262,21 +262,21 @@ fn negate<'a>(
     let Ok(whole) = nodes::negate(alloc, first, inside.value) else {
         return Err(Failure::NoMemory);
     };
-    Ok(Found {
+    Ok(Parsed {
         value: whole,
         height: inside.height + 1,
         rest: inside.rest,
     })
 }
 
-/// The names of fields after an operand, each behind a dot.
+/// The names of fields after an operand, each after a dot.
 fn dots<'a>(
     alloc: Global,
     first: Expr,
     tall: u8,
     tokens: &'a [Token],
     room: u8,
-) -> Result<Found<'a, Expr>, Failure<'a>>
+) -> Result<Parsed<'a, Expr>, Failure<'a>>
     requires measured { tall ≡ height (tree_of first) }
     requires low { tall ≤ room }
     requires inside { pattern_inside (tree_of first) ≤ 100 }
@@ -303,7 +303,7 @@ fn dots<'a>(
         };
         left = field;
     }
-    Ok(Found {
+    Ok(Parsed {
         value: left,
         height: highest,
         rest,
@@ -312,7 +312,7 @@ fn dots<'a>(
 
 /// An operand without operators.
 #[cycle(expressions)]
-fn atom<'a>(alloc: Global, tokens: &'a [Token], room: u8) -> Result<Found<'a, Expr>, Failure<'a>>
+fn atom<'a>(alloc: Global, tokens: &'a [Token], room: u8) -> Result<Parsed<'a, Expr>, Failure<'a>>
     requires { 1 ≤ room }
     ensures read { IfOk result (λ f. IsAtom (tree_of f.value) tokens.now f.rest.now) }
     ensures measured { IfOk result (λ f. f.height ≡ height (tree_of f.value)) }
@@ -322,21 +322,21 @@ fn atom<'a>(alloc: Global, tokens: &'a [Token], room: u8) -> Result<Found<'a, Ex
     ensures answers { MatchResult result (λ f. Reads AnAtom (Above 0) room tokens.now f.rest.now) (λ e. FailsAs AnAtom (Above 0) room tokens.now e) }
 {
     if let Some((span, value, rest)) = number_here(tokens) {
-        return Ok(Found {
+        return Ok(Parsed {
             value: nodes::number(span, value),
             height: 1,
             rest,
         });
     }
     if let Some((span, rest)) = key_here(tokens, key::TRUE) {
-        return Ok(Found {
+        return Ok(Parsed {
             value: nodes::truth(span, true),
             height: 1,
             rest,
         });
     }
     if let Some((span, rest)) = key_here(tokens, key::FALSE) {
-        return Ok(Found {
+        return Ok(Parsed {
             value: nodes::truth(span, false),
             height: 1,
             rest,
@@ -357,7 +357,7 @@ fn high_atom<'a>(
     alloc: Global,
     tokens: &'a [Token],
     room: u8,
-) -> Result<Found<'a, Expr>, Failure<'a>>
+) -> Result<Parsed<'a, Expr>, Failure<'a>>
     requires room { 1 ≤ room }
     requires others { NoPlainAtom tokens.now }
     ensures read { IfOk result (λ f. IsAtom (tree_of f.value) tokens.now f.rest.now) }
@@ -399,7 +399,7 @@ fn unpack<'a>(
     first: Span,
     tokens: &'a [Token],
     room: u8,
-) -> Result<Found<'a, Expr>, Failure<'a>>
+) -> Result<Parsed<'a, Expr>, Failure<'a>>
     requires { 2 ≤ room }
     ensures read { IfOk result (λ f. IsAtom (tree_of f.value) (key_unpack first ∷ tokens.now) f.rest.now) }
     ensures measured { IfOk result (λ f. f.height ≡ height (tree_of f.value)) }
@@ -413,7 +413,7 @@ fn unpack<'a>(
     let Ok(whole) = nodes::unpack(alloc, joined(first, last), name, inside.value) else {
         return Err(Failure::NoMemory);
     };
-    Ok(Found {
+    Ok(Parsed {
         value: whole,
         height: inside.height + 1,
         rest: inside.rest,
@@ -427,7 +427,7 @@ fn pack<'a>(
     first: Span,
     tokens: &'a [Token],
     room: u8,
-) -> Result<Found<'a, Expr>, Failure<'a>>
+) -> Result<Parsed<'a, Expr>, Failure<'a>>
     requires { 2 ≤ room }
     ensures read { IfOk result (λ f. IsAtom (tree_of f.value) (key_pack first ∷ tokens.now) f.rest.now) }
     ensures measured { IfOk result (λ f. f.height ≡ height (tree_of f.value)) }
@@ -441,7 +441,7 @@ fn pack<'a>(
     let Ok(whole) = nodes::pack(alloc, joined(first, last), name, inside.value) else {
         return Err(Failure::NoMemory);
     };
-    Ok(Found {
+    Ok(Parsed {
         value: whole,
         height: inside.height + 1,
         rest: inside.rest,
@@ -468,7 +468,7 @@ fn fetch<'a>(
     first: Span,
     tokens: &'a [Token],
     room: u8,
-) -> Result<Found<'a, Expr>, Failure<'a>>
+) -> Result<Parsed<'a, Expr>, Failure<'a>>
     requires { 2 ≤ room }
     ensures read { IfOk result (λ f. IsAtom (tree_of f.value) (at first (Key (mem_key mem)) ∷ tokens.now) f.rest.now) }
     ensures measured { IfOk result (λ f. f.height ≡ height (tree_of f.value)) }
@@ -484,7 +484,7 @@ fn fetch<'a>(
     let Ok(whole) = nodes::fetch(alloc, joined(first, last), mem, words, address.value) else {
         return Err(Failure::NoMemory);
     };
-    Ok(Found {
+    Ok(Parsed {
         value: whole,
         height: address.height + 1,
         rest: address.rest,
@@ -493,7 +493,7 @@ fn fetch<'a>(
 
 /// A variable or a call.
 #[cycle(expressions)]
-fn named<'a>(alloc: Global, tokens: &'a [Token], room: u8) -> Result<Found<'a, Expr>, Failure<'a>>
+fn named<'a>(alloc: Global, tokens: &'a [Token], room: u8) -> Result<Parsed<'a, Expr>, Failure<'a>>
     requires room { 1 ≤ room }
     requires name { BeginsName tokens.now }
     ensures read { IfOk result (λ f. IsAtom (tree_of f.value) tokens.now f.rest.now) }
@@ -505,7 +505,7 @@ fn named<'a>(alloc: Global, tokens: &'a [Token], room: u8) -> Result<Found<'a, E
 {
     let (first, name, after) = read!(take_name(alloc, tokens));
     let Some((_, inside)) = sign_here(after, sign::OPEN_BRACKET) else {
-        return Ok(Found {
+        return Ok(Parsed {
             value: nodes::variable(first, name),
             height: 1,
             rest: after,
@@ -513,7 +513,7 @@ fn named<'a>(alloc: Global, tokens: &'a [Token], room: u8) -> Result<Found<'a, E
     };
     let arguments = read!(args(alloc, inside, room - 1));
     let (last, rest) = read!(take_sign(arguments.rest, sign::CLOSE_BRACKET));
-    Ok(Found {
+    Ok(Parsed {
         value: nodes::call(joined(first, last), name, arguments.value),
         height: arguments.height + 1,
         rest,
@@ -527,7 +527,7 @@ fn bracket<'a>(
     first: Span,
     tokens: &'a [Token],
     room: u8,
-) -> Result<Found<'a, Expr>, Failure<'a>>
+) -> Result<Parsed<'a, Expr>, Failure<'a>>
     requires { 1 ≤ room }
     ensures read { IfOk result (λ f. IsAtom (tree_of f.value) (sign_open first ∷ tokens.now) f.rest.now) }
     ensures measured { IfOk result (λ f. f.height ≡ height (tree_of f.value)) }
@@ -537,7 +537,7 @@ fn bracket<'a>(
     ensures answers { MatchResult result (λ f. Reads AnAtom (Above 0) room (sign_open first ∷ tokens.now) f.rest.now) (λ e. FailsAs AnAtom (Above 0) room (sign_open first ∷ tokens.now) e) }
 {
     if let Some((last, rest)) = sign_here(tokens, sign::CLOSE) {
-        return Ok(Found {
+        return Ok(Parsed {
             value: nodes::tuple(joined(first, last), Vec::new(alloc)),
             height: 1,
             rest,
@@ -553,7 +553,7 @@ fn bracket<'a>(
     if let Some(_) = sign_here(inside.rest, sign::COMMA) {
         let parts = read!(more_exprs(alloc, inside.value, inside.height, inside.rest, room - 1));
         let (last, rest) = read!(take_sign(parts.rest, sign::CLOSE));
-        return Ok(Found {
+        return Ok(Parsed {
             value: nodes::tuple(joined(first, last), parts.value),
             height: parts.height + 1,
             rest,
@@ -563,21 +563,21 @@ fn bracket<'a>(
     let Ok(whole) = nodes::paren(alloc, joined(first, last), inside.value) else {
         return Err(Failure::NoMemory);
     };
-    Ok(Found {
+    Ok(Parsed {
         value: whole,
         height: inside.height + 1,
         rest,
     })
 }
 
-/// The fields of a record behind its opening brace.
+/// The fields of a record after its opening brace.
 #[cycle(expressions)]
 fn record_text<'a>(
     alloc: Global,
     first: Span,
     tokens: &'a [Token],
     room: u8,
-) -> Result<Found<'a, Expr>, Failure<'a>>
+) -> Result<Parsed<'a, Expr>, Failure<'a>>
     requires { 2 ≤ room }
     ensures read { IfOk result (λ f. IsAtom (tree_of f.value) (sign_open_brace first ∷ tokens.now) f.rest.now) }
     ensures measured { IfOk result (λ f. f.height ≡ height (tree_of f.value)) }
@@ -591,14 +591,14 @@ fn record_text<'a>(
     let value = read!(expr(alloc, after, room - 1));
     let members = read!(more_members(alloc, name, value.value, value.height, value.rest, room - 1));
     let (last, rest) = read!(take_sign(members.rest, sign::CLOSE_BRACE));
-    Ok(Found {
+    Ok(Parsed {
         value: nodes::fields(joined(first, last), members.value),
         height: members.height + 1,
         rest,
     })
 }
 
-/// The fields of a record that follow a first one, each behind a comma.
+/// The fields of a record that follow a first one, each after a comma.
 #[cycle(expressions)]
 fn more_members<'a>(
     alloc: Global,
@@ -607,12 +607,12 @@ fn more_members<'a>(
     tall: u8,
     tokens: &'a [Token],
     room: u8,
-) -> Result<Found<'a, Vec<(Name, Expr)>>, Failure<'a>>
+) -> Result<Parsed<'a, Vec<(Name, Expr)>>, Failure<'a>>
     requires room { 1 ≤ room }
     requires measured { tall ≡ height (tree_of first) }
     requires low { tall ≤ room }
     requires inside { pattern_inside (tree_of first) ≤ 100 }
-    ensures read { IfOk result (λ f. MembersBehind name (tree_of first) (list_named_trees f.value.items) tokens.now f.rest.now) }
+    ensures read { IfOk result (λ f. MembersAfter name (tree_of first) (list_named_trees f.value.items) tokens.now f.rest.now) }
     ensures measured { IfOk result (λ f. f.height ≡ highest_named (list_named_trees f.value.items)) }
     ensures low { IfOk result (λ f. f.height ≤ room) }
     ensures inside { IfOk result (λ f. pattern_inside_named (list_named_trees f.value.items) ≤ 100) }
@@ -631,7 +631,7 @@ fn more_members<'a>(
         rest = next.rest;
         push!(members, (name, next.value));
     }
-    Ok(Found {
+    Ok(Parsed {
         value: members,
         height: highest,
         rest,

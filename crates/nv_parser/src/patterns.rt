@@ -7,14 +7,14 @@ ghost use Rattle.nv_ast.specs.Height.{pattern_height, highest_pattern};
 ghost use Rattle.nv_ast.specs.PatternView.{pattern_tree, list_patterns};
 ghost use Rattle.nv_ast.specs.Grammar.{IsPattern, IsPatterns};
 ghost use Rattle.nv_parser.specs.inner.Cursor.{NotSign};
-ghost use Rattle.nv_parser.specs.inner.Lists.{PatternsBehind};
-ghost use Rattle.nv_parser.specs.inner.Failing.{Anything, Ahead, Many, Behind, Starts, StartsNone, Reads, FailsAs};
+ghost use Rattle.nv_parser.specs.inner.Lists.{PatternsAfter};
+ghost use Rattle.nv_parser.specs.inner.Failing.{Anything, Ahead, Many, HasRead, Starts, StartsNone, Reads, FailsAs};
 ghost use Rattle.nv_parser.specs.inner.Phrases.{APattern, SomePatterns, NextPattern};
 ghost use Rattle.nv_parser.specs.inner.Follow.{Above};
 
 use crate::codes::{key, sign};
 use crate::cursor::{
-    Failure, Found, key_here, name_here, push, read, sign_here, take_name, take_sign,
+    Failure, Parsed, key_here, name_here, push, read, sign_here, take_name, take_sign,
 };
 use nv_ast::{Pat, Token};
 use std::alloc::Global;
@@ -25,7 +25,7 @@ pub fn pattern<'a>(
     alloc: Global,
     tokens: &'a [Token],
     room: u8,
-) -> Result<Found<'a, Pat>, Failure<'a>>
+) -> Result<Parsed<'a, Pat>, Failure<'a>>
     requires { 1 ≤ room }
     ensures read { IfOk result (λ f. IsPattern (pattern_tree f.value) tokens.now f.rest.now) }
     ensures answers { MatchResult result (λ f. Reads APattern Anything room tokens.now f.rest.now) (λ e. FailsAs APattern Anything room tokens.now e) }
@@ -34,7 +34,7 @@ pub fn pattern<'a>(
     ensures shorter { IfOk result (λ f. length f.rest.now < length tokens.now) }
 {
     if let Some((_, rest)) = key_here(tokens, key::ANY) {
-        return Ok(Found {
+        return Ok(Parsed {
             value: Pat::Any,
             height: 1,
             rest,
@@ -44,7 +44,7 @@ pub fn pattern<'a>(
         return tuple_pattern(alloc, rest, room);
     }
     let (_, name, rest) = read!(take_name(alloc, tokens));
-    Ok(Found {
+    Ok(Parsed {
         value: Pat::Name(name),
         height: 1,
         rest,
@@ -73,16 +73,16 @@ fn tuple_pattern<'a>(
     alloc: Global,
     tokens: &'a [Token],
     room: u8,
-) -> Result<Found<'a, Pat>, Failure<'a>>
+) -> Result<Parsed<'a, Pat>, Failure<'a>>
     requires { 1 ≤ room }
     ensures read { IfOk result (λ f. (s : Span) → IsPattern (pattern_tree f.value) (sign_open s ∷ tokens.now) f.rest.now) }
-    ensures answers { MatchResult result (λ f. (s : Span) → Reads (Behind (sign_open s ∷ []) APattern) Anything room tokens.now f.rest.now) (λ e. (s : Span) → FailsAs (Behind (sign_open s ∷ []) APattern) Anything room tokens.now e) }
+    ensures answers { MatchResult result (λ f. (s : Span) → Reads (HasRead (sign_open s ∷ []) APattern) Anything room tokens.now f.rest.now) (λ e. (s : Span) → FailsAs (HasRead (sign_open s ∷ []) APattern) Anything room tokens.now e) }
     ensures measured { IfOk result (λ f. f.height ≡ pattern_height (pattern_tree f.value)) }
     ensures low { IfOk result (λ f. f.height ≤ room) }
     ensures shorter { IfOk result (λ f. length f.rest.now < length tokens.now) }
 {
     if let Some((_, rest)) = sign_here(tokens, sign::CLOSE) {
-        return Ok(Found {
+        return Ok(Parsed {
             value: tuple_of(Vec::new(alloc)),
             height: 1,
             rest,
@@ -101,14 +101,14 @@ fn tuple_pattern<'a>(
     };
     let parts = read!(more_patterns(alloc, first.value, first.height, first.rest, room - 1));
     let (_, rest) = read!(take_sign(parts.rest, sign::CLOSE));
-    Ok(Found {
+    Ok(Parsed {
         value: tuple_of(parts.value),
         height: parts.height + 1,
         rest,
     })
 }
 
-/// The patterns that follow a first one, each behind a comma.
+/// The patterns that follow a first one, each after a comma.
 #[cycle(patterns)]
 fn more_patterns<'a>(
     alloc: Global,
@@ -116,11 +116,11 @@ fn more_patterns<'a>(
     height: u8,
     tokens: &'a [Token],
     room: u8,
-) -> Result<Found<'a, Vec<Pat>>, Failure<'a>>
+) -> Result<Parsed<'a, Vec<Pat>>, Failure<'a>>
     requires room { 1 ≤ room }
     requires measured { height ≡ pattern_height (pattern_tree first) }
     requires low { height ≤ room }
-    ensures read { IfOk result (λ f. PatternsBehind (pattern_tree first) (list_patterns f.value.items) tokens.now f.rest.now) }
+    ensures read { IfOk result (λ f. PatternsAfter (pattern_tree first) (list_patterns f.value.items) tokens.now f.rest.now) }
     ensures ends { IfOk result (λ f. NotSign 22 f.rest.now) }
     ensures answers { MatchResult result (λ f. Reads (Many NextPattern) (Above 10) room tokens.now f.rest.now) (λ e. FailsAs (Many NextPattern) (Above 10) room tokens.now e) }
     ensures measured { IfOk result (λ f. f.height ≡ highest_pattern (list_patterns f.value.items)) }
@@ -137,7 +137,7 @@ fn more_patterns<'a>(
         rest = next.rest;
         push!(patterns, next.value);
     }
-    Ok(Found {
+    Ok(Parsed {
         value: patterns,
         height: highest,
         rest,
@@ -149,7 +149,7 @@ pub fn patterns<'a>(
     alloc: Global,
     tokens: &'a [Token],
     room: u8,
-) -> Result<Found<'a, Vec<Pat>>, Failure<'a>>
+) -> Result<Parsed<'a, Vec<Pat>>, Failure<'a>>
     requires { 1 ≤ room }
     ensures read { IfOk result (λ f. IsPatterns (list_patterns f.value.items) tokens.now f.rest.now) }
     ensures answers { MatchResult result (λ f. Reads SomePatterns (Ahead 29) room tokens.now f.rest.now) (λ e. FailsAs SomePatterns (Ahead 29) room tokens.now e) }
@@ -157,7 +157,7 @@ pub fn patterns<'a>(
     ensures shorter { IfOk result (λ f. length f.rest.now ≤ length tokens.now) }
 {
     if let Some(_) = sign_here(tokens, sign::CLOSE_BRACKET) {
-        return Ok(Found {
+        return Ok(Parsed {
             value: Vec::new(alloc),
             height: 0,
             rest: tokens,

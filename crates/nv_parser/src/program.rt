@@ -5,9 +5,9 @@ ghost use Rattle.nv_ast.specs.Height.{fun_height, highest_fun, decl_height, high
 ghost use Rattle.nv_ast.specs.ProgramView.{fun_tree, decl_tree};
 ghost use Rattle.nv_ast.specs.Exceptions.{exceptions};
 ghost use Rattle.nv_ast.specs.Grammar.{IsFun, IsDecl, IsDecls};
-ghost use Rattle.nv_parser.specs.inner.Lists.{FunsBehind};
+ghost use Rattle.nv_parser.specs.inner.Lists.{FunsAfter};
 ghost use Rattle.nv_parser.specs.inner.Follow.{Above};
-ghost use Rattle.nv_parser.specs.inner.Failing.{Anything, Many, Behind, Reads, FailsAs};
+ghost use Rattle.nv_parser.specs.inner.Failing.{Anything, Many, HasRead, Reads, FailsAs};
 ghost use Rattle.nv_parser.specs.inner.Phrases.{AFun, ADecl, NextFun, AtEnd};
 
 use crate::codes::{key, sign};
@@ -21,7 +21,7 @@ use std::alloc::Global;
 /// How high an expression, a type or a layout may be.
 const ROOM: u8 = 100;
 
-/// A function behind its `fun` or `and`.
+/// A function after its `fun` or `and`.
 fn function<'a>(alloc: Global, tokens: &'a [Token]) -> Result<(Fun, &'a [Token]), Failure<'a>>
     ensures read { IfOk result (λ r. IsFun (fun_tree r.0) tokens.now r.1.now) }
     ensures answers { MatchResult result (λ r. Reads AFun Anything 100 tokens.now r.1.now) (λ e. FailsAs AFun Anything 100 tokens.now e) }
@@ -51,14 +51,14 @@ fn function<'a>(alloc: Global, tokens: &'a [Token]) -> Result<(Fun, &'a [Token])
     Ok((made, rest))
 }
 
-/// The functions that follow a first one, each behind an `and`.
+/// The functions that follow a first one, each after an `and`.
 fn more_functions<'a>(
     alloc: Global,
     first: Fun,
     tokens: &'a [Token],
 ) -> Result<(Vec<Fun>, &'a [Token]), Failure<'a>>
     requires { fun_height (fun_tree first) ≤ 100 }
-    ensures read { IfOk result (λ r. FunsBehind (fun_tree first) (map fun_tree r.0.items) tokens.now r.1.now) }
+    ensures read { IfOk result (λ r. FunsAfter (fun_tree first) (map fun_tree r.0.items) tokens.now r.1.now) }
     ensures answers { MatchResult result (λ r. Reads (Many NextFun) (Above 0) 100 tokens.now r.1.now) (λ e. FailsAs (Many NextFun) (Above 0) 100 tokens.now e) }
     ensures low { IfOk result (λ r. highest_fun (map fun_tree r.0.items) ≤ 100) }
     ensures shorter { IfOk result (λ r. length r.1.now ≤ length tokens.now) }
@@ -74,14 +74,14 @@ fn more_functions<'a>(
     Ok((functions, rest))
 }
 
-/// The functions of a group, behind its `fun`.
+/// The functions of a group, after its `fun`.
 fn group<'a>(
     alloc: Global,
     first: Span,
     tokens: &'a [Token],
 ) -> Result<(Decl, &'a [Token]), Failure<'a>>
     ensures read { IfOk result (λ r. IsDecl (decl_tree r.0) (key_fun first ∷ tokens.now) r.1.now) }
-    ensures answers { MatchResult result (λ r. Reads (Behind (key_fun first ∷ []) ADecl) (Above 0) 100 tokens.now r.1.now) (λ e. FailsAs (Behind (key_fun first ∷ []) ADecl) (Above 0) 100 tokens.now e) }
+    ensures answers { MatchResult result (λ r. Reads (HasRead (key_fun first ∷ []) ADecl) (Above 0) 100 tokens.now r.1.now) (λ e. FailsAs (HasRead (key_fun first ∷ []) ADecl) (Above 0) 100 tokens.now e) }
     ensures low { IfOk result (λ r. decl_height (decl_tree r.0) ≤ 100) }
     ensures shorter { IfOk result (λ r. 5 * exceptions (r.0 ∷ []) + length r.1.now < length tokens.now) }
 {
@@ -97,7 +97,7 @@ fn layout_decl<'a>(
     tokens: &'a [Token],
 ) -> Result<(Decl, &'a [Token]), Failure<'a>>
     ensures read { IfOk result (λ r. IsDecl (decl_tree r.0) (key_layout first ∷ tokens.now) r.1.now) }
-    ensures answers { MatchResult result (λ r. Reads (Behind (key_layout first ∷ []) ADecl) (Above 0) 100 tokens.now r.1.now) (λ e. FailsAs (Behind (key_layout first ∷ []) ADecl) (Above 0) 100 tokens.now e) }
+    ensures answers { MatchResult result (λ r. Reads (HasRead (key_layout first ∷ []) ADecl) (Above 0) 100 tokens.now r.1.now) (λ e. FailsAs (HasRead (key_layout first ∷ []) ADecl) (Above 0) 100 tokens.now e) }
     ensures low { IfOk result (λ r. decl_height (decl_tree r.0) ≤ 100) }
     ensures shorter { IfOk result (λ r. 5 * exceptions (r.0 ∷ []) + length r.1.now < length tokens.now) }
 {
@@ -115,7 +115,7 @@ fn exception_decl<'a>(
     tokens: &'a [Token],
 ) -> Result<(Decl, &'a [Token]), Failure<'a>>
     ensures read { IfOk result (λ r. IsDecl (decl_tree r.0) (key_exception first ∷ tokens.now) r.1.now) }
-    ensures answers { MatchResult result (λ r. Reads (Behind (key_exception first ∷ []) ADecl) (Above 0) 100 tokens.now r.1.now) (λ e. FailsAs (Behind (key_exception first ∷ []) ADecl) (Above 0) 100 tokens.now e) }
+    ensures answers { MatchResult result (λ r. Reads (HasRead (key_exception first ∷ []) ADecl) (Above 0) 100 tokens.now r.1.now) (λ e. FailsAs (HasRead (key_exception first ∷ []) ADecl) (Above 0) 100 tokens.now e) }
     ensures low { IfOk result (λ r. decl_height (decl_tree r.0) ≤ 100) }
     ensures shorter { IfOk result (λ r. 5 * exceptions (r.0 ∷ []) + length r.1.now ≤ length tokens.now + 1) }
 {

@@ -58,7 +58,7 @@ pub fn mem_here<'a>(tokens: &'a [Token]) -> Option<(Mem, Span, &'a [Token])>
     Some((Mem::Scratch, span, rest))
 }
 
-/// Whether a statement stands in front: a `let`, or a memory with an opening bracket behind it.
+/// Whether a statement stands in front: a `let`, or a memory with an opening bracket after it.
 pub fn begins_statement(tokens: &[Token]) -> bool
     ensures { MatchBool result (StartsStatement tokens.now) (NoStatement tokens.now) }
 {

@@ -8,13 +8,13 @@ ghost use Rattle.nv_ast.specs.TypeView.{type_tree, list_types, list_named_types}
 ghost use Rattle.nv_ast.specs.Grammar.{IsType, IsTypes, IsParams};
 ghost use Rattle.nv_parser.specs.inner.Cursor.{NotSign};
 ghost use Rattle.nv_parser.specs.inner.Follow.{Above};
-ghost use Rattle.nv_parser.specs.inner.Lists.{TypesBehind, NamedTypesBehind, InBrackets};
-ghost use Rattle.nv_parser.specs.inner.Failing.{Anything, Ahead, Many, Behind, Starts, StartsNone, Reads, FailsAs};
+ghost use Rattle.nv_parser.specs.inner.Lists.{TypesAfter, NamedTypesAfter, InBrackets};
+ghost use Rattle.nv_parser.specs.inner.Failing.{Anything, Ahead, Many, HasRead, Starts, StartsNone, Reads, FailsAs};
 ghost use Rattle.nv_parser.specs.inner.Phrases.{AType, SomeTypes, SomeParams, NextType, NextNamedType, NameInBrackets};
 
 use crate::codes::{key, sign};
 use crate::cursor::{
-    Failure, Found, key_here, push, read, sign_here, take_name, take_number, take_sign,
+    Failure, Parsed, key_here, push, read, sign_here, take_name, take_number, take_sign,
 };
 use nv_ast::{Name, Token, TyText};
 use std::alloc::Global;
@@ -50,7 +50,7 @@ pub fn type_text<'a>(
     alloc: Global,
     tokens: &'a [Token],
     room: u8,
-) -> Result<Found<'a, TyText>, Failure<'a>>
+) -> Result<Parsed<'a, TyText>, Failure<'a>>
     requires { 1 ≤ room }
     ensures read { IfOk result (λ f. IsType (type_tree f.value) tokens.now f.rest.now) }
     ensures answers { MatchResult result (λ f. Reads AType (Above 0) room tokens.now f.rest.now) (λ e. FailsAs AType (Above 0) room tokens.now e) }
@@ -62,7 +62,7 @@ pub fn type_text<'a>(
         return words_type(rest);
     }
     if let Some((_, rest)) = key_here(tokens, key::BOOL) {
-        return Ok(Found {
+        return Ok(Parsed {
             value: TyText::Bool,
             height: 1,
             rest,
@@ -70,7 +70,7 @@ pub fn type_text<'a>(
     }
     if let Some((_, rest)) = key_here(tokens, key::PACKED) {
         let (name, rest) = read!(layout_name(alloc, rest));
-        return Ok(Found {
+        return Ok(Parsed {
             value: TyText::Packed(name),
             height: 1,
             rest,
@@ -78,7 +78,7 @@ pub fn type_text<'a>(
     }
     if let Some((_, rest)) = key_here(tokens, key::UNPACKED) {
         let (name, rest) = read!(layout_name(alloc, rest));
-        return Ok(Found {
+        return Ok(Parsed {
             value: TyText::Unpacked(name),
             height: 1,
             rest,
@@ -95,14 +95,14 @@ pub fn type_text<'a>(
 }
 
 /// What follows `word`.
-fn words_type<'a>(tokens: &'a [Token]) -> Result<Found<'a, TyText>, Failure<'a>>
+fn words_type<'a>(tokens: &'a [Token]) -> Result<Parsed<'a, TyText>, Failure<'a>>
     ensures read { IfOk result (λ f. (s : Span) → IsType (type_tree f.value) (key_word s ∷ tokens.now) f.rest.now) }
-    ensures answers { MatchResult result (λ f. (s : Span) → (room : ℕ) → 1 ≤ room → Reads (Behind (key_word s ∷ []) AType) (Above 0) room tokens.now f.rest.now) (λ e. (s : Span) → (room : ℕ) → 1 ≤ room → FailsAs (Behind (key_word s ∷ []) AType) (Above 0) room tokens.now e) }
+    ensures answers { MatchResult result (λ f. (s : Span) → (room : ℕ) → 1 ≤ room → Reads (HasRead (key_word s ∷ []) AType) (Above 0) room tokens.now f.rest.now) (λ e. (s : Span) → (room : ℕ) → 1 ≤ room → FailsAs (HasRead (key_word s ∷ []) AType) (Above 0) room tokens.now e) }
     ensures measured { IfOk result (λ f. (f.height ≡ 1) × (type_height (type_tree f.value) ≡ 1)) }
     ensures shorter { IfOk result (λ f. length f.rest.now ≤ length tokens.now) }
 {
     let Some((_, after)) = sign_here(tokens, sign::OPEN_BRACKET) else {
-        return Ok(Found {
+        return Ok(Parsed {
             value: TyText::Word(1),
             height: 1,
             rest: tokens,
@@ -110,7 +110,7 @@ fn words_type<'a>(tokens: &'a [Token]) -> Result<Found<'a, TyText>, Failure<'a>>
     };
     let (_, words, after) = read!(take_number(after));
     let (_, rest) = read!(take_sign(after, sign::CLOSE_BRACKET));
-    Ok(Found {
+    Ok(Parsed {
         value: TyText::Word(words),
         height: 1,
         rest,
@@ -135,16 +135,16 @@ fn tuple_type<'a>(
     alloc: Global,
     tokens: &'a [Token],
     room: u8,
-) -> Result<Found<'a, TyText>, Failure<'a>>
+) -> Result<Parsed<'a, TyText>, Failure<'a>>
     requires { 1 ≤ room }
     ensures read { IfOk result (λ f. (s : Span) → IsType (type_tree f.value) (sign_open s ∷ tokens.now) f.rest.now) }
-    ensures answers { MatchResult result (λ f. (s : Span) → Reads (Behind (sign_open s ∷ []) AType) (Above 0) room tokens.now f.rest.now) (λ e. (s : Span) → FailsAs (Behind (sign_open s ∷ []) AType) (Above 0) room tokens.now e) }
+    ensures answers { MatchResult result (λ f. (s : Span) → Reads (HasRead (sign_open s ∷ []) AType) (Above 0) room tokens.now f.rest.now) (λ e. (s : Span) → FailsAs (HasRead (sign_open s ∷ []) AType) (Above 0) room tokens.now e) }
     ensures measured { IfOk result (λ f. f.height ≡ type_height (type_tree f.value)) }
     ensures low { IfOk result (λ f. f.height ≤ room) }
     ensures shorter { IfOk result (λ f. length f.rest.now < length tokens.now) }
 {
     if let Some((_, rest)) = sign_here(tokens, sign::CLOSE) {
-        return Ok(Found {
+        return Ok(Parsed {
             value: tuple_of(Vec::new(alloc)),
             height: 1,
             rest,
@@ -163,23 +163,23 @@ fn tuple_type<'a>(
     };
     let parts = read!(more_types(alloc, first.value, first.height, first.rest, room - 1));
     let (_, rest) = read!(take_sign(parts.rest, sign::CLOSE));
-    Ok(Found {
+    Ok(Parsed {
         value: tuple_of(parts.value),
         height: parts.height + 1,
         rest,
     })
 }
 
-/// Names with their types behind an opening brace.
+/// Names with their types after an opening brace.
 #[cycle(types)]
 fn record_type<'a>(
     alloc: Global,
     tokens: &'a [Token],
     room: u8,
-) -> Result<Found<'a, TyText>, Failure<'a>>
+) -> Result<Parsed<'a, TyText>, Failure<'a>>
     requires { 2 ≤ room }
     ensures read { IfOk result (λ f. (s : Span) → IsType (type_tree f.value) (sign_open_brace s ∷ tokens.now) f.rest.now) }
-    ensures answers { MatchResult result (λ f. (s : Span) → Reads (Behind (sign_open_brace s ∷ []) AType) (Above 0) room tokens.now f.rest.now) (λ e. (s : Span) → FailsAs (Behind (sign_open_brace s ∷ []) AType) (Above 0) room tokens.now e) }
+    ensures answers { MatchResult result (λ f. (s : Span) → Reads (HasRead (sign_open_brace s ∷ []) AType) (Above 0) room tokens.now f.rest.now) (λ e. (s : Span) → FailsAs (HasRead (sign_open_brace s ∷ []) AType) (Above 0) room tokens.now e) }
     ensures measured { IfOk result (λ f. f.height ≡ type_height (type_tree f.value)) }
     ensures low { IfOk result (λ f. f.height ≤ room) }
     ensures shorter { IfOk result (λ f. length f.rest.now < length tokens.now) }
@@ -196,14 +196,14 @@ fn record_type<'a>(
         room - 1
     ));
     let (_, rest) = read!(take_sign(fields.rest, sign::CLOSE_BRACE));
-    Ok(Found {
+    Ok(Parsed {
         value: record_of(fields.value),
         height: fields.height + 1,
         rest,
     })
 }
 
-/// The types that follow a first one, each behind a comma.
+/// The types that follow a first one, each after a comma.
 #[cycle(types)]
 fn more_types<'a>(
     alloc: Global,
@@ -211,11 +211,11 @@ fn more_types<'a>(
     height: u8,
     tokens: &'a [Token],
     room: u8,
-) -> Result<Found<'a, Vec<TyText>>, Failure<'a>>
+) -> Result<Parsed<'a, Vec<TyText>>, Failure<'a>>
     requires room { 1 ≤ room }
     requires measured { height ≡ type_height (type_tree first) }
     requires low { height ≤ room }
-    ensures read { IfOk result (λ f. TypesBehind (type_tree first) (list_types f.value.items) tokens.now f.rest.now) }
+    ensures read { IfOk result (λ f. TypesAfter (type_tree first) (list_types f.value.items) tokens.now f.rest.now) }
     ensures ends { IfOk result (λ f. NotSign 22 f.rest.now) }
     ensures answers { MatchResult result (λ f. Reads (Many NextType) (Above 10) room tokens.now f.rest.now) (λ e. FailsAs (Many NextType) (Above 10) room tokens.now e) }
     ensures measured { IfOk result (λ f. f.height ≡ highest_type (list_types f.value.items)) }
@@ -232,14 +232,14 @@ fn more_types<'a>(
         rest = next.rest;
         push!(types, next.value);
     }
-    Ok(Found {
+    Ok(Parsed {
         value: types,
         height: highest,
         rest,
     })
 }
 
-/// The names and types that follow a first one, each behind a comma.
+/// The names and types that follow a first one, each after a comma.
 #[cycle(types)]
 fn more_named_types<'a>(
     alloc: Global,
@@ -248,11 +248,11 @@ fn more_named_types<'a>(
     height: u8,
     tokens: &'a [Token],
     room: u8,
-) -> Result<Found<'a, Vec<(Name, TyText)>>, Failure<'a>>
+) -> Result<Parsed<'a, Vec<(Name, TyText)>>, Failure<'a>>
     requires room { 1 ≤ room }
     requires measured { height ≡ type_height (type_tree first) }
     requires low { height ≤ room }
-    ensures read { IfOk result (λ f. NamedTypesBehind name (type_tree first) (list_named_types f.value.items) tokens.now f.rest.now) }
+    ensures read { IfOk result (λ f. NamedTypesAfter name (type_tree first) (list_named_types f.value.items) tokens.now f.rest.now) }
     ensures answers { MatchResult result (λ f. Reads (Many NextNamedType) (Above 10) room tokens.now f.rest.now) (λ e. FailsAs (Many NextNamedType) (Above 10) room tokens.now e) }
     ensures measured { IfOk result (λ f. f.height ≡ highest_named_type (list_named_types f.value.items)) }
     ensures low { IfOk result (λ f. f.height ≤ room) }
@@ -270,7 +270,7 @@ fn more_named_types<'a>(
         rest = next.rest;
         push!(types, (name, next.value));
     }
-    Ok(Found {
+    Ok(Parsed {
         value: types,
         height: highest,
         rest,
@@ -282,7 +282,7 @@ pub fn types<'a>(
     alloc: Global,
     tokens: &'a [Token],
     room: u8,
-) -> Result<Found<'a, Vec<TyText>>, Failure<'a>>
+) -> Result<Parsed<'a, Vec<TyText>>, Failure<'a>>
     requires { 1 ≤ room }
     ensures read { IfOk result (λ f. IsTypes (list_types f.value.items) tokens.now f.rest.now) }
     ensures answers { MatchResult result (λ f. Reads SomeTypes (Ahead 29) room tokens.now f.rest.now) (λ e. FailsAs SomeTypes (Ahead 29) room tokens.now e) }
@@ -290,7 +290,7 @@ pub fn types<'a>(
     ensures shorter { IfOk result (λ f. length f.rest.now ≤ length tokens.now) }
 {
     if let Some(_) = sign_here(tokens, sign::CLOSE_BRACKET) {
-        return Ok(Found {
+        return Ok(Parsed {
             value: Vec::new(alloc),
             height: 0,
             rest: tokens,
@@ -306,7 +306,7 @@ pub fn params<'a>(
     alloc: Global,
     tokens: &'a [Token],
     room: u8,
-) -> Result<Found<'a, Vec<(Name, TyText)>>, Failure<'a>>
+) -> Result<Parsed<'a, Vec<(Name, TyText)>>, Failure<'a>>
     requires { 1 ≤ room }
     ensures read { IfOk result (λ f. IsParams (list_named_types f.value.items) tokens.now f.rest.now) }
     ensures answers { MatchResult result (λ f. Reads SomeParams (Ahead 29) room tokens.now f.rest.now) (λ e. FailsAs SomeParams (Ahead 29) room tokens.now e) }
@@ -314,7 +314,7 @@ pub fn params<'a>(
     ensures shorter { IfOk result (λ f. length f.rest.now ≤ length tokens.now) }
 {
     if let Some(_) = sign_here(tokens, sign::CLOSE_BRACKET) {
-        return Ok(Found {
+        return Ok(Parsed {
             value: Vec::new(alloc),
             height: 0,
             rest: tokens,

@@ -44,7 +44,7 @@ pub word_passes : (w : List ℕ) → IsWord w → Every in_word w
 word_passes [] h = absurd h
 word_passes (b ∷ w) h = (letter_in_word b (letter_passes b h.0), letters_pass w h.1)
 
--- the run of word bytes behind a letter is a word
+-- the run of word bytes after a letter is a word
 pub run_is_word : (bytes rest : List ℕ) (b : ℕ) → bytes ≡ b ∷ rest → starts_word b ≡ true → IsWord (take (prefix_len (in_class WordClass) bytes) bytes)
 run_is_word bytes rest b e h = rw (e, prefix_cons in_word b rest (letter_in_word b h)) (passes_letter b h, pass_letters (take (prefix_len in_word rest) rest) (prefix_every in_word rest))
 

@@ -14,7 +14,7 @@ use Rattle.nv_text.specs.inner.Front.{LongestSign, NoSign, NoSignOf, First}
 use Rattle.nv_text.proofs.Runs.{prefix_every, prefix_bound, prefix_cons}
 use Rattle.nv_text.proofs.Bytes.{in_word, word_passes, word_first, digit_no_letter, number_first, sign_first, sign_size, sign_no_letter, sign_no_digit, run_is_word}
 
--- behind a letter, the run of word bytes is the longest token
+-- after a letter, the run of word bytes is the longest token
 pub word_longest : (bytes : List ℕ) (s : Sort) → First starts_word bytes → Spells (take (prefix_len (in_class WordClass) bytes) bytes) s → Longest bytes s (prefix_len (in_class WordClass) bytes)
 word_longest [] s h g = absurd h
 word_longest (b ∷ us) s h g = record {
@@ -83,7 +83,7 @@ pub hexadecimal_longest : (bytes us : List ℕ) (m : ℕ) → bytes ≡ 48 ∷ 1
 hexadecimal_longest bytes us zero e h g = absurd (omega arith)
 hexadecimal_longest bytes us (suc m) e h g = rw e (hexadecimal_front us m (2 + suc m) (sym g) refl)
 
--- behind a byte that is no letter and no digit, the longest sign is the longest token
+-- after a byte that is no letter and no digit, the longest sign is the longest token
 pub sign_longest : (bytes : List ℕ) (k n : ℕ) → (First starts_word bytes → ⊥) → (First is_digit bytes → ⊥) → LongestSign bytes k n → Longest bytes (Sign k) n
 sign_longest bytes k n no_letter no_digit l = record {
   within = l.within;

@@ -4,14 +4,14 @@ use Rattle.nv_ast.specs.declared.token.Token.{Token}
 use Rattle.nv_ast.specs.Tree.{DeclTree, ProgramTree}
 use Rattle.nv_ast.specs.Height.{highest_decl}
 use Rattle.nv_ast.specs.Grammar.{IsDecls}
-use Rattle.nv_ast.specs.Places.{Begins, BeginsLow, Dead, place_of, SyntaxAt, DeepAt}
+use Rattle.nv_ast.specs.Positions.{Begins, BeginsLow, Dead, place_of, SyntaxAt, DeepAt}
 use Rattle.nv_text.specs.declared.error.TextError.{TextError}
 use Rattle.nv_text.specs.declared.error.TextError.TheVariants.{NoMemory, Char, Number, Name, Syntax, Deep}
 use Rattle.nv_text.specs.Tokens.{IsTokens, TokenFault}
 use Rattle.nv_parser.specs.declared.cursor.Failure.{Failure}
 use Rattle.nv_text.specs.Program.{IsTextOf, SyntaxText, DeepText, FaultOf}
 use Rattle.nv_text.specs.inner.Placing.{Says}
-use Rattle.nv_parser.specs.inner.Failing.{Bound, NoBound, AtMost, Many, Behind, SameFront, Completes, Starts, Fails, FailsAs, no_memory, syntax, deep}
+use Rattle.nv_parser.specs.inner.Failing.{Bound, NoBound, AtMost, Many, HasRead, SameFront, Completes, Starts, Fails, FailsAs, no_memory, syntax, deep}
 use Rattle.nv_parser.specs.inner.Phrases.{ADecl, AtEnd}
 use Rattle.nv_text.proofs.Reading.{tokens_one, fault_no_tokens, fault_one}
 use Rattle.nv_parser.proofs.DeclPhrases.{to_decls, of_decls}
@@ -28,7 +28,7 @@ dead_at seen (t ∷ left) f = λ b. f (t ∷ b.more) [] refl (subst (λ z. Many 
 pub syntax_at : {ts left : List Token} (n place : ℕ) → Fails (Many ADecl) AtEnd false 100 ts left → place ≡ place_of left n → SyntaxAt ts n place
 syntax_at {left = left} n place f e = record { seen = f.seen; left = left; split = f.split; here = e; begins = begins_low f.seen f.begins; dead = dead_at f.seen left f.dead }
 
-still_begins : (seen : List Token) (t : Token) → Completes (Behind seen (Many ADecl)) NoBound (t ∷ []) → Begins (seen ++ t ∷ [])
+still_begins : (seen : List Token) (t : Token) → Completes (HasRead seen (Many ADecl)) NoBound (t ∷ []) → Begins (seen ++ t ∷ [])
 still_begins seen t c =
     let d = of_decls (c.spelled []).whole in
     record { more = c.more ++ []; decls = d.trees; spelled = subst (λ z. IsDecls d.trees z []) (sym (append_assoc seen (t ∷ []) (c.more ++ []))) d.spelled }

@@ -21,7 +21,7 @@ abbrev pub EndsLine : List ℕ → Type 0
 EndsLine [] = Unit {0}
 EndsLine (b ∷ bs) = b ≡ 10
 
--- so many bytes in front part tokens: a space, or a comment up to the end of its line
+-- N bytes in front part tokens: a space, or a comment up to the end of its line
 pub data Blank : List ℕ → ℕ → Type 0 where
   space : {b : ℕ} {bs : List ℕ} → is_space b ≡ true → Blank (b ∷ bs) 1
   comment : {bytes : List ℕ} (line rest : List ℕ) → bytes ≡ 47 ∷ 47 ∷ (line ++ rest) → OneLine line → EndsLine rest → Blank bytes (2 + length line)

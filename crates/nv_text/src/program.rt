@@ -3,7 +3,7 @@ ghost use Rattle.std.specs.Prelude.{◌≡◌, ◌≤◌, ◌<◌, length, IfOk,
 ghost use Rattle.nv_ast.specs.Tree.{ProgramTree};
 ghost use Rattle.nv_ast.specs.Height.{highest_decl};
 ghost use Rattle.nv_ast.specs.ProgramView.{program_of};
-ghost use Rattle.nv_ast.specs.Places.{place_of};
+ghost use Rattle.nv_ast.specs.Positions.{place_of};
 ghost use Rattle.nv_text.specs.Limits.{source_limit};
 ghost use Rattle.nv_text.specs.Program.{IsTextOf, FaultOf};
 ghost use Rattle.nv_text.specs.inner.Placing.{Says};

@@ -1,4 +1,4 @@
-// The tokens of a text, from its front on.
+// The tokens of a text, from its prefix on.
 ghost use Rattle.std.specs.Prelude.{◌≡◌, ℕ, ◌+◌, ◌<◌, ◌≤◌, ◌^◌, List, ◌∷◌, ◌++◌, length, take, drop, Some, IfOk, IfErr, IfSome, IfNone, MatchResult, ◌⊎◌};
 ghost use Rattle.std.specs.List.{prefix_len};
 ghost use Rattle.nv_ast.specs.declared.token.Token.{Token};

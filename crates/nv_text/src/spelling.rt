@@ -72,7 +72,7 @@ pub fn value(base: u8, digits: &[u8]) -> Option<u32>
     Some(value)
 }
 
-/// How many hexadecimal digits stand behind a `0x` in front.
+/// How many hexadecimal digits stand after a `0x` in front.
 pub fn hexadecimal_digits(bytes: &[u8]) -> usize
     ensures some { 0 < result → bytes.now ≡ 48 ∷ 120 ∷ drop 2 bytes.now }
     ensures digits { 0 < result → result ≡ prefix_len is_hexadecimal (drop 2 bytes.now) }

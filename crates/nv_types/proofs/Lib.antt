@@ -1,3 +1,4 @@
+pub mod FindingMain
 pub mod BoundedRoom
 pub mod Measured
 pub mod OnlyRefusals

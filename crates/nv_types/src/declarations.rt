@@ -3,15 +3,15 @@
 ghost use Rattle.std.specs.Prelude.{map};
 ghost use Rattle.nv_ast.specs.ProgramView.{fun_tree, decl_tree};
 ghost use Rattle.nv_ast.specs.Tree.{GroupDecl};
-ghost use Rattle.type_steps.specs.inner.Declarations.{ChecksDecl, ChecksDecls, SignsAll, ChecksBody, ChecksBodies};
+ghost use Rattle.type_scopes.specs.inner.Declarations.{ChecksDecl, ChecksDecls, SignsAll, ChecksBody, ChecksBodies};
 
+use crate::signatures::signature;
 use crate::walk::expr;
 use nv_ast::{Decl, Fun};
-use type_order::signatures::signature;
-use type_rules::cost::Cost;
-use type_rules::error::TypeError;
-use type_steps::functions::Checker;
-use type_steps::wanted::Wanted;
+use type_costs::cost::Cost;
+use type_costs::error::TypeError;
+use type_scopes::expected::Expected;
+use type_scopes::functions::Checker;
 
 /// Declarations in order, each of which is known to the later ones.
 pub fn declarations<'a>(checker: &mut Checker<'a>, ds: &'a [Decl]) -> Result<(), TypeError>
@@ -76,7 +76,7 @@ fn body<'a>(checker: &mut Checker<'a>, f: &'a Fun) -> Result<Cost, TypeError>
     checker.written.clear();
     let mark = checker.scope.mark();
     checker.bind_params(f, function.params)?;
-    let found = expr(checker, true, Wanted::Same(function.result), &f.body)?;
+    let found = expr(checker, true, Expected::Same(function.result), &f.body)?;
     checker.scope.leave(mark)?;
     let words = checker.table.known(function.params).words;
     Ok(Cost {

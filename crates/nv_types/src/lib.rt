@@ -2,8 +2,14 @@
 #![tactic(auto)]
 
 mod declarations;
+pub mod handlers;
+pub mod lets;
+mod limits;
+pub mod main_sizes;
 mod program;
+pub mod signatures;
 mod walk;
 
+pub use limits::fitting_size;
 pub use program::check;
-pub use type_rules::error::TypeError;
+pub use type_costs::error::TypeError;

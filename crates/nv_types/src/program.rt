@@ -1,7 +1,7 @@
 //! Programs.
 
 ghost use Rattle.std.specs.Prelude.{◌≡◌, ◌<◌, ◌≤◌, ◌+◌, ◌*◌, ◌⊎◌, ℕ, IfOk, IfErr, OnOk, MatchResult};
-ghost use Rattle.nv_ast.specs.declared.token.Span.{Span as Place};
+ghost use Rattle.nv_ast.specs.declared.token.Span.{Span as Context};
 ghost use Rattle.nv_ast.specs.ProgramView.{program_of};
 ghost use Rattle.nv_ast.specs.TypedView.{typed_program};
 ghost use Rattle.nv_ast.specs.Faults.{IsTyped, IsFault, main_name, program_faults};
@@ -9,16 +9,16 @@ ghost use Rattle.nv_ast.specs.Sizes.{expanded_size, room as room_of};
 ghost use Rattle.nv_ast.specs.Accepted.{IsAccepted};
 ghost use Rattle.nv_types.specs.Refusals.{IsRefusal};
 ghost use Rattle.nv_types.specs.inner.Measuring.{IsSized, Measures};
-ghost use Rattle.type_rules.specs.inner.Faulty.{Judges};
+ghost use Rattle.type_costs.specs.inner.Faulty.{Judges};
 
 use crate::declarations::declarations;
+use crate::limits::fitting_size;
+use crate::main_sizes::{Sizes, sizes_of_main};
 use nv_ast::{Name, Program, Span, Typed};
 use std::alloc::Global;
-use type_order::fitting_size;
-use type_order::main_sizes::{Sizes, sizes_of_main};
-use type_rules::error::TypeError;
-use type_steps::functions::Checker;
-use type_steps::heads::MAIN;
+use type_costs::error::TypeError;
+use type_scopes::functions::Checker;
+use type_scopes::heads::MAIN;
 
 /// The program as a typed one, with its sizes.
 ///
@@ -30,7 +30,7 @@ pub fn check(alloc: Global, p: Program) -> Result<Typed, TypeError>
     ensures bounded { IfOk result (λ t. room_of (typed_program t) ≤ 5 * expanded_size (typed_program t) + 8) }
     ensures only_accepted { IsAccepted (program_of p) → IfErr result (λ e. e ≡ TypeError.NoMemory) }
     ensures refused { IfErr result (IsRefusal (program_of p)) }
-    ensures only_fault { (kind : ℕ) (place : Place) → IsFault (program_of p) kind place → MatchResult result (λ _. ⊥) (λ e. (e ≡ TypeError.NoMemory) ⊎ (e ≡ TypeError.Fault kind place)) }
+    ensures only_fault { (kind : ℕ) (place : Context) → IsFault (program_of p) kind place → MatchResult result (λ _. ⊥) (λ e. (e ≡ TypeError.NoMemory) ⊎ (e ≡ TypeError.Fault kind place)) }
     ensures only_too_large { IsTyped (program_of p) → 4096 < expanded_size (program_of p) → MatchResult result (λ _. ⊥) (λ e. (e ≡ TypeError.NoMemory) ⊎ (e ≡ TypeError.TooLarge (expanded_size (program_of p)))) }
 {
     let main = Name::new(alloc, &MAIN)?;

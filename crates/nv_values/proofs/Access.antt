@@ -6,7 +6,7 @@ use Rattle.nv_base.specs.declared.term.Mem.{Mem}
 use Rattle.nv_base.specs.Memories.{Memories, fetched}
 use Rattle.nv_ast.specs.Faults.{can_move}
 use Rattle.nv_values.specs.Values.{Word, words_value}
-use Rattle.nv_values.specs.Running.{Running, Gives, Stops, fetch, after_fetch}
+use Rattle.nv_values.specs.Running.{Running, Gives, Halts, fetch, after_fetch}
 
 -- ---- how many words an access may have
 pub at_most_eight : (m : Mem) (n : ℕ) → can_move m n ≡ true → n ≤ 8
@@ -19,5 +19,5 @@ fetch-refused m n place now h = ap (λ b. if b then after_fetch m place (fetched
 pub fetch-done : (m : Mem) (n place : ℕ) (ws : List ℕ) (p : Memories) (now : Running) → can_move m n ≡ true → now.packet ≡ p → fetched m place n p ≡ Some ws → fetch m n place now ≡ Gives (words_value ws) now
 fetch-done m n place ws p now h same e = ap (λ b. if b then after_fetch m place (fetched m place n now.packet) now else Gives (Word 0) now) h ∙ ap (λ q. after_fetch m place (fetched m place n q) now) same ∙ ap (λ o. after_fetch m place o now) e
 
-pub fetch-bad : (m : Mem) (n place : ℕ) (p : Memories) (now : Running) → can_move m n ≡ true → now.packet ≡ p → fetched m place n p ≡ None → fetch m n place now ≡ Stops (outcome.Fault m place) now
+pub fetch-bad : (m : Mem) (n place : ℕ) (p : Memories) (now : Running) → can_move m n ≡ true → now.packet ≡ p → fetched m place n p ≡ None → fetch m n place now ≡ Halts (outcome.Fault m place) now
 fetch-bad m n place p now h same e = ap (λ b. if b then after_fetch m place (fetched m place n now.packet) now else Gives (Word 0) now) h ∙ ap (λ q. after_fetch m place (fetched m place n q) now) same ∙ ap (λ o. after_fetch m place o now) e

@@ -19,7 +19,7 @@ pub record Running : Type 0 where
 pub data Result : Type 0 where
   Gives : (v : Value) (now : Running) → Result
   Raises : (k : ℕ) (vs : Values) (now : Running) → Result
-  Stops : (how : Outcome) (now : Running) → Result
+  Halts : (how : Outcome) (now : Running) → Result
 
 -- what expressions one after another come to: all their values, or what the first came to that gave none
 pub data Results : Type 0 where
@@ -31,7 +31,7 @@ pub data NamedResults : Type 0 where
   GiveNamed : (vs : NamedValues) (now : Running) → NamedResults
   BreaksNamed : (how : Result) → NamedResults
 
--- what statements come to: the scope behind them, or what an expression came to that gave no value
+-- what statements come to: the scope after them, or what an expression came to that gave no value
 pub data Stated : Type 0 where
   GoesOn : (scope : Scope) (now : Running) → Stated
   StopsAt : (how : Result) → Stated
@@ -40,7 +40,7 @@ pub data Stated : Type 0 where
 abbrev pub and_then : Result → (Value → Running → Result) → Result
 and_then (Gives v now) next = next v now
 and_then (Raises k vs now) next = Raises k vs now
-and_then (Stops how now) next = Stops how now
+and_then (Halts how now) next = Halts how now
 
 abbrev pub and_all : Results → (Values → Running → Result) → Result
 and_all (GiveAll vs now) next = next vs now
@@ -61,17 +61,17 @@ and_further (StopsAt how) next = StopsAt how
 abbrev pub then_more : Result → (Value → Running → Results) → Results
 then_more (Gives v now) next = next v now
 then_more (Raises k vs now) next = Breaks (Raises k vs now)
-then_more (Stops how now) next = Breaks (Stops how now)
+then_more (Halts how now) next = Breaks (Halts how now)
 
 abbrev pub then_named : Result → (Value → Running → NamedResults) → NamedResults
 then_named (Gives v now) next = next v now
 then_named (Raises k vs now) next = BreaksNamed (Raises k vs now)
-then_named (Stops how now) next = BreaksNamed (Stops how now)
+then_named (Halts how now) next = BreaksNamed (Halts how now)
 
 abbrev pub then_stated : Result → (Value → Running → Stated) → Stated
 then_stated (Gives v now) next = next v now
 then_stated (Raises k vs now) next = StopsAt (Raises k vs now)
-then_stated (Stops how now) next = StopsAt (Stops how now)
+then_stated (Halts how now) next = StopsAt (Halts how now)
 
 -- a value in front of those that follow
 abbrev pub before_rest : Value → Results → Results
@@ -86,7 +86,7 @@ before_named x v (BreaksNamed how) = BreaksNamed how
 abbrev pub handled : ℕ → (Values → Running → Result) → Result → Result
 handled k handler (Gives v now) = Gives v now
 handled k handler (Raises j vs now) = if j == k then handler vs now else Raises j vs now
-handled k handler (Stops how now) = Stops how now
+handled k handler (Halts how now) = Halts how now
 
 -- exceptions are numbered from 1 in the order of their declarations; 0 is none
 abbrev pub number_from : ℕ → List (List ℕ) → List ℕ → ℕ
@@ -100,21 +100,21 @@ exception_number exceptions x = number_from 1 exceptions x
 -- One of a number of words that no typed program fetches or stores there gives 0, or changes nothing.
 abbrev pub after_fetch : Mem → ℕ → Option (List ℕ) → Running → Result
 after_fetch m at (Some ws) now = Gives (words_value ws) now
-after_fetch m at None now = Stops (outcome.Fault m at) now
+after_fetch m at None now = Halts (outcome.Fault m at) now
 
 abbrev pub fetch : Mem → ℕ → ℕ → Running → Result
 fetch m n at now = if can_move m n then after_fetch m at (fetched m at n now.packet) now else Gives (Word 0) now
 
 abbrev pub after_store : Scope → Mem → ℕ → List ℕ → Option Memories → Running → Stated
 after_store scope m at ws (Some p) now = GoesOn scope (record { calls = now.calls; packet = p; writes = now.writes ++ record { mem = m; at = at; words = ws } ∷ [] })
-after_store scope m at ws None now = StopsAt (Stops (outcome.Fault m at) now)
+after_store scope m at ws None now = StopsAt (Halts (outcome.Fault m at) now)
 
 abbrev pub store : Scope → Mem → ℕ → List ℕ → Running → Stated
 store scope m at ws now = if can_move m (length ws) then after_store scope m at ws (stored m at ws now.packet) now else GoesOn scope now
 
 -- ---- a call takes one of those left in the run; where none is left the run is still going, with its writes so far
 abbrev pub taken : ℕ → Running → (Running → Result) → Result
-taken zero now next = Stops outcome.Going now
+taken zero now next = Halts outcome.Going now
 taken (suc left) now next = next (record { calls = left; packet = now.packet; writes = now.writes })
 
 -- ---- the full outcome of a run whose main came to this; of a typed program it has at most eight words
@@ -124,4 +124,4 @@ over how now = record { outcome = how; packet = now.packet; writes = now.writes 
 abbrev pub closed : Result → FullOutcome
 closed (Gives v now) = over (outcome.Ended (take 8 (words_of v))) now
 closed (Raises k vs now) = over (outcome.Raised k (take 8 (all_words vs))) now
-closed (Stops how now) = over how now
+closed (Halts how now) = over how now

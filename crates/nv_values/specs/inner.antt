@@ -1,3 +1,3 @@
 pub mod View
 pub mod Places
-pub mod Stopping
+pub mod Interrupting

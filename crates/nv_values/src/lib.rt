@@ -10,5 +10,5 @@ mod value;
 pub use exceptions::exception_at;
 pub use memory::{can_move, fetched, note};
 pub use operators::{combined, shifted};
-pub use stop::Stop;
+pub use stop::Interruption;
 pub use value::{Field, Value, first_words, is_true, truth_in, value_of_words, word_in};

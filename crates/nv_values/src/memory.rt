@@ -5,14 +5,14 @@ ghost use Rattle.nv_base.specs.Log.{noted_all};
 ghost use Rattle.nv_base.specs.Meanings.{source_writes};
 ghost use Rattle.nv_ast.specs.Faults.{can_move as may_move};
 ghost use Rattle.nv_values.specs.Running.{Running, fetch};
-ghost use Rattle.nv_values.specs.inner.Stopping.{IsValue};
+ghost use Rattle.nv_values.specs.inner.Interrupting.{IsValue};
 
-use crate::stop::Stop;
+use crate::stop::Interruption;
 use crate::value::{Value, value_of_words};
 use nv_base::{Access, Mem, Packet, SOURCE_SCRATCH, Write, WriteLog};
 use std::alloc::Global;
 
-/// Whether an access may have so many words.
+/// Whether an access may have N words.
 pub fn can_move(m: Mem, n: usize) -> bool
     ensures { result ≡ may_move m n }
 {
@@ -29,7 +29,7 @@ pub fn fetched<'a>(
     m: Mem,
     n: u32,
     at: u32,
-) -> Result<Value<'a>, Stop<'a>>
+) -> Result<Value<'a>, Interruption<'a>>
     ensures { (now : Running) → now.packet ≡ p.now → IsValue result now (fetch m n at now) }
 {
     if !can_move(m, n as usize) {
@@ -39,7 +39,7 @@ pub fn fetched<'a>(
     let into = &mut words[..n as usize];
     match p.read(m, at as u64, into) {
         Access::Done => Ok(value_of_words(alloc, into)?),
-        Access::Bad => Err(Stop::Fault(m, at)),
+        Access::Bad => Err(Interruption::Fault(m, at)),
     }
 }
 

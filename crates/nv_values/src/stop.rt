@@ -6,7 +6,7 @@ use std::alloc::{AllocError, AllocFailed};
 
 /// Why an expression gives no value.
 #[derive(Drop)]
-pub enum Stop<'a> {
+pub enum Interruption<'a> {
     NoMemory,
     /// An exception, by its number, with its values.
     Raised(u16, Vec<Value<'a>>),
@@ -16,35 +16,35 @@ pub enum Stop<'a> {
     Going,
 }
 
-impl<'a> From<NoMemory> for Stop<'a> {
+impl<'a> From<NoMemory> for Interruption<'a> {
     ghost use Rattle.std.specs.Prelude.{◌≡◌};
-    ghost use Rattle.nv_values.specs.declared.stop.Stop.TheVariants.{NoMemory as WantOfMemory};
+    ghost use Rattle.nv_values.specs.declared.stop.Interruption.TheVariants.{NoMemory as WantOfMemory};
 
     ghost from_gives = { λ _ s. s ≡ WantOfMemory };
 
-    fn from(_error: NoMemory) -> Stop<'a> {
-        Stop::NoMemory
+    fn from(_error: NoMemory) -> Interruption<'a> {
+        Interruption::NoMemory
     }
 }
 
-impl<'a> From<AllocError> for Stop<'a> {
+impl<'a> From<AllocError> for Interruption<'a> {
     ghost use Rattle.std.specs.Prelude.{◌≡◌};
-    ghost use Rattle.nv_values.specs.declared.stop.Stop.TheVariants.{NoMemory as WantOfMemory};
+    ghost use Rattle.nv_values.specs.declared.stop.Interruption.TheVariants.{NoMemory as WantOfMemory};
 
     ghost from_gives = { λ _ s. s ≡ WantOfMemory };
 
-    fn from(_error: AllocError) -> Stop<'a> {
-        Stop::NoMemory
+    fn from(_error: AllocError) -> Interruption<'a> {
+        Interruption::NoMemory
     }
 }
 
-impl<'a, T: Drop> From<AllocFailed<T>> for Stop<'a> {
+impl<'a, T: Drop> From<AllocFailed<T>> for Interruption<'a> {
     ghost use Rattle.std.specs.Prelude.{◌≡◌};
-    ghost use Rattle.nv_values.specs.declared.stop.Stop.TheVariants.{NoMemory as WantOfMemory};
+    ghost use Rattle.nv_values.specs.declared.stop.Interruption.TheVariants.{NoMemory as WantOfMemory};
 
     ghost from_gives = { λ _ s. s ≡ WantOfMemory };
 
-    fn from(_failed: AllocFailed<T>) -> Stop<'a> {
-        Stop::NoMemory
+    fn from(_failed: AllocFailed<T>) -> Interruption<'a> {
+        Interruption::NoMemory
     }
 }

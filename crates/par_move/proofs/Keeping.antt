@@ -1,14 +1,14 @@
--- What is pending and what is done still come to all the moves, behind each step.
+-- What is pending and what is done still come to all the moves, after each step.
 use Rattle.std.proofs.Common.{◌≡◌, ◌≢◌, ℕ, zero, suc, ◌+◌, ◌<◌, ◌-◌, true, nat_eq, ◌⊎◌, Option, Some, None, is_some, List, [], ◌∷◌, ◌++◌, length, get_or, set, slice_index, replicate, IfSome, refl, sym, ap, subst, ◌∙◌, inl, inr, ⊎_elim, append_assoc, arith}
 use Rattle.std.proofs.lemmas.Bool.{eq-eqb, ne_eqb, false≢true, cases_eq}
 use Rattle.std.proofs.lemmas.List.{get_or-set_same, get_or-set_other, length-set, length-replicate, get_or-replicate}
-use Rattle.slot_placement.specs.declared.place.Place.{Place}
+use Rattle.placement.specs.declared.place.Place.{Place}
 use Rattle.par_move.specs.Moves.{Move, Words, temporary, put, one_by_one, StandFor}
 use Rattle.par_move.specs.inner.Pending.{number, numbers, Table, source_at, reads, readings, pending_count, AreApart, word_from, Counted, Stands}
 use Rattle.par_move.proofs.Counts.{one_if, count-cons, count-set, read-by-one, within-table}
 use Rattle.par_move.proofs.Steps.{one_by_one-push, put-same, put-other, cases_place, entry-same, entry-other, other-number, none-is-no-some, pending-some, some-injective, rest-run, rest-save}
 
--- ---- counts behind a change
+-- ---- counts after a change
 
 pub count-gone : (src : Table) (i : ℕ) (p : Place) → source_at src i ≡ Some p → pending_count (set src i None) + 1 ≡ pending_count src
 count-gone src i p e =
@@ -112,7 +112,7 @@ source-before : (o o' : Option Place) (p : Place) → (o' ≡ o) ⊎ (o' ≡ Non
 source-before o o' p (inl e) h = sym e ∙ h
 source-before o o' p (inr e) h = absurd (none-is-no-some o' p e h)
 
--- the word of a place is the same behind a step, where what it will be moved from isn't written
+-- the word of a place is the same after a step, where what it will be moved from isn't written
 word-kept : (f g : Words) (q : Place) (o : Option Place) → g q ≡ f q → ((p : Place) → o ≡ Some p → g p ≡ f p) → word_from g q o ≡ word_from f q o
 word-kept f g q None e h = e
 word-kept f g q (Some p) e h = h p refl

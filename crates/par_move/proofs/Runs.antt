@@ -2,7 +2,7 @@
 use Rattle.std.proofs.Common.{◌≡◌, ◌≢◌, ℕ, ◌+◌, ◌<◌, ◌≤◌, ◌⊎◌, Option, Some, None, is_some, Result, Ok, Err, IfOk, List, [], ◌∷◌, ◌++◌, set, refl, sym, ap, subst, ◌∙◌, inl, inr, ⊎_elim, arith}
 use Rattle.std.proofs.lemmas.Bool.{false≢true, cases_eq, cases_lt}
 use Rattle.std.proofs.lemmas.List.{length_push}
-use Rattle.slot_placement.specs.declared.place.Place.{Place}
+use Rattle.placement.specs.declared.place.Place.{Place}
 use Rattle.par_move.specs.Moves.{Move, temporary}
 use Rattle.par_move.specs.inner.Pending.{number, Table, source_at, readings, pending_count, IsPending, HasTarget, FreeGoTo, Ran, Turned}
 use Rattle.par_move.proofs.Numbers.{number-injective}
@@ -80,7 +80,7 @@ each-read src h k w = ⊎_elim (λ (a : readings src k < 1). absurd (h k w (omeg
 pub temporary-unread : (src : Table) → FreeGoTo src [] → source_at src (number temporary) ≡ None → readings src (number temporary) ≡ 0
 temporary-unread src h e = nothing-else-read (number temporary) src (ap is_some e) (each-read src h)
 
--- behind a source that is put aside, its place alone comes free
+-- after a source that is put aside, its place alone comes free
 pub free-saved : (src : Table) (p t : Place) → source_at src (number t) ≡ Some p → FreeGoTo src [] → FreeGoTo (set src (number t) (Some temporary)) ((p, p) ∷ [])
 free-saved src p t e h k w z = ⊎_elim
     (λ (same : number p ≡ k). inl same)

@@ -2,9 +2,9 @@
 use Rattle.std.proofs.Common.{◌≡◌, ◌≢◌, ℕ, ◌<◌, Bool, true, false, if◌then◌else◌, ◌⊎◌, Option, Some, None, is_some, List, [], ◌∷◌, ◌++◌, length, set, refl, sym, ap, subst, ◌∙◌, inl, inr}
 use Rattle.std.proofs.lemmas.Bool.{false≢true}
 use Rattle.std.proofs.lemmas.List.{get_or-set_same, get_or-set_other}
-use Rattle.slot_placement.specs.declared.place.Place.{Place}
-use Rattle.slot_placement.specs.Places.{same_place}
-use Rattle.slot_placement.proofs.Places.{same_place-true, same_place-from, same_place-false}
+use Rattle.placement.specs.declared.place.Place.{Place}
+use Rattle.placement.specs.Places.{same_place}
+use Rattle.placement.proofs.Places.{same_place-true, same_place-from, same_place-false}
 use Rattle.par_move.specs.Moves.{Move, Words, temporary, put, one_by_one}
 use Rattle.par_move.specs.inner.Pending.{number, numbers, Table, source_at, reads, readings, pending_count, IsPending, HasTarget, AreApart, word_from, left_by, StandForRest, Counted, Stands, GoTo, FreeGoTo, Ran}
 use Rattle.par_move.specs.inner.Pending as inner
@@ -63,7 +63,7 @@ tail-target ms s t q h (inr x) = x
 apart-other : (ms : List Move) (t : Place) (k : ℕ) → (HasTarget ms (number t) → ⊥) → HasTarget ms k → k ≡ number t → ⊥
 apart-other ms t k h x e = h (subst (λ n. HasTarget ms n) e x)
 
--- behind the change of one entry the others are as before
+-- after the change of one entry the others are as before
 other-entries : (src : Table) (q t : Place) (o : Option Place) (ms r : List Move) → t ≡ q → (HasTarget ms (number t) → ⊥) → StandForRest (set src (number q) o) ms r → StandForRest src ms r
 other-entries src q t o ms r same a d = rest-same src (set src (number q) o) ms r (λ k y. entry-other src (number q) k o (λ e. apart-other ms t k a y (e ∙ ap number (sym same)))) d
 

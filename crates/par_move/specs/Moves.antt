@@ -1,8 +1,8 @@
 -- Moves of words between places: what they do all at once, what they do one by one, and which single moves stand for them.
 use Rattle.std.specs.Prelude.{◌≢◌, ℕ, List, [], ◌∷◌, ◌++◌, if◌then◌else◌, All, AllPairs}
-use Rattle.slot_placement.specs.declared.place.Place.{Place}
-use Rattle.slot_placement.specs.declared.place.Place.TheVariants.{A}
-use Rattle.slot_placement.specs.Places.{same_place}
+use Rattle.placement.specs.declared.place.Place.{Place}
+use Rattle.placement.specs.declared.place.Place.TheVariants.{A}
+use Rattle.placement.specs.Places.{same_place}
 
 -- a move of a word: from the first place to the second
 abbrev pub Move : Type 0
@@ -20,7 +20,7 @@ temporary = A 15
 abbrev pub put : Words → Place → ℕ → Words
 put e p w = λ q. if same_place q p then w else e q
 
--- what moves leave that are done one behind the other: each takes the word that its source has by then
+-- what moves leave that are done one after the other: each takes the word that its source has by then
 abbrev pub one_by_one : List Move → Words → Words
 one_by_one [] e = e
 one_by_one (m ∷ ms) e = one_by_one ms (put e m.1 (e m.0))

@@ -2,12 +2,12 @@
 
 ghost use Rattle.std.specs.Prelude.{ℕ, ◌≡◌, ◌≢◌, ◌+◌, ◌*◌, ◌≤◌, [], IfOk, length};
 ghost use Rattle.par_move.specs.Moves.{Words, HaveOwnTargets, SpareTemporary, IsNoTarget, StandFor, all_at_once, one_by_one, temporary};
-ghost use Rattle.slot_placement.specs.declared.place.Place as places;
+ghost use Rattle.placement.specs.declared.place.Place as places;
 ghost use Rattle.par_move.specs.inner.Pending.{Counted, Stands, FreeGoTo, GoTo, pending_count};
 
 use crate::pending::Pending;
 use nv_base::NoMemory;
-use slot_placement::Place;
+use placement::Place;
 use std::alloc::Global;
 
 /// Does the moves that no cycle holds up.
@@ -47,7 +47,7 @@ fn turn_all(pending: &mut Pending, moves: &[(Place, Place)]) -> Result<(), NoMem
     Ok(())
 }
 
-/// Single moves that, one behind the other, do what the moves do all at once; each move is its source and its target.
+/// Single moves that, one after the other, do what the moves do all at once; each move is its source and its target.
 ///
 /// Where moves go in a circle, one source waits in the compiler's own register, `A(15)`, which is left with any word.
 pub fn sequence(alloc: Global, moves: &[(Place, Place)]) -> Result<Vec<(Place, Place)>, NoMemory>

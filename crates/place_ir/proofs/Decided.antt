@@ -7,23 +7,23 @@ use Rattle.nv_base.specs.Sets.{is_in, Within}
 use Rattle.nv_base.proofs.Sets.{same-number}
 use Rattle.ssu_ir.specs.Tree.{Label}
 use Rattle.ssu_ir.specs.Points as pure
-use Rattle.ssu_ir.specs.Points.{Point, points, IsHeld}
+use Rattle.ssu_ir.specs.Points.{Point, points, IsLive}
 use Rattle.ssu_ir.specs.Single.{single}
-use Rattle.ssu_ir.proofs.Held.{points_held}
-use Rattle.slot_placement.specs.declared.place.Pass.{Pass}
-use Rattle.slot_placement.specs.Plan.{Home, Plan}
-use Rattle.slot_placement.specs.Uses.{accesses, Value, place_values, values, reads_at, place_accesses, uses}
-use Rattle.slot_placement.specs.Fits.{IsHoused, wants_home, IsServed, KeepsRead, FitsAt, at_operand, use_operand, Fits}
-use Rattle.held_values.specs.inner.Numbers.{values_among}
-use Rattle.place_checks.specs.inner.Found.{nowhere, place_at, place_node, value_in}
-use Rattle.place_checks.specs.inner.Checks.{all_below, has_home, value_fits, access_fits, held_fits, keeps_read, word_fits, operands_fit, passes_fit, point_fits, rise, is_wanted, firsts_fit, serves_fit, is_there, lists_fit, use_fits, does_fit, found}
-use Rattle.held_values.proofs.Scoped.{in-itself, in-either}
-use Rattle.slot_placement.proofs.Sound.{Each, entry_params, Sound, uses_among, sound-points}
-use Rattle.slot_placement.proofs.Spilled.{each-all, all-each, each-at, each-weaker, used-wanted, param_vars, params-wanted}
-use Rattle.slot_placement.proofs.Fitting.{uses-are, values-are, entries-in}
-use Rattle.place_checks.proofs.Recovered.{named-points, serves-listed, listed-serves, found-uses}
-use Rattle.place_checks.proofs.Walked.{get-within, get-there}
-use Rattle.place_checks.proofs.Valued.{each-values, values-part, each-accesses, accesses-part, each-of, of-each, IsPlaced, placed-from, placed-to}
+use Rattle.ssu_ir.proofs.Liveness.{points_held}
+use Rattle.placement.specs.declared.place.Pass.{Pass}
+use Rattle.placement.specs.Plan.{Home, Plan}
+use Rattle.placement.specs.Uses.{accesses, Value, place_values, values, reads_at, place_accesses, uses}
+use Rattle.placement.specs.Fits.{IsHoused, wants_home, IsServed, KeepsRead, FitsAt, at_operand, use_operand, Fits}
+use Rattle.ssu_liveness.specs.inner.Numbers.{values_among}
+use Rattle.placement_checks.specs.inner.NodeLookups.{nowhere, place_at, place_node, value_in}
+use Rattle.placement_checks.specs.inner.Checks.{all_below, has_home, value_fits, access_fits, live_fits, keeps_read, word_fits, operands_fit, passes_fit, point_fits, rise, is_wanted, firsts_fit, serves_fit, is_there, lists_fit, use_fits, does_fit, found}
+use Rattle.ssu_liveness.proofs.Scoped.{in-itself, in-either}
+use Rattle.placement.proofs.Sound.{Each, entry_params, Sound, uses_among, sound-points}
+use Rattle.placement.proofs.Spilled.{each-all, all-each, each-at, each-weaker, used-wanted, param_vars, params-wanted}
+use Rattle.placement.proofs.Fitting.{uses-are, values-are, entries-in}
+use Rattle.placement_checks.proofs.Recovered.{named-points, serves-listed, listed-serves, found-uses}
+use Rattle.placement_checks.proofs.Walked.{get-within, get-there}
+use Rattle.placement_checks.proofs.Valued.{each-values, values-part, each-accesses, accesses-part, each-of, of-each, IsPlaced, placed-from, placed-to}
 use Rattle.place_ir.proofs.Ruled.{rise-from, rise-to, wanting, wanted-from, wanted-to, firsts-from, firsts-to, HasFirst, access-from, access-to, served-from, served-to}
 use Rattle.place_ir.proofs.Pointed.{Known, at-home, held-from, held-to, reads-from, reads-to, waiting-from, waiting-to, operands-from, operands-to, passes-from, passes-to, place-is}
 
@@ -78,7 +78,7 @@ placed-each : (labels : List Label) (p : Plan) (vs : List Value) → ((x : ℕ) 
 placed-each labels p [] h g = tt
 placed-each labels p (v ∷ vs) h g = (record { has = λ f. h v.var (wanting-first labels v vs f); housed = g.0 }, placed-each labels p vs (λ x e. h x (in-wanting labels v vs x e)) g.1)
 
--- a value that is held at a point wants a home
+-- a value that is live at a point wants a home
 before-wanted : (labels : List Label) (k : ℕ) (q : Point) (x : ℕ) → single labels ≡ true → slice_get (points labels) k ≡ Some q → is_in x q.before ≡ true → is_in x (wanting labels (values labels)) ≡ true
 before-wanted labels k q x h e b =
     let ps = points labels in
@@ -93,7 +93,7 @@ before-wanted labels k q x h e b =
 
 after-wanted : (labels : List Label) (k : ℕ) (q : Point) (x : ℕ) → single labels ≡ true → slice_get (points labels) k ≡ Some q → is_in x q.after ≡ true → is_in x (pure.place_values q.place) ≡ false → is_in x (wanting labels (values labels)) ≡ true
 after-wanted labels k q x h e b n =
-    let held = each-at IsHeld (points labels) k q (all-each IsHeld (points labels) (points_held labels h)) e in
+    let held = each-at IsLive (points labels) k q (all-each IsLive (points labels) (points_held labels h)) e in
     before-wanted labels k q x h e (⊎_elim
     (λ (g : is_in x q.before ≡ true). g)
     (λ (g : is_in x (pure.place_values q.place) ≡ true). absurd (false≢true (sym n ∙ g)))
@@ -105,7 +105,7 @@ after-wanted labels k q x h e b n =
 record PointTests (labels : List Label) (p : Plan) (k : ℕ) : Type 0 where
   values_ : list_all (value_fits (found labels p) p) (place_values k (place_at labels k)) ≡ true
   access : access_fits p k (place_node (place_at labels k)) ≡ true
-  held : list_all (λ h. held_fits labels p k h.var) p.homes ≡ true
+  held : list_all (λ h. live_fits labels p k h.var) p.homes ≡ true
   reads : keeps_read labels p k (place_node (place_at labels k)) ≡ true
   words : list_all (word_fits labels p k) (found labels p) ≡ true
   operands : operands_fit p k (place_node (place_at labels k)) ≡ true
@@ -115,7 +115,7 @@ point-parts : (labels : List Label) (p : Plan) (k : ℕ) → point_fits labels p
 point-parts labels p k h =
     let t1 = list_all (value_fits (found labels p) p) (place_values k (place_at labels k)) in
     let t2 = access_fits p k (place_node (place_at labels k)) in
-    let t3 = list_all (λ h. held_fits labels p k h.var) p.homes in
+    let t3 = list_all (λ h. live_fits labels p k h.var) p.homes in
     let t4 = keeps_read labels p k (place_node (place_at labels k)) in
     let t5 = list_all (word_fits labels p k) (found labels p) in
     let t6 = operands_fit p k (place_node (place_at labels k)) in
@@ -132,7 +132,7 @@ point-whole : (labels : List Label) (p : Plan) (k : ℕ) → PointTests labels p
 point-whole labels p k h =
     let t1 = list_all (value_fits (found labels p) p) (place_values k (place_at labels k)) in
     let t2 = access_fits p k (place_node (place_at labels k)) in
-    let t3 = list_all (λ h. held_fits labels p k h.var) p.homes in
+    let t3 = list_all (λ h. live_fits labels p k h.var) p.homes in
     let t4 = keeps_read labels p k (place_node (place_at labels k)) in
     let t5 = list_all (word_fits labels p k) (found labels p) in
     let t6 = operands_fit p k (place_node (place_at labels k)) in

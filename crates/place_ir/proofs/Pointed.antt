@@ -12,26 +12,26 @@ use Rattle.ssu_ir.proofs.Lists.{same_tests}
 use Rattle.ssu_ir.proofs.Searches.{or-false}
 use Rattle.ssu_ir.specs.Tree.{Lit, Una, Bin, Clone, Read, Write, Jump, Halt, Label, Does, Forks, Ends}
 use Rattle.ssu_ir.specs.Points as pure
-use Rattle.ssu_ir.specs.Points.{Place as Spot, Entry, At, Point, points}
+use Rattle.ssu_ir.specs.Points.{PointKind as Spot, Entry, At, Point, points}
 use Rattle.ssu_ir.specs.Single.{single}
-use Rattle.slot_placement.specs.declared.place.Place.{Place}
-use Rattle.slot_placement.specs.declared.place.Place.TheVariants.{A, B, L, LD, S, SD, Slot}
-use Rattle.slot_placement.specs.Places.{same_place}
-use Rattle.slot_placement.specs.Plan.{Home, Plan, home, first, serve, pass}
-use Rattle.slot_placement.specs.Uses.{Sort, Parameter, Fetched, Value, numbered, place_values, reads_at, writes_at, Role, Argument, Ending, roles, place_roles, Use, uses_at, uses, is_used}
-use Rattle.slot_placement.specs.Fits as rules
-use Rattle.slot_placement.specs.Fits.{read_place, write_place, is_general, is_slot, is_read_register, served, word_register, is_early, has_place, none_shared, general_places, read_places, kept_register, maybe, run_of, is_waiting, same_use, IsEighth, KeepsHeld, point_values, KeepsRead, Waits, KeepsWaiting, AreApart, comes_to_slot, PassesSlots, FitsAt}
-use Rattle.place_checks.specs.inner.Found.{place_at, below_at, place_node}
-use Rattle.place_checks.specs.inner.Checks as checks
-use Rattle.place_checks.specs.inner.Checks.{any_below, is_within, in_read_run, in_write_run, used, is_kept, is_known, is_before, is_after, has_home, is_shared, general_apart, values_apart, may_meet, goes_through, passes_by, held_fits, spares, keeps_read, waits, is_written, is_free, is_other, word_fits, operands_fit, has_use, any_from_slot, reads_slot, reads_fit, is_result, to_slot, writes_fit, passes_fit, found}
-use Rattle.slot_placement.proofs.Places.{same_place-true, same_place-from, same_place-false}
-use Rattle.held_values.proofs.Scoped.{in-itself}
-use Rattle.slot_placement.proofs.Sound.{Each, length-of-map}
-use Rattle.slot_placement.proofs.Spilled.{each-all, all-each, none-with-nothing}
-use Rattle.slot_placement.proofs.Fitting.{vars-of-place}
-use Rattle.place_checks.proofs.Recovered.{Named, names_of, many-names, made, made-point, point-there, named-at, named-points}
-use Rattle.place_checks.proofs.Seen.{and-true', and-nothing, before-is, after-is, known-is, below-at, below-from}
-use Rattle.place_checks.proofs.Valued.{any-filter, used-is}
+use Rattle.placement.specs.declared.place.Place.{Place}
+use Rattle.placement.specs.declared.place.Place.TheVariants.{A, B, L, LD, S, SD, Slot}
+use Rattle.placement.specs.Places.{same_place}
+use Rattle.placement.specs.Plan.{Home, Plan, home, first, serve, pass}
+use Rattle.placement.specs.Uses.{ValueOrigin, Parameter, Fetched, Value, numbered, place_values, reads_at, writes_at, Role, Argument, Ending, roles, place_roles, Use, uses_at, uses, is_used}
+use Rattle.placement.specs.Fits as rules
+use Rattle.placement.specs.Fits.{read_place, write_place, is_general, is_slot, is_read_register, served, word_register, is_early, has_place, none_shared, general_places, read_places, kept_register, maybe, run_of, is_waiting, same_use, IsEighth, KeepsHeld, point_values, KeepsRead, Waits, KeepsWaiting, AreApart, comes_to_slot, PassesSlots, FitsAt}
+use Rattle.placement_checks.specs.inner.NodeLookups.{place_at, below_at, place_node}
+use Rattle.placement_checks.specs.inner.Checks as checks
+use Rattle.placement_checks.specs.inner.Checks.{any_below, is_within, in_read_run, in_write_run, used, is_kept, is_known, is_before, is_after, has_home, is_shared, general_apart, values_apart, may_meet, goes_through, passes_by, live_fits, spares, keeps_read, waits, is_written, is_free, is_other, word_fits, operands_fit, has_use, any_from_slot, reads_slot, reads_fit, is_result, to_slot, writes_fit, passes_fit, found}
+use Rattle.placement.proofs.Places.{same_place-true, same_place-from, same_place-false}
+use Rattle.ssu_liveness.proofs.Scoped.{in-itself}
+use Rattle.placement.proofs.Sound.{Each, length-of-map}
+use Rattle.placement.proofs.Spilled.{each-all, all-each, none-with-nothing}
+use Rattle.placement.proofs.Fitting.{vars-of-place}
+use Rattle.placement_checks.proofs.Recovered.{Named, names_of, many-names, made, made-point, point-there, named-at, named-points}
+use Rattle.placement_checks.proofs.Seen.{and-true', and-nothing, before-is, after-is, known-is, below-at, below-from}
+use Rattle.placement_checks.proofs.Valued.{any-filter, used-is}
 
 -- ---- values that have homes
 
@@ -99,14 +99,14 @@ pub record Known (labels : List Label) (p : Plan) : Type 0 where
   pub single_ : single labels ≡ true
   pub found_ : found labels p ≡ uses labels
 
--- ---- values that are held
+-- ---- live values
 
 pub held-from : (labels : List Label) (p : Plan) (k : ℕ) (q : Point) → Known labels p → slice_get (points labels) k ≡ Some q → ((x : ℕ) → is_in x q.before ≡ true → has_home p x ≡ true)
-    → list_all (λ h. held_fits labels p k h.var) p.homes ≡ true → KeepsHeld labels p k q
+    → list_all (λ h. live_fits labels p k h.var) p.homes ≡ true → KeepsHeld labels p k q
 held-from labels p k q w e homed h =
     let us = found labels p in
     let fits : (x : ℕ) → is_in x q.before ≡ true → (passes_by labels p k x && list_all (λ h. may_meet labels p k x h.var) p.homes) ≡ true = λ x b.
-    let f = at-home (held_fits labels p k) p.homes x h (homed x b) in
+    let f = at-home (live_fits labels p k) p.homes x h (homed x b) in
     ⊎_elim
     (λ (c : not (is_before labels p k x) ≡ true). absurd (false≢true (sym (not-true (is_before labels p k x) c) ∙ before-is labels p k q x w.single_ w.found_ e ∙ b)))
     (λ (c : (passes_by labels p k x && list_all (λ h. may_meet labels p k x h.var) p.homes) ≡ true). c)
@@ -133,7 +133,7 @@ held-from labels p k q w e homed h =
           ∙ (and_parts (passes_by labels p k x) (list_all (λ h. may_meet labels p k x h.var) p.homes) (fits x a)).0;
     }
 
-pub held-to : (labels : List Label) (p : Plan) (k : ℕ) (q : Point) → Known labels p → slice_get (points labels) k ≡ Some q → KeepsHeld labels p k q → list_all (λ h. held_fits labels p k h.var) p.homes ≡ true
+pub held-to : (labels : List Label) (p : Plan) (k : ℕ) (q : Point) → Known labels p → slice_get (points labels) k ≡ Some q → KeepsHeld labels p k q → list_all (λ h. live_fits labels p k h.var) p.homes ≡ true
 held-to labels p k q w e h =
     let us = found labels p in
     let kept : (x y : ℕ) → Bool = λ x y. not (same_place (home p x).defined (home p y).defined && (checks.stays us p x && checks.stays us p y)) in
@@ -151,7 +151,7 @@ held-to labels p k q w e h =
     (λ (b : is_before labels p k y ≡ false). or_right (values_apart labels p x y) (not (is_before labels p k y)) (not_from_false (is_before labels p k y) b))
     (cases_Bool (is_before labels p k y))))
     (cases_Bool (nat_eq x y)) in
-    of-homes (held_fits labels p k) p.homes
+    of-homes (live_fits labels p k) p.homes
     (λ x. ⊎_elim
     (λ (a : is_before labels p k x ≡ true). or_right (not (is_before labels p k x)) (passes_by labels p k x && list_all (λ h. may_meet labels p k x h.var) p.homes)
     (and_from (passes_by labels p k x) (list_all (λ h. may_meet labels p k x h.var) p.homes)
@@ -513,11 +513,11 @@ used-values labels k q = any-vars (is_used labels) (place_values k q) ∙ ap (li
 abbrev slot-value : List Label → Plan → Bool → ℕ → Bool
 slot-value labels p r x = is_used labels x && (list_any is_slot (home p x).copied || (r && is_slot (home p x).defined))
 
-slots-numbered : (labels : List Label) (p : Plan) (k i : ℕ) (sort : ℕ → Sort) (xs : List ℕ) → ((j : ℕ) → rules.is_result (sort j) ≡ false) → list_any (comes_to_slot labels p) (numbered k sort i xs) ≡ list_any (slot-value labels p false) xs
-slots-numbered labels p k i sort [] h = refl
-slots-numbered labels p k i sort (x ∷ xs) h =
-    ap (λ b. (is_used labels x && (list_any is_slot (home p x).copied || (b && is_slot (home p x).defined))) || list_any (comes_to_slot labels p) (numbered k sort (suc i) xs)) (h i)
-    ∙ ap (λ b. slot-value labels p false x || b) (slots-numbered labels p k (suc i) sort xs h)
+slots-numbered : (labels : List Label) (p : Plan) (k i : ℕ) (origin : ℕ → ValueOrigin) (xs : List ℕ) → ((j : ℕ) → rules.is_result (origin j) ≡ false) → list_any (comes_to_slot labels p) (numbered k origin i xs) ≡ list_any (slot-value labels p false) xs
+slots-numbered labels p k i origin [] h = refl
+slots-numbered labels p k i origin (x ∷ xs) h =
+    ap (λ b. (is_used labels x && (list_any is_slot (home p x).copied || (b && is_slot (home p x).defined))) || list_any (comes_to_slot labels p) (numbered k origin (suc i) xs)) (h i)
+    ∙ ap (λ b. slot-value labels p false x || b) (slots-numbered labels p k (suc i) origin xs h)
 
 slots-place : (labels : List Label) (p : Plan) (k : ℕ) (q : Spot) → list_any (comes_to_slot labels p) (place_values k q) ≡ list_any (slot-value labels p (is_result (place_node q))) (pure.place_values q)
 slots-place labels p k (Entry l ps) = slots-numbered labels p k 0 (Parameter l) ps (λ j. refl)

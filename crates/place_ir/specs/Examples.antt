@@ -1,11 +1,11 @@
 -- Small placements, to see the rules at work.
 use Rattle.std.specs.Prelude.{ℕ, Option, List, [], ◌∷◌}
-use Rattle.slot_placement.specs.declared.place.Place.{Place}
-use Rattle.slot_placement.specs.declared.place.Place.TheVariants.{A, B, L, S, Slot}
-use Rattle.slot_placement.specs.declared.place.First.{First}
-use Rattle.slot_placement.specs.declared.place.Serve.{Serve}
-use Rattle.slot_placement.specs.declared.place.Pass.{Pass}
-use Rattle.slot_placement.specs.Plan.{Home, Plan}
+use Rattle.placement.specs.declared.place.Place.{Place}
+use Rattle.placement.specs.declared.place.Place.TheVariants.{A, B, L, S, Slot}
+use Rattle.placement.specs.declared.place.First.{First}
+use Rattle.placement.specs.declared.place.Serve.{Serve}
+use Rattle.placement.specs.declared.place.Pass.{Pass}
+use Rattle.placement.specs.Plan.{Home, Plan}
 
 abbrev pub at_home : ℕ → Place → List Place → Home
 at_home x q copied = record { var = x; defined = q; copied = copied }
@@ -39,7 +39,7 @@ sum_through slots passes = record {
   passes = passes;
 }
 
--- places for two words that are read, written behind and added up: both stay in their read registers from the first of the read on; the
+-- places for two words that are read, written after and added up: both stay in their read registers from the first of the read on; the
 -- first is put early into its write register, and the address of the write comes into this place
 abbrev pub words_in : ℕ → ℕ → Place → List Place → Plan
 words_in read write address copied = record {

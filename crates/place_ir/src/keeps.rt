@@ -5,30 +5,30 @@ ghost use Rattle.std.specs.List.{list_all, list_any};
 ghost use Rattle.ssu_ir.specs.Slots.{node_of};
 ghost use Rattle.ssu_ir.specs.Points.{place_values};
 ghost use Rattle.ssu_ir.specs.View.{labels_view};
-ghost use Rattle.slot_placement.specs.Fits as rules;
-ghost use Rattle.slot_placement.specs.Fits.{general_places};
-ghost use Rattle.slot_placement.specs.Plan.{plan_view};
-ghost use Rattle.place_checks.specs.inner.Checks as checks;
-ghost use Rattle.place_checks.specs.inner.Checks.{found, use_view, word_place};
-ghost use Rattle.place_checks.specs.inner.Found.{place_at, place_node};
+ghost use Rattle.placement.specs.Fits as rules;
+ghost use Rattle.placement.specs.Fits.{general_places};
+ghost use Rattle.placement.specs.Plan.{plan_view};
+ghost use Rattle.placement_checks.specs.inner.Checks as checks;
+ghost use Rattle.placement_checks.specs.inner.Checks.{found, use_view, word_place};
+ghost use Rattle.placement_checks.specs.inner.NodeLookups.{place_at, place_node};
 
 use nv_base::Mem;
-use place_checks::lookups::{copied_of, defined_of, first_of, pass_of, serve_of};
-use place_checks::pieces::use_count;
-use place_checks::points::{has, is_above, node_at, values_at};
-use place_checks::registers::{
+use placement::{Place, Placement};
+use placement_checks::lookups::{copied_of, defined_of, first_of, pass_of, serve_of};
+use placement_checks::pieces::use_count;
+use placement_checks::points::{has, is_above, node_at, values_at};
+use placement_checks::registers::{
     Word, among, different_groups, has_slot, in_read_run, in_write_run, is_first, is_general,
     is_slot, is_through, same, same_word,
 };
-use place_checks::words::{
+use placement_checks::words::{
     Use, is_below, is_early, is_used, is_used_below, stays, use_of, word_of,
 };
-use slot_placement::{Place, Placement};
 use ssu_ir::{Ssu, SsuNode};
 
-// ---- values that are held
+// ---- live values
 
-/// Whether a value is held at a point.
+/// Whether a value is live at a point.
 fn is_before(s: &Ssu, p: &Placement, k: u128, x: u32) -> bool
     ensures { result ≡ checks.is_before (labels_view s.now) (plan_view p.now) k x }
 {
@@ -38,7 +38,7 @@ fn is_before(s: &Ssu, p: &Placement, k: u128, x: u32) -> bool
     }
 }
 
-/// Whether a value is held at a point that follows another directly.
+/// Whether a value is live at a point that follows another directly.
 fn is_after(s: &Ssu, p: &Placement, k: u128, x: u32) -> bool
     ensures { result ≡ checks.is_after (labels_view s.now) (plan_view p.now) k x }
 {
@@ -52,20 +52,20 @@ fn is_known(s: &Ssu, k: u128, x: u32) -> bool
     is_above(s, k, x) || has(values_at(s, k), x)
 }
 
-/// Whether no two values that are held at a point share a place.
+/// Whether no two live values at a point share a place.
 pub fn keeps_held(s: &Ssu, p: &Placement, k: u128) -> bool
-    ensures { result ≡ list_all (λ h. checks.held_fits (labels_view s.now) (plan_view p.now) k h.var) (plan_view p.now).homes }
+    ensures { result ≡ list_all (λ h. checks.live_fits (labels_view s.now) (plan_view p.now) k h.var) (plan_view p.now).homes }
 {
     for h in &p.homes {
-        if !held_fits(s, p, k, h.var) {
+        if !live_fits(s, p, k, h.var) {
             return false;
         }
     }
     true
 }
 
-fn held_fits(s: &Ssu, p: &Placement, k: u128, x: u32) -> bool
-    ensures { result ≡ checks.held_fits (labels_view s.now) (plan_view p.now) k x }
+fn live_fits(s: &Ssu, p: &Placement, k: u128, x: u32) -> bool
+    ensures { result ≡ checks.live_fits (labels_view s.now) (plan_view p.now) k x }
 {
     !is_before(s, p, k, x) || (passes_by(s, p, k, x) && is_apart(s, p, k, x))
 }
@@ -80,7 +80,7 @@ fn passes_by(s: &Ssu, p: &Placement, k: u128, x: u32) -> bool
     }
 }
 
-/// Whether a value shares no place with another that is held at a point.
+/// Whether a value shares no place with another that is live at a point.
 fn is_apart(s: &Ssu, p: &Placement, k: u128, x: u32) -> bool
     ensures { result ≡ list_all (λ h. checks.may_meet (labels_view s.now) (plan_view p.now) k x h.var) (plan_view p.now).homes }
 {
@@ -174,7 +174,7 @@ fn spares(s: &Ssu, p: &Placement, k: u128, m: Mem, xs: &[u32], x: u32) -> bool
 
 // ---- words that wait
 
-/// Whether the words that wait behind a point have registers of their own.
+/// Whether the words that wait after a point have registers of their own.
 pub fn keeps_waiting(s: &Ssu, p: &Placement, k: u128) -> bool
     ensures { result ≡ list_all (checks.word_fits (labels_view s.now) (plan_view p.now) k) (found (labels_view s.now) (plan_view p.now)) }
 {
@@ -192,7 +192,7 @@ fn word_fits(s: &Ssu, p: &Placement, k: u128, u: Use) -> bool
     !waits(s, p, k, u) || (is_free(s, p, k, word_of(p, u)) && is_alone(s, p, k, u))
 }
 
-/// Whether the word of a use waits behind a point.
+/// Whether the word of a use waits after a point.
 fn waits(s: &Ssu, p: &Placement, k: u128, u: Use) -> bool
     ensures { result ≡ checks.waits (labels_view s.now) (plan_view p.now) k (use_view u) }
 {

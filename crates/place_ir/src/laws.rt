@@ -1,22 +1,22 @@
 //! Laws of the definitions in specs/: each is the contract of a function that does nothing.
 
 ghost use Rattle.std.specs.Prelude.{◌≡◌, ◌≤◌, ◌+◌, ℕ, true, Some, None, List, [], ◌∷◌, All, Contains, map, filter};
-ghost use Rattle.slot_placement.specs.Costs.{defined_cost, copied_cost, served_cost};
-ghost use Rattle.slot_placement.specs.Uses.{Parameter, Result};
-ghost use Rattle.slot_placement.specs.declared.place.Place.TheVariants.{A, B, L, S, Slot};
+ghost use Rattle.placement.specs.Costs.{defined_cost, copied_cost, served_cost};
+ghost use Rattle.placement.specs.Uses.{Parameter, Result};
+ghost use Rattle.placement.specs.declared.place.Place.TheVariants.{A, B, L, S, Slot};
 ghost use Rattle.ssu_ir.specs.Examples.{sum_of_two, copied_and_added};
 ghost use Rattle.ssu_ir.specs.Points.{points};
 ghost use Rattle.ssu_ir.specs.Single.{single};
 ghost use Rattle.ssu_ir.specs.Tree.{Label};
 ghost use Rattle.place_ir.specs.Examples.{at_home, serve_at, pass_at, sum_in, sum_through, words_in};
-ghost use Rattle.slot_placement.specs.Fits.{Fits, Rises, wants_home};
-ghost use Rattle.slot_placement.specs.Plan.{Home, Plan};
-ghost use Rattle.slot_placement.specs.Uses.{values};
+ghost use Rattle.placement.specs.Fits.{Fits, Rises, wants_home};
+ghost use Rattle.placement.specs.Plan.{Home, Plan};
+ghost use Rattle.placement.specs.Uses.{values};
 ghost use Rattle.nv_base.specs.Sets.{Within};
-ghost use Rattle.held_values.specs.inner.Numbers.{Numbers};
-ghost use Rattle.slot_placement.specs.inner.Spilled.{spilled, value_home, AreSpilled, IsNumbered};
+ghost use Rattle.ssu_liveness.specs.inner.Numbers.{Numbers};
+ghost use Rattle.placement.specs.inner.Spilled.{spilled, value_home, AreSpilled, IsNumbered};
 
-/// A placement in slots alone fits, where at each point the values that are held have different slots
+/// A placement in slots alone fits, where at each point the live values have different slots
 /// among those that may be used.
 pub fn slots_alone_fit()
     ensures { (labels : List Label) (number : Numbers) (slots : ℕ) (homes : List Home) → single labels ≡ true → slots ≤ 128 → All (IsNumbered number slots) (points labels) → AreSpilled labels number homes → Fits labels (spilled labels number slots homes) }

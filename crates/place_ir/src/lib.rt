@@ -6,8 +6,8 @@ mod keeps;
 mod laws;
 
 pub use checking::fits;
-pub use held_values::{
-    Copies, Slots, Spot, copies_of, held, peak, row_numbers, spots_of, value_of,
-};
 pub use label_weights::Weights;
-pub use slot_placement::{First, Home, Pass, Place, PlaceError, Placement, Serve, spill_all};
+pub use placement::{First, Home, Pass, Place, PlaceError, Placement, Serve, spill_all};
+pub use ssu_liveness::{
+    Copies, PointId, Slots, copies_of, held, peak, point_ids_of, row_numbers, value_of,
+};

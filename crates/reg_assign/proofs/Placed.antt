@@ -6,25 +6,25 @@ use Rattle.std.proofs.lemmas.List.{at_drop_more, at_drop_all, append-nil}
 use Rattle.ssu_ir.specs.Tree.{Label}
 use Rattle.ssu_ir.specs.Points.{Point, points}
 use Rattle.ssu_ir.specs.Single.{single}
-use Rattle.slot_placement.specs.declared.place.Place.{Place}
-use Rattle.slot_placement.specs.declared.place.First.{First as KeptFirst}
-use Rattle.slot_placement.specs.declared.place.Serve.{Serve}
-use Rattle.slot_placement.specs.declared.place.Pass.{Pass}
-use Rattle.slot_placement.specs.declared.place.Home.{Home as KeptHome}
-use Rattle.slot_placement.specs.declared.place.Placement.{Placement}
-use Rattle.slot_placement.specs.Plan.{Home, Plan, home_view}
-use Rattle.slot_placement.specs.Uses.{Value, accesses, Use, uses, uses_of}
+use Rattle.placement.specs.declared.place.Place.{Place}
+use Rattle.placement.specs.declared.place.First.{First as KeptFirst}
+use Rattle.placement.specs.declared.place.Serve.{Serve}
+use Rattle.placement.specs.declared.place.Pass.{Pass}
+use Rattle.placement.specs.declared.place.Home.{Home as KeptHome}
+use Rattle.placement.specs.declared.place.Placement.{Placement}
+use Rattle.placement.specs.Plan.{Home, Plan, home_view}
+use Rattle.placement.specs.Uses.{Value, accesses, Use, uses, uses_of}
 use Rattle.bank_form.specs.declared.column.Bank.TheVariants.{A, B, M}
 use Rattle.bank_form.specs.declared.form.Value.{Value as KeptValue}
 use Rattle.bank_form.specs.Columns.{each_point}
 use Rattle.bank_prog.specs.Meaning.{Chosen}
-use Rattle.bank_form.specs.inner.Form.{value_view, use_view, access_view, stop_view, parts}
+use Rattle.bank_form.specs.inner.Form.{value_view, use_view, access_view, summary_view, parts}
 use Rattle.bank_form.proofs.Loops.{each-parts, flat-filter}
-use Rattle.reg_assign.specs.declared.given.Given.{Given}
-use Rattle.bank_places.specs.inner.ReadOff.{Numbers, goes_early, word_place, sort_place, place_in, fill_at, fills_of, copies_of, access_first, use_serve, pass_l, pass_s, pass_by, passes_from, read_off}
-use Rattle.reg_assign.specs.inner.Given.{labels_in, says_in, numbers_in}
-use Rattle.bank_places.specs.inner.Reading.{known_place, place_noted, early_word, wanted_home, part_pass, IsReadOff}
-use Rattle.bank_places.proofs.HomesRead.{homes-read}
+use Rattle.reg_assign.specs.declared.given.AssignmentInputs.{AssignmentInputs}
+use Rattle.bank_assignment.specs.inner.ReadOff.{Numbers, goes_early, word_place, origin_place, place_in, fill_at, fills_of, copies_of, access_first, use_serve, pass_l, pass_s, pass_by, passes_from, read_off}
+use Rattle.reg_assign.specs.inner.AssignmentInputs.{labels_in, says_in, numbers_in}
+use Rattle.bank_assignment.specs.inner.Reading.{known_place, place_noted, early_word, preferred_home, part_pass, IsReadOff}
+use Rattle.bank_assignment.proofs.HomesRead.{homes-read}
 
 -- ---- where values come
 
@@ -33,16 +33,16 @@ abbrev pub place_then : Option Place → Place → Place
 place_then (Some p) q = p
 place_then None q = q
 
-noted-then : (on : Chosen) (v : Value) (vs : List Value) (x : ℕ) (o : Option Place) → place_then (place_noted o v.var (sort_place on v.point v.sort) x) (place_in on vs x) ≡ place_then o (place_in on (v ∷ vs) x)
+noted-then : (on : Chosen) (v : Value) (vs : List Value) (x : ℕ) (o : Option Place) → place_then (place_noted o v.var (origin_place on v.point v.origin) x) (place_in on vs x) ≡ place_then o (place_in on (v ∷ vs) x)
 noted-then on v vs x (Some p) = refl
 noted-then on v vs x None = pick (nat_eq v.var x)
   where
-    pick : (b : Bool) → place_then (if b then Some (sort_place on v.point v.sort) else None) (place_in on vs x) ≡ (if b then sort_place on v.point v.sort else place_in on vs x)
+    pick : (b : Bool) → place_then (if b then Some (origin_place on v.point v.origin) else None) (place_in on vs x) ≡ (if b then origin_place on v.point v.origin else place_in on vs x)
     pick true = refl
     pick false = refl
 
 pub places-more : (on : Chosen) (vs : List KeptValue) (i : ℕ) (d : KeptValue) (x : ℕ) (old new : Option Place) (q goal : Place) → i < length vs
-    → new ≡ place_noted old (get_or vs i d).var q x → q ≡ sort_place on (get_or vs i d).point (value_view (get_or vs i d)).sort
+    → new ≡ place_noted old (get_or vs i d).var q x → q ≡ origin_place on (get_or vs i d).point (value_view (get_or vs i d)).origin
     → place_then old (place_in on (map value_view (drop i vs)) x) ≡ goal → place_then new (place_in on (map value_view (drop (i + 1) vs)) x) ≡ goal
 places-more on vs i d x old new q goal l e f h =
     let rest = map value_view (drop (i + 1) vs) in
@@ -110,11 +110,11 @@ plan-is labels slots n on numbers hs firsts serves passes d e f g =
     ∙ ap (λ l. a_plan slots hs (map (access_first on) (accesses labels)) l passes) f
     ∙ ap (λ l. a_plan slots hs (map (access_first on) (accesses labels)) (map (use_serve labels on numbers) (uses labels)) l) g
 
-pub is-read-off : (g : Given) (slots : ℕ) (built : List KeptHome) (p : Placement) → single (labels_in g) ≡ true → p.slots ≡ slots
-    → map home_view built ≡ flat_map (wanted_home (labels_in g) (says_in g) (numbers_in g)) (map value_view g.reading.form.tables.values.items) → IsPermutation built p.homes.items → IsNonDecreasingBy (λ h. h.var) p.homes.items
+pub is-read-off : (g : AssignmentInputs) (slots : ℕ) (built : List KeptHome) (p : Placement) → single (labels_in g) ≡ true → p.slots ≡ slots
+    → map home_view built ≡ flat_map (preferred_home (labels_in g) (says_in g) (numbers_in g)) (map value_view g.reading.form.tables.values.items) → IsPermutation built p.homes.items → IsNonDecreasingBy (λ h. h.var) p.homes.items
     → p.firsts.items ≡ map (access_first (says_in g)) (map access_view g.reading.form.tables.accesses.items)
     → p.serves.items ≡ map (use_serve (labels_in g) (says_in g) (numbers_in g)) (map use_view g.reading.form.tables.uses.items)
-    → p.passes.items ≡ flat_map (part_pass (says_in g)) (map stop_view g.reading.form.tables.stops.items)
+    → p.passes.items ≡ flat_map (part_pass (says_in g)) (map summary_view g.reading.form.tables.summaries.items)
     → IsReadOff (labels_in g) slots (says_in g) (numbers_in g) p
 is-read-off g slots built p form n homes perm up firsts serves passes =
     let labels = labels_in g in
@@ -122,9 +122,9 @@ is-read-off g slots built p form n homes perm up firsts serves passes =
     let numbers = numbers_in g in
     let right = g.reading.form.right in
     record {
-      homes = homes-read labels on numbers built p.homes.items form (homes ∙ ap (flat_map (wanted_home labels on numbers)) right.values) perm up;
+      homes = homes-read labels on numbers built p.homes.items form (homes ∙ ap (flat_map (preferred_home labels on numbers)) right.values) perm up;
       same = plan-is labels slots p.slots on numbers (map home_view p.homes.items) p.firsts.items p.serves.items p.passes.items n
           (firsts ∙ ap (map (access_first on)) right.accesses)
           (serves ∙ ap (map (use_serve labels on numbers)) right.uses)
-          (passes ∙ ap (flat_map (part_pass on)) right.stops ∙ parts-passes labels on);
+          (passes ∙ ap (flat_map (part_pass on)) right.summaries ∙ parts-passes labels on);
     }

@@ -6,10 +6,10 @@ use Rattle.ssu_ir.specs.declared.ssu.Ssu.{Ssu}
 use Rattle.ssu_ir.specs.Tree.{Label}
 use Rattle.ssu_ir.specs.Single.{single}
 use Rattle.ssu_ir.specs.View.{labels_view}
-use Rattle.slot_placement.specs.declared.place.Placement.{Placement}
-use Rattle.slot_placement.specs.Costs.{cost}
-use Rattle.slot_placement.specs.Fits.{Fits}
-use Rattle.slot_placement.specs.Plan.{Plan, home_view, plan_view}
+use Rattle.placement.specs.declared.place.Placement.{Placement}
+use Rattle.placement.specs.Costs.{cost}
+use Rattle.placement.specs.Fits.{Fits}
+use Rattle.placement.specs.Plan.{Plan, home_view, plan_view}
 use Rattle.zo_model.specs.declared.program.Assignment.{Assignment}
 use Rattle.zo_model.specs.Program.{vector, costs_of}
 use Rattle.bank_form.specs.Columns.{priced, costs}
@@ -17,20 +17,20 @@ use Rattle.bank_prog.specs.Weighted.{weighted_costs}
 use Rattle.bank_prog.specs.Meaning.{on, named_cost, IsFeasible}
 use Rattle.bank_prog.proofs.LawsColumns.{on-there}
 use Rattle.bank_prog.proofs.LawsCost.{costs-by-name}
-use Rattle.reg_assign.specs.declared.given.Given.{Given}
-use Rattle.home_numbers.specs.declared.homes.HomeNumbers.{HomeNumbers}
-use Rattle.bank_places.specs.declared.reading.Reading.{Reading}
+use Rattle.reg_assign.specs.declared.given.AssignmentInputs.{AssignmentInputs}
+use Rattle.register_numbers.specs.declared.homes.HomeNumbers.{HomeNumbers}
+use Rattle.bank_assignment.specs.declared.reading.Reading.{Reading}
 use Rattle.label_weights.specs.ByLabel.{label_cost}
 use Rattle.label_weights.specs.Weighted.{weighted_cost}
-use Rattle.bank_places.specs.ByLabel.{label_price}
-use Rattle.bank_places.specs.inner.Facts.{OnlyThere}
-use Rattle.bank_places.specs.inner.ReadOff.{Numbers, AreNumbered, read_off}
-use Rattle.reg_assign.specs.inner.Given.{labels_in, says_in, numbers_in}
-use Rattle.bank_places.specs.inner.Reading.{labels_of, says, IsReadOff}
-use Rattle.home_numbers.specs.inner.Chosen.{numbers_of}
-use Rattle.bank_places.proofs.CostAll.{plan-cost, label-paid}
-use Rattle.bank_places.proofs.Weighed.{weighted-paid}
-use Rattle.bank_places.proofs.FitAll.{read-off-fits}
+use Rattle.bank_assignment.specs.ByLabel.{label_price}
+use Rattle.bank_assignment.specs.inner.Facts.{OnlyThere}
+use Rattle.bank_assignment.specs.inner.ReadOff.{Numbers, AreNumbered, read_off}
+use Rattle.reg_assign.specs.inner.AssignmentInputs.{labels_in, says_in, numbers_in}
+use Rattle.bank_assignment.specs.inner.Reading.{labels_of, says, IsReadOff}
+use Rattle.register_numbers.specs.inner.Chosen.{numbers_of}
+use Rattle.bank_assignment.proofs.CostAll.{plan-cost, label-paid}
+use Rattle.bank_assignment.proofs.Weighed.{weighted-paid}
+use Rattle.bank_assignment.proofs.FitAll.{read-off-fits}
 
 -- what is promised of the placement of a vector
 pub record IsAssigned (labels : List Label) (n : ℕ) (v : ℕ → Bool) (p : Placement) : Type 0 where
@@ -71,7 +71,7 @@ placed-assigned s x n r b p es ex form few rows numbered it =
     let whole : IsAssigned (labels_of r) n v p = read-assigned (labels_of r) n v (numbers_of b) p form' few rows'' (numbered n few rows'') it in
     subst (λ (y : Assignment). IsAssigned (labels_view s) n (vector y.on.items) p) ex (subst (λ (t : Ssu). IsAssigned (labels_view t) n v p) es whole)
 
-pub assigned : {E : Type 0} (s : Ssu) (x : Assignment) (n : ℕ) (r : Reading) (b : HomeNumbers) (g : Given) (o : Outcome Placement E) → r.form.ssu.now ≡ s → r.x.now ≡ x → g.reading ≡ r → g.numbers ≡ b → single (labels_view s) ≡ true → n ≤ 128 → IsFeasible (labels_view s) n (vector x.on.items)
+pub assigned : {E : Type 0} (s : Ssu) (x : Assignment) (n : ℕ) (r : Reading) (b : HomeNumbers) (g : AssignmentInputs) (o : Outcome Placement E) → r.form.ssu.now ≡ s → r.x.now ≡ x → g.reading ≡ r → g.numbers ≡ b → single (labels_view s) ≡ true → n ≤ 128 → IsFeasible (labels_view s) n (vector x.on.items)
     → HasNumbers r b → IfOk o (IsReadOff (labels_in g) n (says_in g) (numbers_in g)) → IfOk o (IsAssigned (labels_view s) n (vector x.on.items))
 assigned s x n r b g o es ex er eb form few rows numbered it = IfOk-weaker o (IsReadOff (labels_in g) n (says_in g) (numbers_in g)) (IsAssigned (labels_view s) n (vector x.on.items))
     (λ p q.

@@ -3,32 +3,32 @@
 ghost use Rattle.std.specs.Prelude.{◌≡◌, ℕ, ◌≤◌, true, List, length, IfOk};
 ghost use Rattle.ssu_ir.specs.Single.{single};
 ghost use Rattle.ssu_ir.specs.View.{labels_view};
-ghost use Rattle.slot_placement.specs.Costs as costs;
-ghost use Rattle.slot_placement.specs.Fits.{Fits};
-ghost use Rattle.slot_placement.specs.Plan.{plan_view};
+ghost use Rattle.placement.specs.Costs as costs;
+ghost use Rattle.placement.specs.Fits.{Fits};
+ghost use Rattle.placement.specs.Plan.{plan_view};
 ghost use Rattle.zo_model.specs.Program.{vector, costs_of};
 ghost use Rattle.bank_form.specs.Columns as columns;
 ghost use Rattle.bank_prog.specs.Meaning.{IsFeasible};
 ghost use Rattle.bank_prog.specs.Weighted.{weighted_costs};
 ghost use Rattle.label_weights.specs.ByLabel as by_label;
 ghost use Rattle.label_weights.specs.Weighted as under_weights;
-ghost use Rattle.bank_places.specs.ByLabel.{label_price};
-ghost use Rattle.reg_assign.specs.inner.Given.{labels_in, says_in, numbers_in};
-ghost use Rattle.bank_places.specs.inner.Reading.{IsReadOff};
+ghost use Rattle.bank_assignment.specs.ByLabel.{label_price};
+ghost use Rattle.reg_assign.specs.inner.AssignmentInputs.{labels_in, says_in, numbers_in};
+ghost use Rattle.bank_assignment.specs.inner.Reading.{IsReadOff};
 
-use crate::given::{Given, given_of};
+use crate::given::{AssignmentInputs, given_of};
 use crate::homes::{by_variable, homes_of};
 use crate::serves::{firsts_of, passes_of, serves_of};
-use bank_places::reading::reading_of;
-use home_numbers::number_homes;
+use bank_assignment::reading::reading_of;
 use nv_base::NoMemory;
-use slot_placement::Placement;
+use placement::Placement;
+use register_numbers::number_homes;
 use ssu_ir::Ssu;
 use std::alloc::Global;
 use zo_model::Assignment;
 
 /// The placement that is read off.
-fn placed(alloc: Global, g: &Given<'_>, slots: u32) -> Result<Placement, NoMemory>
+fn placed(alloc: Global, g: &AssignmentInputs<'_>, slots: u32) -> Result<Placement, NoMemory>
     requires { single (labels_in g.now) ≡ true }
     ensures { IfOk result (IsReadOff (labels_in g.now) slots (says_in g.now) (numbers_in g.now)) }
 {
@@ -39,7 +39,7 @@ fn placed(alloc: Global, g: &Given<'_>, slots: u32) -> Result<Placement, NoMemor
         homes,
         firsts: firsts_of(alloc, &g.reading, &tables.accesses)?,
         serves: serves_of(alloc, g, &tables.uses)?,
-        passes: passes_of(alloc, &g.reading, &tables.stops)?,
+        passes: passes_of(alloc, &g.reading, &tables.summaries)?,
     })
 }
 

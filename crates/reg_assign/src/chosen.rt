@@ -4,20 +4,20 @@ ghost use Rattle.std.specs.Prelude.{◌≡◌, ℕ, true, List, length, map, IfO
 ghost use Rattle.ssu_ir.specs.Single.{single};
 ghost use Rattle.ssu_ir.specs.View.{labels_view};
 ghost use Rattle.label_weights.specs.Weighted as under_weights;
-ghost use Rattle.slot_placement.specs.Costs as costs;
-ghost use Rattle.slot_placement.specs.Fits.{Fits};
-ghost use Rattle.slot_placement.specs.Plan.{plan_view};
+ghost use Rattle.placement.specs.Costs as costs;
+ghost use Rattle.placement.specs.Fits.{Fits};
+ghost use Rattle.placement.specs.Plan.{plan_view};
 ghost use Rattle.zo_model.specs.Program.{vector, costs_of};
 ghost use Rattle.bank_form.specs.Columns as columns;
 ghost use Rattle.bank_prog.specs.Meaning.{IsFeasible};
 ghost use Rattle.bank_prog.specs.Weighted.{weighted_costs};
-ghost use Rattle.bank_places.specs.inner.Chosen as chosen;
+ghost use Rattle.bank_assignment.specs.inner.Chosen as chosen;
 
 use crate::plan_columns::all_on;
-use bank_places::plan_tables::plan_tables;
+use bank_assignment::plan_tables::plan_tables;
 use bank_prog::{Column, Form, column_names, form_of};
 use nv_base::NoMemory;
-use slot_placement::Placement;
+use placement::Placement;
 use ssu_ir::Ssu;
 use std::alloc::Global;
 use zo_model::Assignment;

@@ -2,22 +2,22 @@
 
 ghost use Rattle.std.specs.Prelude.{◌≡◌, ℕ, nat_eq, IfOk};
 ghost use Rattle.std.specs.HashMap.{get};
-ghost use Rattle.slot_placement.specs.Uses.{values};
-ghost use Rattle.bank_places.specs.inner.ReadOff as pure;
-ghost use Rattle.bank_places.specs.inner.Reading.{says, labels_of, known_place};
+ghost use Rattle.placement.specs.Uses.{values};
+ghost use Rattle.bank_assignment.specs.inner.ReadOff as pure;
+ghost use Rattle.bank_assignment.specs.inner.Reading.{says, labels_of, known_place};
 
-use crate::places::{Came, came_of};
-use bank_places::reading::Reading;
-use home_numbers::HomeNumbers;
+use crate::places::{ReadPlaces, read_places_of};
+use bank_assignment::reading::Reading;
 use nv_base::NoMemory;
+use register_numbers::HomeNumbers;
 use std::alloc::Global;
 
 /// What places are read off from.
 #[derive(Drop)]
-pub struct Given<'a> {
+pub struct AssignmentInputs<'a> {
     pub reading: Reading<'a>,
     pub numbers: HomeNumbers,
-    pub came: Came,
+    pub came: ReadPlaces,
     ghost right: { (x : ℕ) → known_place (get nat_eq came x) ≡ pure.place_in (says reading) (values (labels_of reading)) x },
 }
 
@@ -26,12 +26,12 @@ pub fn given_of<'a>(
     alloc: Global,
     reading: Reading<'a>,
     numbers: HomeNumbers,
-) -> Result<Given<'a>, NoMemory>
+) -> Result<AssignmentInputs<'a>, NoMemory>
     ensures reading { IfOk result (λ g. g.reading ≡ reading.entry) }
     ensures numbers { IfOk result (λ g. g.numbers ≡ numbers) }
 {
-    let came = came_of(alloc, &reading, &reading.form.tables.values)?;
-    Ok(Given {
+    let came = read_places_of(alloc, &reading, &reading.form.tables.values)?;
+    Ok(AssignmentInputs {
         reading,
         numbers,
         came,

@@ -3,23 +3,28 @@
 ghost use Rattle.std.specs.Prelude.{◌≡◌, ◌++◌, ℕ, map, filter, IfOk, OnOk};
 ghost use Rattle.std.specs.List.{flat_map};
 ghost use Rattle.std.specs.List.Sorted.{IsPermutation, IsNonDecreasingBy};
-ghost use Rattle.slot_placement.specs.Fits as fits;
-ghost use Rattle.slot_placement.specs.Plan.{home_view};
+ghost use Rattle.placement.specs.Fits as fits;
+ghost use Rattle.placement.specs.Plan.{home_view};
 ghost use Rattle.bank_form.specs.inner.Form.{use_view, value_view};
-ghost use Rattle.bank_places.specs.inner.ReadOff as pure;
-ghost use Rattle.reg_assign.specs.inner.Given.{labels_in, says_in, numbers_in};
-ghost use Rattle.bank_places.specs.inner.Reading.{says, early_word, wanted_home};
+ghost use Rattle.bank_assignment.specs.inner.ReadOff as pure;
+ghost use Rattle.reg_assign.specs.inner.AssignmentInputs.{labels_in, says_in, numbers_in};
+ghost use Rattle.bank_assignment.specs.inner.Reading.{says, early_word, preferred_home};
 
-use crate::given::Given;
-use crate::places::{home_place, sort_place, word_place};
-use bank_places::reading::Reading;
-use bank_prog::{Bank, Column, Sort, Use, Value};
+use crate::given::AssignmentInputs;
+use crate::places::{home_place, origin_place, word_place};
+use bank_assignment::reading::Reading;
+use bank_prog::{Bank, Column, Origin, Use, Value};
 use nv_base::NoMemory;
-use slot_placement::{Home, Place};
+use placement::{Home, Place};
 use std::alloc::Global;
 
 /// The copy of a value in a bank, if it has one there.
-fn push_fill(out: &mut Vec<Place>, g: &Given<'_>, x: u32, h: Bank) -> Result<(), NoMemory>
+fn push_fill(
+    out: &mut Vec<Place>,
+    g: &AssignmentInputs<'_>,
+    x: u32,
+    h: Bank,
+) -> Result<(), NoMemory>
     ensures { OnOk result (out.new.items ≡ out.old.items ++ pure.fill_at (says_in g.now) (numbers_in g.now) x h) }
 {
     if g.reading.is_on(Column::Fill(x, h)) {
@@ -48,8 +53,8 @@ fn push_words(out: &mut Vec<Place>, r: &Reading<'_>, us: &[Use]) -> Result<(), N
     Ok(())
 }
 
-/// Where a value is copied directly behind its definition.
-fn copies_of(alloc: Global, g: &Given<'_>, x: u32) -> Result<Vec<Place>, NoMemory>
+/// Where a value is copied directly after its definition.
+fn copies_of(alloc: Global, g: &AssignmentInputs<'_>, x: u32) -> Result<Vec<Place>, NoMemory>
     ensures { IfOk result (λ v. v.items ≡ pure.copies_of (labels_in g.now) (says_in g.now) (numbers_in g.now) x) }
 {
     let mut copied = Vec::new(alloc);
@@ -71,7 +76,7 @@ fn first_word(r: &Reading<'_>, us: &[Use]) -> Result<Place, NoMemory>
 }
 
 /// The home of a value that its definition puts into a bank, or else right into the write register of its use.
-fn put_home(alloc: Global, g: &Given<'_>, x: u32) -> Result<Home, NoMemory>
+fn put_home(alloc: Global, g: &AssignmentInputs<'_>, x: u32) -> Result<Home, NoMemory>
     ensures { IfOk result (λ h. home_view h ≡ pure.put_home (labels_in g.now) (says_in g.now) (numbers_in g.now) x (pure.def_bank (says_in g.now) x)) }
 {
     match g.reading.def_bank(x) {
@@ -89,34 +94,39 @@ fn put_home(alloc: Global, g: &Given<'_>, x: u32) -> Result<Home, NoMemory>
 }
 
 /// The home of a value.
-fn value_home(alloc: Global, g: &Given<'_>, v: Value) -> Result<Home, NoMemory>
+fn value_home(alloc: Global, g: &AssignmentInputs<'_>, v: Value) -> Result<Home, NoMemory>
     ensures { IfOk result (λ h. home_view h ≡ pure.value_home (labels_in g.now) (says_in g.now) (numbers_in g.now) (value_view v)) }
 {
-    match v.sort {
-        Sort::Parameter(_, _) => put_home(alloc, g, v.var),
-        Sort::Result => put_home(alloc, g, v.var),
-        Sort::Fetched(_, _) => Ok(Home {
+    match v.origin {
+        Origin::Parameter(_, _) => put_home(alloc, g, v.var),
+        Origin::Result => put_home(alloc, g, v.var),
+        Origin::Fetched(_, _) => Ok(Home {
             var: v.var,
-            defined: sort_place(&g.reading, v)?,
+            defined: origin_place(&g.reading, v)?,
             copied: copies_of(alloc, g, v.var)?,
         }),
     }
 }
 
 /// Whether a value wants a home: each does but a read one without a use.
-fn wants_home(g: &Given<'_>, v: Value) -> bool
+fn wants_home(g: &AssignmentInputs<'_>, v: Value) -> bool
     ensures { result ≡ fits.wants_home (labels_in g.now) (value_view v) }
 {
-    match v.sort {
-        Sort::Parameter(_, _) => true,
-        Sort::Result => true,
-        Sort::Fetched(_, _) => g.reading.form.is_used(v.var),
+    match v.origin {
+        Origin::Parameter(_, _) => true,
+        Origin::Result => true,
+        Origin::Fetched(_, _) => g.reading.form.is_used(v.var),
     }
 }
 
 /// The home of a value, if it wants one.
-fn push_home(alloc: Global, out: &mut Vec<Home>, g: &Given<'_>, v: Value) -> Result<(), NoMemory>
-    ensures { OnOk result (map home_view out.new.items ≡ map home_view out.old.items ++ wanted_home (labels_in g.now) (says_in g.now) (numbers_in g.now) (value_view v)) }
+fn push_home(
+    alloc: Global,
+    out: &mut Vec<Home>,
+    g: &AssignmentInputs<'_>,
+    v: Value,
+) -> Result<(), NoMemory>
+    ensures { OnOk result (map home_view out.new.items ≡ map home_view out.old.items ++ preferred_home (labels_in g.now) (says_in g.now) (numbers_in g.now) (value_view v)) }
 {
     if wants_home(g, v) {
         out.push(value_home(alloc, g, v)?)?;
@@ -125,8 +135,12 @@ fn push_home(alloc: Global, out: &mut Vec<Home>, g: &Given<'_>, v: Value) -> Res
 }
 
 /// The homes of those of these values that want one.
-pub fn homes_of(alloc: Global, g: &Given<'_>, values: &[Value]) -> Result<Vec<Home>, NoMemory>
-    ensures { IfOk result (λ v. map home_view v.items ≡ flat_map (wanted_home (labels_in g.now) (says_in g.now) (numbers_in g.now)) (map value_view values.now)) }
+pub fn homes_of(
+    alloc: Global,
+    g: &AssignmentInputs<'_>,
+    values: &[Value],
+) -> Result<Vec<Home>, NoMemory>
+    ensures { IfOk result (λ v. map home_view v.items ≡ flat_map (preferred_home (labels_in g.now) (says_in g.now) (numbers_in g.now)) (map value_view values.now)) }
 {
     let mut homes = Vec::new(alloc);
     for v in values {

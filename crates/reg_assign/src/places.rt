@@ -2,25 +2,25 @@
 
 ghost use Rattle.std.specs.Prelude.{◌≡◌, ◌+◌, ℕ, nat_eq, map, IfOk, OnOk};
 ghost use Rattle.std.specs.HashMap.{get};
-ghost use Rattle.slot_placement.specs.Fits as fits;
-ghost use Rattle.bank_form.specs.inner.Form.{use_view, value_view, sort_view};
-ghost use Rattle.bank_places.specs.inner.ReadOff as pure;
-ghost use Rattle.reg_assign.specs.inner.Given.{labels_in, says_in, numbers_in};
-ghost use Rattle.bank_places.specs.inner.Reading.{says, known_place, place_noted};
-ghost use Rattle.home_numbers.specs.inner.Chosen.{numbers_of};
+ghost use Rattle.placement.specs.Fits as fits;
+ghost use Rattle.bank_form.specs.inner.Form.{use_view, value_view, origin_view};
+ghost use Rattle.bank_assignment.specs.inner.ReadOff as pure;
+ghost use Rattle.reg_assign.specs.inner.AssignmentInputs.{labels_in, says_in, numbers_in};
+ghost use Rattle.bank_assignment.specs.inner.Reading.{says, known_place, place_noted};
+ghost use Rattle.register_numbers.specs.inner.Chosen.{numbers_of};
 
-use crate::given::Given;
-use bank_places::columns::Family;
-use bank_places::reading::Reading;
-use bank_prog::{Bank, Role, Sort, Use, Value};
-use home_numbers::HomeNumbers;
+use crate::given::AssignmentInputs;
+use bank_assignment::columns::Family;
+use bank_assignment::reading::Reading;
+use bank_prog::{Bank, Origin, Role, Use, Value};
 use nv_base::{Mem, NoMemory};
-use slot_placement::Place;
+use placement::Place;
+use register_numbers::HomeNumbers;
 use std::alloc::Global;
 use std::collections::HashMap;
 
 /// Where each value comes that is read.
-pub type Came = HashMap<u32, Place>;
+pub type ReadPlaces = HashMap<u32, Place>;
 
 /// A number that fits into a byte.
 pub fn small(n: u64) -> Result<u8, NoMemory>
@@ -62,13 +62,13 @@ fn write_place(m: Mem, i: u8) -> Place
 }
 
 /// The read register of a read value.
-pub fn sort_place(r: &Reading<'_>, v: Value) -> Result<Place, NoMemory>
-    ensures { IfOk result (λ q. q ≡ pure.sort_place (says r.now) v.point (sort_view v.sort)) }
+pub fn origin_place(r: &Reading<'_>, v: Value) -> Result<Place, NoMemory>
+    ensures { IfOk result (λ q. q ≡ pure.origin_place (says r.now) v.point (origin_view v.origin)) }
 {
-    match v.sort {
-        Sort::Parameter(_, _) => Ok(Place::Slot(0)),
-        Sort::Result => Ok(Place::Slot(0)),
-        Sort::Fetched(m, i) => Ok(read_place(m, register(r, v.point, i)?)),
+    match v.origin {
+        Origin::Parameter(_, _) => Ok(Place::Slot(0)),
+        Origin::Result => Ok(Place::Slot(0)),
+        Origin::Fetched(m, i) => Ok(read_place(m, register(r, v.point, i)?)),
     }
 }
 
@@ -86,7 +86,7 @@ pub fn word_place(r: &Reading<'_>, u: Use) -> Result<Place, NoMemory>
 }
 
 /// Notes where a value comes, unless that is known.
-fn note(came: &mut Came, x: u32, q: Place) -> Result<(), NoMemory>
+fn note(came: &mut ReadPlaces, x: u32, q: Place) -> Result<(), NoMemory>
     ensures { OnOk result ((z : ℕ) → get nat_eq came.new z ≡ place_noted (get nat_eq came.old z) x q z) }
 {
     if came.get(&x).is_none() {
@@ -96,12 +96,16 @@ fn note(came: &mut Came, x: u32, q: Place) -> Result<(), NoMemory>
 }
 
 /// Where these values come.
-pub fn came_of(alloc: Global, r: &Reading<'_>, values: &[Value]) -> Result<Came, NoMemory>
+pub fn read_places_of(
+    alloc: Global,
+    r: &Reading<'_>,
+    values: &[Value],
+) -> Result<ReadPlaces, NoMemory>
     ensures { IfOk result (λ m. (x : ℕ) → known_place (get nat_eq m x) ≡ pure.place_in (says r.now) (map value_view values.now) x) }
 {
     let mut came = HashMap::new(alloc);
     for v in values {
-        note(&mut came, v.var, sort_place(r, *v)?)?;
+        note(&mut came, v.var, origin_place(r, *v)?)?;
     }
     Ok(came)
 }
@@ -122,7 +126,7 @@ pub fn home_place(numbers: &HomeNumbers, h: Bank, x: u32) -> Place
 }
 
 /// Where a value comes that is read.
-fn came_to(came: &Came, x: u32) -> Place
+fn read_place_of(came: &ReadPlaces, x: u32) -> Place
     ensures { result ≡ known_place (get nat_eq came.now x) }
 {
     match came.get(&x) {
@@ -132,14 +136,14 @@ fn came_to(came: &Came, x: u32) -> Place
 }
 
 /// The place of the word of a use in a bank, or on its way.
-pub fn bank_place(g: &Given<'_>, u: Use, h: Bank) -> Result<Place, NoMemory>
+pub fn bank_place(g: &AssignmentInputs<'_>, u: Use, h: Bank) -> Result<Place, NoMemory>
     ensures { IfOk result (λ q. q ≡ pure.bank_place (labels_in g.now) (says_in g.now) (numbers_in g.now) (use_view u) h) }
 {
     match h {
         Bank::A => Ok(Place::A(g.numbers.number(h, u.value))),
         Bank::B => Ok(Place::B(g.numbers.number(h, u.value))),
         Bank::M => Ok(Place::Slot(g.numbers.number(h, u.value))),
-        Bank::T => Ok(came_to(&g.came, u.value)),
+        Bank::T => Ok(read_place_of(&g.came, u.value)),
         Bank::L => Ok(Place::L(g.reading.first_on(Family::PasL(u.point)).unwrap_or(0))),
         Bank::A15 => Ok(Place::A(15)),
         Bank::W => word_place(&g.reading, u),

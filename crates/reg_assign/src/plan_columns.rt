@@ -3,18 +3,18 @@
 ghost use Rattle.std.specs.Prelude.{◌≡◌, nat_eq, not, ◌&&◌, map, if◌then◌else◌, IfOk};
 ghost use Rattle.std.specs.List.{list_any};
 ghost use Rattle.ssu_ir.specs.View.{labels_view};
-ghost use Rattle.slot_placement.specs.Fits as fits;
-ghost use Rattle.slot_placement.specs.Uses.{uses_of};
+ghost use Rattle.placement.specs.Fits as fits;
+ghost use Rattle.placement.specs.Uses.{uses_of};
 ghost use Rattle.bank_form.specs.Program as program;
 ghost use Rattle.bank_form.specs.declared.column.Bank.TheVariants.{A15};
 ghost use Rattle.bank_form.specs.inner.Form.{role_view, use_view};
-ghost use Rattle.bank_places.specs.inner.Chosen as chosen;
-ghost use Rattle.bank_places.specs.inner.PlanTables as tables;
+ghost use Rattle.bank_assignment.specs.inner.Chosen as chosen;
+ghost use Rattle.bank_assignment.specs.inner.PlanTables as tables;
 
-use bank_places::plan_tables::PlanTables;
+use bank_assignment::plan_tables::PlanTables;
 use bank_prog::{Bank, Column, Form, Role, Use};
 use nv_base::NoMemory;
-use slot_placement::Place;
+use placement::Place;
 use std::alloc::Global;
 
 // ---- places and banks
@@ -111,8 +111,8 @@ fn operand_bank(h: Bank, q: Place) -> Bank
 }
 
 /// Where a use wants its word.
-fn wanted_bank(role: Role, h: Bank, q: Place) -> Bank
-    ensures { result ≡ chosen.wanted_bank (role_view role) h q }
+fn preferred_bank(role: Role, h: Bank, q: Place) -> Bank
+    ensures { result ≡ chosen.preferred_bank (role_view role) h q }
 {
     match role {
         Role::Operand => operand_bank(h, q),
@@ -298,10 +298,10 @@ fn is_kept(f: &Form<'_>, t: &PlanTables, x: u32, n: u8) -> bool
 
 /// A use is served from one bank at another.
 fn is_way(t: &PlanTables, k: u32, i: u32, h: Bank, j: Bank) -> bool
-    ensures { result ≡ (chosen.is_in_bank h (tables.from_told t.now k i) && program.same_bank j (chosen.wanted_bank (tables.role_told t.now k i) (chosen.bank_of (tables.from_told t.now k i)) (tables.at_told t.now k i))) }
+    ensures { result ≡ (chosen.is_in_bank h (tables.from_told t.now k i) && program.same_bank j (chosen.preferred_bank (tables.role_told t.now k i) (chosen.bank_of (tables.from_told t.now k i)) (tables.at_told t.now k i))) }
 {
     let q = from_of(t, k, i);
-    let wanted = wanted_bank(role_of(t, k, i), bank_of(q), at_of(t, k, i));
+    let wanted = preferred_bank(role_of(t, k, i), bank_of(q), at_of(t, k, i));
     let from = is_in_bank(h, q);
     let at = same_bank(j, wanted);
     from && at

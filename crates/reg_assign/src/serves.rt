@@ -2,23 +2,23 @@
 
 ghost use Rattle.std.specs.Prelude.{◌≡◌, ◌++◌, map, IfOk, OnOk};
 ghost use Rattle.std.specs.List.{flat_map};
-ghost use Rattle.bank_form.specs.inner.Form.{use_view, access_view, stop_view, role_view};
-ghost use Rattle.bank_places.specs.inner.ReadOff as pure;
-ghost use Rattle.reg_assign.specs.inner.Given.{labels_in, says_in, numbers_in};
-ghost use Rattle.bank_places.specs.inner.Reading.{says, part_pass};
+ghost use Rattle.bank_form.specs.inner.Form.{use_view, access_view, summary_view, role_view};
+ghost use Rattle.bank_assignment.specs.inner.ReadOff as pure;
+ghost use Rattle.reg_assign.specs.inner.AssignmentInputs.{labels_in, says_in, numbers_in};
+ghost use Rattle.bank_assignment.specs.inner.Reading.{says, part_pass};
 
-use crate::given::Given;
+use crate::given::AssignmentInputs;
 use crate::places::{bank_place, home_place, small, word_place};
-use bank_places::columns::Family;
-use bank_places::reading::Reading;
+use bank_assignment::columns::Family;
+use bank_assignment::reading::Reading;
 use bank_prog::services::services;
-use bank_prog::{Access, Bank, Role, Service, Stop, Use};
+use bank_prog::{Access, Bank, PointSummary, Role, Service, Use};
 use nv_base::NoMemory;
-use slot_placement::{First, Pass, Place, Serve};
+use placement::{First, Pass, Place, Serve};
 use std::alloc::Global;
 
 /// Where a use wants its word.
-fn target(g: &Given<'_>, u: Use, h: Bank) -> Result<Place, NoMemory>
+fn target(g: &AssignmentInputs<'_>, u: Use, h: Bank) -> Result<Place, NoMemory>
     ensures { IfOk result (λ q. q ≡ pure.target (labels_in g.now) (says_in g.now) (numbers_in g.now) (use_view u) h (role_view u.role)) }
 {
     match u.role {
@@ -31,7 +31,7 @@ fn target(g: &Given<'_>, u: Use, h: Bank) -> Result<Place, NoMemory>
 }
 
 /// Serves a use in a way, or where there is none takes its word from its write register.
-fn serve_by(g: &Given<'_>, u: Use, s: Option<Service>) -> Result<Serve, NoMemory>
+fn serve_by(g: &AssignmentInputs<'_>, u: Use, s: Option<Service>) -> Result<Serve, NoMemory>
     ensures { IfOk result (λ v. v ≡ pure.serve_by (labels_in g.now) (says_in g.now) (numbers_in g.now) (use_view u) s) }
 {
     let operand = small(u64::from(u.operand))?;
@@ -55,14 +55,18 @@ fn serve_by(g: &Given<'_>, u: Use, s: Option<Service>) -> Result<Serve, NoMemory
 }
 
 /// Serves a use.
-fn use_serve(g: &Given<'_>, u: Use) -> Result<Serve, NoMemory>
+fn use_serve(g: &AssignmentInputs<'_>, u: Use) -> Result<Serve, NoMemory>
     ensures { IfOk result (λ v. v ≡ pure.use_serve (labels_in g.now) (says_in g.now) (numbers_in g.now) (use_view u)) }
 {
     serve_by(g, u, g.reading.service_on(u, services(u.role)))
 }
 
 /// Serves these uses.
-pub fn serves_of(alloc: Global, g: &Given<'_>, uses: &[Use]) -> Result<Vec<Serve>, NoMemory>
+pub fn serves_of(
+    alloc: Global,
+    g: &AssignmentInputs<'_>,
+    uses: &[Use],
+) -> Result<Vec<Serve>, NoMemory>
     ensures { IfOk result (λ v. v.items ≡ map (pure.use_serve (labels_in g.now) (says_in g.now) (numbers_in g.now)) (map use_view uses.now)) }
 {
     let mut serves = Vec::new(alloc);
@@ -103,12 +107,16 @@ fn push_pass(out: &mut Vec<Pass>, r: &Reading<'_>, point: u32) -> Result<(), NoM
 }
 
 /// The registers through which slots pass at these points.
-pub fn passes_of(alloc: Global, r: &Reading<'_>, stops: &[Stop]) -> Result<Vec<Pass>, NoMemory>
-    ensures { IfOk result (λ v. v.items ≡ flat_map (part_pass (says r.now)) (map stop_view stops.now)) }
+pub fn passes_of(
+    alloc: Global,
+    r: &Reading<'_>,
+    summaries: &[PointSummary],
+) -> Result<Vec<Pass>, NoMemory>
+    ensures { IfOk result (λ v. v.items ≡ flat_map (part_pass (says r.now)) (map summary_view summaries.now)) }
 {
     let mut passes = Vec::new(alloc);
-    for stop in stops {
-        push_pass(&mut passes, r, stop.point)?;
+    for summary in summaries {
+        push_pass(&mut passes, r, summary.point)?;
     }
     Ok(passes)
 }

@@ -25,7 +25,7 @@ arguments_words params k (suc n) [] (a ∷ args) es h = absurd h
 arguments_words params k (suc n) (l ∷ ls) [] es h = absurd h
 arguments_words params k (suc n) (l ∷ ls) (a ∷ args) es h = All-cons (HasWords params) a args h.0.number (arguments_words params k n ls args es h.1)
 
--- where all arguments are there, entries are behind them
+-- where all arguments are there, entries are after them
 arguments_entries : (params k n : ℕ) (ls args : List (List ℕ)) (es : List (ℕ × ℕ)) → AreArguments params k n ls args es → length args ≡ n → (rest : List (List ℕ)) × AreEntries k entry_limit rest es
 arguments_entries params k zero ls [] es h e = (ls, h)
 arguments_entries params k zero ls (a ∷ args) es h e = absurd h

@@ -4,8 +4,8 @@ use Rattle.line_text.specs.Line.{Lacks, parts, parted}
 use Rattle.line_text.proofs.SplitLaws.{parts-parted, parted-parts, Lacks-parted, Lacks-test}
 use Rattle.line_text.proofs.NumberLaws.{Lacks-decimal}
 use Rattle.line_text.proofs.NumberLemmas.{decimal_one}
-use Rattle.mem_lines.specs.Spelling.{SpellWords}
-use Rattle.mem_lines.proofs.WordLemmas.{SpellWords-lack, SpellWords-one}
+use Rattle.nv_memtext.specs.Spelling.{SpellWords}
+use Rattle.nv_memtext.proofs.WordLemmas.{SpellWords-lack, SpellWords-one}
 use Rattle.schedule_text.specs.ScheduleText.{SpellsCount, SpellsArgs, SpellsEntries}
 
 -- ---- the first line

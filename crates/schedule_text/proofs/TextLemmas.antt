@@ -4,7 +4,7 @@ use Rattle.line_text.specs.Line.{AllLack}
 use Rattle.schedule_text.specs.ScheduleText.{SpellsArgs, SpellsEntries, AreEntries, AreArguments, entry_limit}
 use Rattle.schedule_text.proofs.LineLemmas.{args_lack, args_one, entries_lack, entries_one}
 
--- how many entries are left behind some
+-- how many entries are left after some
 abbrev pub left_by : ℕ → List (ℕ × ℕ) → ℕ
 left_by left [] = left
 left_by left (e ∷ es) = left_by (left - e.1) es

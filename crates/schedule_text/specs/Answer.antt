@@ -1,4 +1,4 @@
--- The answers of `read_schedule`: want of memory is an answer to any bytes.
+-- The answers of `read_schedule`: memory exhaustion is an answer to any bytes.
 use Rattle.std.specs.Prelude.{◌≡◌, ℕ, List, Result, Ok, Err}
 use Rattle.schedule_text.specs.declared.read.Schedule.{Schedule}
 use Rattle.schedule_text.specs.declared.read.ScheduleError.{ScheduleError}
@@ -10,13 +10,13 @@ abbrev pub IsTrueError : ℕ → List ℕ → ScheduleError → Type 0
 IsTrueError params bytes NoMemory = Unit {0}
 IsTrueError params bytes (Bad n) = IsBad params bytes n
 
--- these arguments and entries, or want of memory
+-- these arguments and entries, or memory exhaustion
 abbrev pub AnswersSchedule : Result Schedule ScheduleError → List (List ℕ) → List (ℕ × ℕ) → Type 0
 AnswersSchedule (Ok s) args entries = (s.args.items ≡ args) × (s.entries.items ≡ entries)
 AnswersSchedule (Err NoMemory) args entries = Unit {0}
 AnswersSchedule (Err (Bad n)) args entries = ⊥
 
--- a fault of line n, or want of memory
+-- a fault of line n, or memory exhaustion
 abbrev pub AnswersBad : Result Schedule ScheduleError → ℕ → Type 0
 AnswersBad (Ok s) n = ⊥
 AnswersBad (Err NoMemory) n = Unit {0}

@@ -2,7 +2,7 @@
 use Rattle.std.specs.Prelude.{◌≡◌, ℕ, zero, suc, ◌+◌, ◌-◌, ◌<◌, ◌≤◌, List, [], ◌∷◌, length, codes, decimal, sum_by, ⊤}
 use Rattle.line_text.specs.Format.{FirstFault}
 use Rattle.line_text.specs.Line.{text_of, parted}
-use Rattle.mem_lines.specs.Spelling.{SpellWords}
+use Rattle.nv_memtext.specs.Spelling.{SpellWords}
 
 -- how many contexts there are at most, and how many entries
 abbrev pub context_limit : ℕ
@@ -35,7 +35,7 @@ pub record SpellsEntries (k left : ℕ) (line : List ℕ) (entry : ℕ × ℕ) :
 abbrev pub IsNamed : ℕ → ℕ × ℕ → Type 0
 IsNamed k entry = entry.0 < k
 
--- a context is started on so many words
+-- a context is started on N words
 abbrev pub HasWords : ℕ → List ℕ → Type 0
 HasWords params args = length args ≡ params
 

@@ -3,8 +3,8 @@ ghost use Rattle.std.specs.Prelude.{◌≡◌, ◌<◌, ◌≤◌, ℕ, List, If
 ghost use Rattle.schedule_text.specs.ScheduleText.{SpellsArgs, SpellsCount, SpellsEntries, entry_limit};
 
 use line_text::Parts;
-use mem_lines::words_of;
 use nv_base::Words;
+use nv_memtext::words_of;
 
 /// The number of contexts of a first line.
 pub fn count_of(line: &[u8]) -> Option<u8>

@@ -118,7 +118,7 @@ fn read_text(alloc: Global, bytes: &[u8], params: u8) -> Result<Schedule, Schedu
 
 /// Reads the text of a schedule. `params` is the number of words that each context is started on.
 ///
-/// Each answer but want of memory, which may come for any text, comes exactly where its clauses say.
+/// Each answer but memory exhaustion, which may come for any text, comes exactly where its clauses say.
 pub fn read_schedule(alloc: Global, bytes: &[u8], params: u8) -> Result<Schedule, ScheduleError>
     requires params { params ≤ 8 }
     requires short { length bytes.now + 8 < 2 ^ 32 }

@@ -12,7 +12,7 @@ use Rattle.ssu_ir.specs.inner.Checks.{step_defs, carried, access_fits, addressed
 use Rattle.ssu_ir.proofs.Lists.{in-itself, all_at, all_from}
 use Rattle.ssu_ir.proofs.Scopes.{carry-in, carry-first, carry-second}
 
--- ---- numbers behind a step
+-- ---- numbers after a step
 
 numbered-at : (b : Bool) (number : Numbers) (xs : List ℕ) (o : Option ℕ) (z : ℕ) → is_in z xs ≡ b → numbered number xs o z ≡ (if b then o else number z)
 numbered-at b number xs o z e = ap (λ c. if c then o else number z) e
@@ -58,7 +58,7 @@ number-value number (Clone xs y) z h = absurd (false≢true h)
 number-value number (Read m xs y) z h = numbered-at true number xs None z h
 number-value number (Write m y xs) z h = absurd (false≢true h)
 
--- a name behind a step is a value of it, or has the number of some name before it
+-- a name after a step is a value of it, or has the number of some name before it
 pub record Numbered (number : Numbers) (s : Step) (z : ℕ) : Type 0 where
   pub it : ℕ
   pub same : numbers_after number s z ≡ number it

@@ -13,8 +13,8 @@ use Rattle.nv_base.specs.Memories.{Memories}
 use Rattle.nv_base.specs.Meanings.{FullOutcome, IsOver}
 use Rattle.nv_base.specs.World.{World, begun, over}
 use Rattle.nv_base.proofs.Sets.{same-number}
-use Rattle.ssu_ir.specs.declared.step.Leaving.{Leaving}
-use Rattle.ssu_ir.specs.declared.step.Leaving.TheVariants.{Jump as LeavesBy, Over}
+use Rattle.ssu_ir.specs.declared.step.LabelExit.{LabelExit}
+use Rattle.ssu_ir.specs.declared.step.LabelExit.TheVariants.{Jump as LeavesBy, Over}
 use Rattle.ssu_ir.specs.Tree.{Label}
 use Rattle.ssu_ir.specs.Meaning.{run, ssu_meaning}
 use Rattle.ssu_ir.specs.Single.{single, takes_as_many}
@@ -93,7 +93,7 @@ ran-none labels args p0 log0 counts n e many fits = record {
   total = ap sum e ∙ sum-zeros n;
 }
 
-pub ran-on : (labels : List Label) (args : List ℕ) (p0 : Memories) (log0 : Log) (i l : ℕ) (ws : List ℕ) (p : Memories) (log : Log) (counts counts' : List ℕ) (r : Leaving) (l' : ℕ) (vs : List ℕ) (p' : Memories) (log' : Log)
+pub ran-on : (labels : List Label) (args : List ℕ) (p0 : Memories) (log0 : Log) (i l : ℕ) (ws : List ℕ) (p : Memories) (log : Log) (counts counts' : List ℕ) (r : LabelExit) (l' : ℕ) (vs : List ℕ) (p' : Memories) (log' : Log)
     → single labels ≡ true → (h : Ran labels args p0 log0 i l ws p log counts) → LeftBy (label_exit (slice_get labels l) ws h.now) log0 r vs p' log' → r ≡ LeavesBy l' → l < length counts → counts' ≡ set counts l (get_or counts l 0 + 1)
     → log'.count ≤ log.count + 2 ^ 32 → Ran labels args p0 log0 (i + 1) l' vs p' log' counts'
 ran-on labels args p0 log0 i l ws p log counts counts' r l' vs p' log' single h left is inside set few =
@@ -145,11 +145,11 @@ whole-of labels args p0 log0 n o p log counts w a e many c = record {
   );
 }
 
-behind-end : (labels : List Label) (m k : ℕ) (f : FullOutcome) → entered_behind labels m (EndsWith f) k ≡ 0
-behind-end labels zero k f = refl
-behind-end labels (suc m) k f = refl
+successors-end : (labels : List Label) (m k : ℕ) (f : FullOutcome) → entered_behind labels m (EndsWith f) k ≡ 0
+successors-end labels zero k f = refl
+successors-end labels (suc m) k f = refl
 
-pub ran-over : (labels : List Label) (args : List ℕ) (p0 : Memories) (log0 : Log) (n i l : ℕ) (ws : List ℕ) (p : Memories) (log : Log) (counts counts' : List ℕ) (r : Leaving) (o : Outcome) (vs : List ℕ) (p' : Memories) (log' : Log)
+pub ran-over : (labels : List Label) (args : List ℕ) (p0 : Memories) (log0 : Log) (n i l : ℕ) (ws : List ℕ) (p : Memories) (log : Log) (counts counts' : List ℕ) (r : LabelExit) (o : Outcome) (vs : List ℕ) (p' : Memories) (log' : Log)
     → (h : Ran labels args p0 log0 i l ws p log counts) → LeftBy (label_exit (slice_get labels l) ws h.now) log0 r vs p' log' → r ≡ Over o → l < length counts → counts' ≡ set counts l (get_or counts l 0 + 1)
     → i ≤ n → Whole labels args p0 log0 n o p' log' counts'
 ran-over labels args p0 log0 n i l ws p log counts counts' r o vs p' log' h left is inside set less =
@@ -161,7 +161,7 @@ ran-over labels args p0 log0 n i l ws p log counts counts' r o vs p' log' h left
     (ap length set ∙ length-set counts l (get_or counts l 0 + 1) ∙ h.many)
     (λ k.
     let a : entered labels args p0 n k ≡ entered labels args p0 (i + m) k = ap (λ j. entered labels args p0 j k) e in
-    let b : entered_behind labels m (label_exit (slice_get labels l) ws h.now) k ≡ 0 = ap (λ x. entered_behind labels m x k) exit ∙ behind-end labels m k (over o left.now) in
+    let b : entered_behind labels m (label_exit (slice_get labels l) ws h.now) k ≡ 0 = ap (λ x. entered_behind labels m x k) exit ∙ successors-end labels m k (over o left.now) in
     let c : get_or counts' k 0 ≡ get_or counts k 0 + is_entered l k = ap (λ c. get_or c k 0) set ∙ one-more counts l k inside in
     omega (arith, a, b, c, h.entries m k))
 
@@ -169,7 +169,7 @@ pub ran-all : (labels : List Label) (args : List ℕ) (p0 : Memories) (log0 : Lo
 ran-all labels args p0 log0 n i l ws p log counts h e = whole-of labels args p0 log0 n Going p log counts h.now h.at (h.going n (sym e)) h.many (λ k. h.so_far n k (sym e))
 
 -- a run that is over isn't going on
-pub over-stays : (labels : List Label) (args : List ℕ) (p0 : Memories) (log0 : Log) (i l : ℕ) (ws : List ℕ) (p : Memories) (log : Log) (counts : List ℕ) (r : Leaving) (o : Outcome) (vs : List ℕ) (p' : Memories) (log' : Log)
+pub over-stays : (labels : List Label) (args : List ℕ) (p0 : Memories) (log0 : Log) (i l : ℕ) (ws : List ℕ) (p : Memories) (log : Log) (counts : List ℕ) (r : LabelExit) (o : Outcome) (vs : List ℕ) (p' : Memories) (log' : Log)
     → single labels ≡ true → (h : Ran labels args p0 log0 i l ws p log counts) → LeftBy (label_exit (slice_get labels l) ws h.now) log0 r vs p' log' → r ≡ Over o → o ≡ Going → ⊥
 over-stays labels args p0 log0 i l ws p log counts r o vs p' log' single h left is going =
     let exit : label_exit (slice_get labels l) ws h.now ≡ EndsWith (over o left.now) = left.exit ∙ ap (λ x. leaving_exit x vs left.now) is in

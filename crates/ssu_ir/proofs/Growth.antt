@@ -3,7 +3,7 @@ use Rattle.std.proofs.Common.{◌≡◌, ℕ, zero, suc, ◌≤◌, Bool, true, 
 use Rattle.nv_base.specs.declared.term.Mem.{Mem}
 use Rattle.nv_base.specs.Memories.{Memories, fetched, stored}
 use Rattle.nv_base.specs.Meanings.{FullOutcome, IsPrefix, left_by}
-use Rattle.nv_base.specs.Progress.{Grows, FollowsAll}
+use Rattle.nv_base.specs.Progress.{IsMonotone, FollowsAll}
 use Rattle.nv_base.specs.Words.{Env, word, una_word, bin_word, assigned, assigned_all, compares}
 use Rattle.nv_base.specs.World.{World, begun, after_read, wrote, after_write}
 use Rattle.nv_base.proofs.Same.{prefix-refl}
@@ -49,7 +49,7 @@ run-grows labels zero n le l ws w = gets-going w (run labels n l ws w) (run-adds
 run-grows labels (suc m) zero le l ws w = absurd (omega arith)
 run-grows labels (suc m) (suc n) le l ws w = kept-enter Gets gets-kept (run labels m) (run labels n) (run-grows labels m n (omega arith)) (slice_get labels l) ws w
 
-pub meaning-grows : (labels : List Label) (args : List ℕ) (p : Memories) → Grows (ssu_meaning labels args p)
+pub meaning-grows : (labels : List Label) (args : List ℕ) (p : Memories) → IsMonotone (ssu_meaning labels args p)
 meaning-grows labels args p m n le = kept-enter Gets gets-kept (run labels m) (run labels n) (run-grows labels m n le) (slice_get labels 0) args (begun p)
 
 -- ---- the memories are the first ones after the writes so far

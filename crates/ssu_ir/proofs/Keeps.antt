@@ -12,7 +12,7 @@ use Rattle.ssu_ir.specs.declared.node.SsuNode.{SsuNode}
 use Rattle.ssu_ir.specs.declared.node.SsuLabel.{SsuLabel}
 use Rattle.ssu_ir.specs.declared.ssu.Ssu.{Ssu}
 use Rattle.ssu_ir.specs.Tree.{Step, Last, Tree, Label, Node, last_uses, node_values, Do, If, End, Does, Forks, Ends}
-use Rattle.ssu_ir.specs.Slots.{node_of, kids_of, Slots, slot, bodies}
+use Rattle.ssu_ir.specs.Slots.{node_of, successors_of, Slots, slot, bodies}
 use Rattle.ssu_ir.specs.View.{labels_view}
 use Rattle.ssu_ir.specs.Single.{defined, all_defined, is_step, is_last, step_names, names, fresh_after}
 use Rattle.ssu_ir.specs.inner.Checks.{node_names, node_defs, times_in, step_kept, is_kept, node_clones, node_fresh_after, defs_kept, node_alone}
@@ -149,10 +149,10 @@ kept_here labels known fresh slots i n h f z =
     r)
     (shape slots i n h f)
 
-pub kept_none : (labels : List Label) (known : ℕ → Bool) (fresh : List ℕ) (slots : Slots) (i : ℕ) (n : SsuNode) → HasTree slots i → slot slots i ≡ Some n → [] ≡ kids_of n → node_alone labels known (node_of n) ≡ true → true ≡ is_kept labels known fresh (tree_at slots i)
+pub kept_none : (labels : List Label) (known : ℕ → Bool) (fresh : List ℕ) (slots : Slots) (i : ℕ) (n : SsuNode) → HasTree slots i → slot slots i ≡ Some n → [] ≡ successors_of n → node_alone labels known (node_of n) ≡ true → true ≡ is_kept labels known fresh (tree_at slots i)
 kept_none labels known fresh slots i n h f e z = let o = no_kids slots i n h f e in sym (kept-end labels known fresh (node_of n) o.l (tree_at slots i) o.is o.tree ∙ z)
 
-pub kept_one : (labels : List Label) (known : ℕ → Bool) (fresh : List ℕ) (slots : Slots) (i : ℕ) (n : SsuNode) (k : ℕ) → HasTree slots i → slot slots i ≡ Some n → k ∷ [] ≡ kids_of n → node_alone labels known (node_of n) ≡ true
+pub kept_one : (labels : List Label) (known : ℕ → Bool) (fresh : List ℕ) (slots : Slots) (i : ℕ) (n : SsuNode) (k : ℕ) → HasTree slots i → slot slots i ≡ Some n → k ∷ [] ≡ successors_of n → node_alone labels known (node_of n) ≡ true
     → (list_all (λ x. not (is_in x (names (tree_at slots k)))) (node_names (node_of n))
     && (defs_kept labels fresh (node_of n) (tree_at slots k) && is_kept labels known (node_fresh_after fresh (node_of n)) (tree_at slots k)))
     ≡ is_kept labels known fresh (tree_at slots i)
@@ -167,7 +167,7 @@ kept_one labels known fresh slots i n k h f e z =
     && (defs_kept labels fresh (node_of n) (tree_at slots k) && is_kept labels known (node_fresh_after fresh (node_of n)) (tree_at slots k))))
     z)
 
-pub kept_two : (labels : List Label) (known : ℕ → Bool) (fresh : List ℕ) (slots : Slots) (i : ℕ) (n : SsuNode) (j k : ℕ) → HasTree slots i → slot slots i ≡ Some n → j ∷ k ∷ [] ≡ kids_of n → node_alone labels known (node_of n) ≡ true
+pub kept_two : (labels : List Label) (known : ℕ → Bool) (fresh : List ℕ) (slots : Slots) (i : ℕ) (n : SsuNode) (j k : ℕ) → HasTree slots i → slot slots i ≡ Some n → j ∷ k ∷ [] ≡ successors_of n → node_alone labels known (node_of n) ≡ true
     → (list_all (λ x. not (is_in x (names (tree_at slots j)))) (node_names (node_of n))
     && (list_all (λ x. not (is_in x (names (tree_at slots k)))) (node_names (node_of n)) && (is_kept labels known [] (tree_at slots j) && is_kept labels known [] (tree_at slots k))))
     ≡ is_kept labels known fresh (tree_at slots i)

@@ -15,7 +15,7 @@ pub mod Unders
 pub mod Searches
 pub mod Keeps
 pub mod Sizes
-pub mod Held
+pub mod Liveness
 pub mod Assignments
 pub mod Runs
 pub mod Steps

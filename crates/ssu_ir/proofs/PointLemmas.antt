@@ -33,7 +33,7 @@ length-tree_points of above (If c x y t u) =
     omega (arith, length-append (tree_points of above t) (tree_points of above u), length-tree_points of above t, length-tree_points of above u)
 length-tree_points of above (End l) = refl
 
--- ---- the greatest number of held values
+-- ---- the greatest number of live values
 
 pub most_held-append : (a b : List Point) → most_held (a ++ b) ≡ max (most_held a) (most_held b)
 most_held-append [] b = omega arith

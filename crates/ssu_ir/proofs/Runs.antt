@@ -26,20 +26,20 @@ use Rattle.ssu_ir.proofs.Lists.{in-itself}
 within-nil : (c : List ℕ) → Within [] c
 within-nil c = λ x e. absurd (false≢true e)
 
--- behind these variables, in another order
+-- after these variables, in another order
 moved : (known xs : List ℕ) → Within (known ++ (xs ++ [])) (xs ++ known)
 moved known xs = within-both known (xs ++ []) (xs ++ known) (within-right xs known) (within-both xs [] (xs ++ known) (within-left xs known) (within-nil (xs ++ known)))
 
-agree-behind-all : (known xs ws : List ℕ) (env env' : Env) → AgreeOn known env env' → AgreeOn (known ++ (xs ++ [])) (assigned_all env xs ws) (assigned_all env' xs ws)
-agree-behind-all known xs ws env env' a = agree-within (known ++ (xs ++ [])) (xs ++ known) (assigned_all env xs ws) (assigned_all env' xs ws) (moved known xs) (agree-all xs ws known env env' a)
+agree-successors-all : (known xs ws : List ℕ) (env env' : Env) → AgreeOn known env env' → AgreeOn (known ++ (xs ++ [])) (assigned_all env xs ws) (assigned_all env' xs ws)
+agree-successors-all known xs ws env env' a = agree-within (known ++ (xs ++ [])) (xs ++ known) (assigned_all env xs ws) (assigned_all env' xs ws) (moved known xs) (agree-all xs ws known env env' a)
 
 each-at : (b k : Bool) (w u v : ℕ) → (k ≡ true → u ≡ v) → (k || b) ≡ true → (if b then w else u) ≡ (if b then w else v)
 each-at true k w u v h e = refl
 each-at false true w u v h e = h refl
 each-at false false w u v h e = absurd (false≢true e)
 
-agree-behind-each : (known xs : List ℕ) (w : ℕ) (env env' : Env) → AgreeOn known env env' → AgreeOn (known ++ xs) (assigned_each env xs w) (assigned_each env' xs w)
-agree-behind-each known xs w env env' a = λ y e. each-at (is_in y xs) (is_in y known) w (env y) (env' y) (a y) (sym (in-append y known xs) ∙ e)
+agree-successors-each : (known xs : List ℕ) (w : ℕ) (env env' : Env) → AgreeOn known env env' → AgreeOn (known ++ xs) (assigned_each env xs w) (assigned_each env' xs w)
+agree-successors-each known xs w env env' a = λ y e. each-at (is_in y xs) (is_in y known) w (env y) (env' y) (a y) (sym (in-append y known xs) ∙ e)
 
 known-at : (known : List ℕ) (x : ℕ) (xs : List ℕ) → all_known known (x ∷ xs) ≡ true → is_in x known ≡ true
 known-at known x xs h = (and_parts (is_in x known) (all_known known xs) h).0
@@ -62,20 +62,20 @@ write-alike None bad f g h = refl
 
 step-scoped : (known : List ℕ) (s : Step) (go : Env → World → Exit) (env env' : Env) (w : World) → all_known known (step_names s) ≡ true → AgreeOn known env env'
     → ((e e' : Env) (v : World) → AgreeOn (known ++ (step_values s ++ step_clones s)) e e' → go e v ≡ go e' v) → step_exit s go env w ≡ step_exit s go env' w
-step-scoped known (Lit x v) go env env' w h a next = next (assigned env x (word v)) (assigned env' x (word v)) w (agree-behind-all known (x ∷ []) (word v ∷ []) env env' a)
+step-scoped known (Lit x v) go env env' w h a next = next (assigned env x (word v)) (assigned env' x (word v)) w (agree-successors-all known (x ∷ []) (word v ∷ []) env env' a)
 step-scoped known (Una x op y) go env env' w h a next =
     ap (λ v. go (assigned env x (una_word op v)) w) (a y (known-at known y [] h))
-    ∙ next (assigned env x (una_word op (env' y))) (assigned env' x (una_word op (env' y))) w (agree-behind-all known (x ∷ []) (una_word op (env' y) ∷ []) env env' a)
+    ∙ next (assigned env x (una_word op (env' y))) (assigned env' x (una_word op (env' y))) w (agree-successors-all known (x ∷ []) (una_word op (env' y) ∷ []) env env' a)
 step-scoped known (Bin x op y z) go env env' w h a next =
     ap (λ v. go (assigned env x (bin_word op v (env z))) w) (a y (known-at known y (z ∷ []) h))
     ∙ ap (λ v. go (assigned env x (bin_word op (env' y) v)) w) (a z (known-at known z [] (known-rest known y (z ∷ []) h)))
-    ∙ next (assigned env x (bin_word op (env' y) (env' z))) (assigned env' x (bin_word op (env' y) (env' z))) w (agree-behind-all known (x ∷ []) (bin_word op (env' y) (env' z) ∷ []) env env' a)
+    ∙ next (assigned env x (bin_word op (env' y) (env' z))) (assigned env' x (bin_word op (env' y) (env' z))) w (agree-successors-all known (x ∷ []) (bin_word op (env' y) (env' z) ∷ []) env env' a)
 step-scoped known (Clone xs y) go env env' w h a next =
-    ap (λ v. go (assigned_each env xs v) w) (a y (known-at known y [] h)) ∙ next (assigned_each env xs (env' y)) (assigned_each env' xs (env' y)) w (agree-behind-each known xs (env' y) env env' a)
+    ap (λ v. go (assigned_each env xs v) w) (a y (known-at known y [] h)) ∙ next (assigned_each env xs (env' y)) (assigned_each env' xs (env' y)) w (agree-successors-each known xs (env' y) env env' a)
 step-scoped known (Read m xs y) go env env' w h a next =
     ap (λ v. exit_after_read (fetched m v (length xs) w.packet) (over (outcome.Fault m v) w) (λ ws. go (assigned_all env xs ws) w)) (a y (known-at known y [] h))
     ∙ read-alike (fetched m (env' y) (length xs) w.packet) (over (outcome.Fault m (env' y)) w) (λ ws. go (assigned_all env xs ws) w) (λ ws. go (assigned_all env' xs ws) w)
-    (λ ws. next (assigned_all env xs ws) (assigned_all env' xs ws) w (agree-behind-all known xs ws env env' a))
+    (λ ws. next (assigned_all env xs ws) (assigned_all env' xs ws) w (agree-successors-all known xs ws env env' a))
 step-scoped known (Write m y xs) go env env' w h a next =
     ap (λ v. exit_after_write (stored m v (map env xs) w.packet) (over (outcome.Fault m v) w) (λ p. go env (wrote m v (map env xs) p w))) (a y (known-at known y xs h))
     ∙ ap (λ vs. exit_after_write (stored m (env' y) vs w.packet) (over (outcome.Fault m (env' y)) w) (λ p. go env (wrote m (env' y) vs p w))) (same-words known xs env env' a (known-rest known y xs h))
@@ -191,8 +191,8 @@ made-none t start = record { addresses = []; different = refl; words = All-nil (
 pub made-few : (t : Tree) (start now : ℕ) → Made t start now → now ≤ start + 2 ^ 32
 made-few t start now m = let f = few-different (2 ^ 32) m.addresses m.different m.words in omega (arith, f, m.counted)
 
-absent-behind : (x : ℕ) (a b : List ℕ) → is_in x (a ++ b) ≡ false → is_in x b ≡ false
-absent-behind x a b e = (or_parts (is_in x a) (is_in x b) (sym (in-append x a b) ∙ e)).1
+absent-successors : (x : ℕ) (a b : List ℕ) → is_in x (a ++ b) ≡ false → is_in x b ≡ false
+absent-successors x a b e = (or_parts (is_in x a) (is_in x b) (sym (in-append x a b) ∙ e)).1
 
 absent-before : (x : ℕ) (a b : List ℕ) → is_in x (a ++ b) ≡ false → is_in x a ≡ false
 absent-before x a b e = (or_parts (is_in x a) (is_in x b) (sym (in-append x a b) ∙ e)).0
@@ -202,7 +202,7 @@ made-same s t start now now' m l = record {
   addresses = m.addresses;
   different = m.different;
   words = m.words;
-  apart = λ x e. absent-behind x (step_names s) (names t) (m.apart x e);
+  apart = λ x e. absent-successors x (step_names s) (names t) (m.apart x e);
   counted = omega (arith, m.counted);
 }
 
@@ -213,10 +213,10 @@ write-apart y x xs m t start now n h e =
     let p = and_parts (all_different (y ∷ xs)) (list_all (λ z. not (is_in z (names t))) (y ∷ xs)) n in
     let q = and_parts (not (is_in y (names t))) (list_all (λ z. not (is_in z (names t))) xs) p.1 in
     subst (λ z. is_in z (names t) ≡ false) (sym (same-number x y a)) (not-true (is_in y (names t)) q.0))
-    (λ (a : is_in x h.addresses ≡ true). absent-behind x (y ∷ xs) (names t) (h.apart x a))
+    (λ (a : is_in x h.addresses ≡ true). absent-successors x (y ∷ xs) (names t) (h.apart x a))
     (or_cases (nat_eq x y) (is_in x h.addresses) e)
 
--- behind a step, with one write more where it writes
+-- after a step, with one write more where it writes
 pub made-do : (s : Step) (t : Tree) (start now now' : ℕ) → Made (Do s t) start now → are_new (step_names s) (names t) ≡ true → now' ≤ now + length (step_stored_at s) → All (λ y. y < 2 ^ 32) (step_stored_at s) → Made t start now'
 made-do (Lit x v) t start now now' m n l w = made-same (Lit x v) t start now now' m (omega arith)
 made-do (Una x op y) t start now now' m n l w = made-same (Una x op y) t start now now' m (omega arith)
@@ -240,7 +240,7 @@ made-first c x y t u start now now' m l = record {
   addresses = m.addresses;
   different = m.different;
   words = m.words;
-  apart = λ z e. absent-before z (names t) (names u) (absent-behind z (x ∷ y ∷ []) (names t ++ names u) (m.apart z e));
+  apart = λ z e. absent-before z (names t) (names u) (absent-successors z (x ∷ y ∷ []) (names t ++ names u) (m.apart z e));
   counted = omega (arith, m.counted);
 }
 
@@ -249,6 +249,6 @@ made-second c x y t u start now now' m l = record {
   addresses = m.addresses;
   different = m.different;
   words = m.words;
-  apart = λ z e. absent-behind z (names t) (names u) (absent-behind z (x ∷ y ∷ []) (names t ++ names u) (m.apart z e));
+  apart = λ z e. absent-successors z (names t) (names u) (absent-successors z (x ∷ y ∷ []) (names t ++ names u) (m.apart z e));
   counted = omega (arith, m.counted);
 }

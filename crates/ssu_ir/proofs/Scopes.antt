@@ -39,9 +39,9 @@ free_known known (If c a b t u) h x f =
     (or_cases (is_in x (a ∷ b ∷ [])) (is_free x t || is_free x u) f)
 free_known known (End l) h x f = all_at (λ z. is_in z known) (last_uses l) x h f
 
-known-behind : (b : Bool) (x : ℕ) (known defs : List ℕ) → is_in x defs ≡ b → ((not b && true) ≡ true → is_in x known ≡ true) → is_in x (known ++ defs) ≡ true
-known-behind true x known defs e h = in-append x known defs ∙ or_right (is_in x known) (is_in x defs) e
-known-behind false x known defs e h = in-append x known defs ∙ or_left (is_in x known) (is_in x defs) (h refl)
+known-successors : (b : Bool) (x : ℕ) (known defs : List ℕ) → is_in x defs ≡ b → ((not b && true) ≡ true → is_in x known ≡ true) → is_in x (known ++ defs) ≡ true
+known-successors true x known defs e h = in-append x known defs ∙ or_right (is_in x known) (is_in x defs) e
+known-successors false x known defs e h = in-append x known defs ∙ or_left (is_in x known) (is_in x defs) (h refl)
 
 pub scoped_from : (known : List ℕ) (t : Tree) → ((x : ℕ) → is_free x t ≡ true → is_in x known ≡ true) → is_scoped known t ≡ true
 scoped_from known (Do s t) h =
@@ -49,7 +49,7 @@ scoped_from known (Do s t) h =
     (all_from (λ z. is_in z known) (step_names s) (λ x i. h x (or_left (is_in x (step_names s)) (not (is_in x (step_defs s)) && is_free x t) i)))
     (scoped_from (known ++ step_defs s) t
     (λ x f.
-    known-behind (is_in x (step_defs s)) x known (step_defs s) refl
+    known-successors (is_in x (step_defs s)) x known (step_defs s) refl
     (λ e.
     h x
     (or_right (is_in x (step_names s)) (not (is_in x (step_defs s)) && is_free x t)
@@ -85,7 +85,7 @@ free_named x (If c a b t u) f =
     (or_cases (is_in x (a ∷ b ∷ [])) (is_free x t || is_free x u) f)
 free_named x (End l) f = f
 
--- ---- what is carried behind a step
+-- ---- what is carried after a step
 
 pub carry-in : (same gone : Bool) (z u : ℕ) (xs : List ℕ) → is_in z ((if same then xs else []) ++ (if gone then [] else u ∷ [])) ≡ true → ((same ≡ true) × (is_in z xs ≡ true)) ⊎ ((gone ≡ false) × (z ≡ u))
 carry-in true true z u xs h = inl (refl, sym (ap (is_in z) (append-nil xs)) ∙ h)
@@ -151,7 +151,7 @@ source-clone : (b : Bool) (of : Names) (z y : ℕ) (xs : List ℕ) → is_in z x
 source-clone true of z y xs e = record { it = y; same = name-cloned true of z y xs e; carries = carry-first (nat_eq y y) (is_in y xs) z y xs (eq-eqb y y refl) e }
 source-clone false of z y xs e = record { it = z; same = name-cloned false of z y xs e; carries = carry-second (nat_eq z y) (is_in z xs) z xs e }
 
--- every name behind a step is a copy of what some name before it was
+-- every name after a step is a copy of what some name before it was
 pub source : (of : Names) (s : Step) (z : ℕ) → Source of s z
 source of (Lit x v) z = record { it = z; same = refl; carries = in-itself z [] }
 source of (Una x op y) z = record { it = z; same = refl; carries = in-itself z [] }

@@ -8,7 +8,7 @@ use Rattle.nv_base.specs.Sets.{is_in}
 use Rattle.nv_base.proofs.Sets.{in-append}
 use Rattle.ssu_ir.specs.declared.node.SsuNode.{SsuNode}
 use Rattle.ssu_ir.specs.Tree.{Step, Last, Tree, Node, step_values, step_clones, step_uses, node_values, node_uses, Do, If, End, Does, Forks, Ends}
-use Rattle.ssu_ir.specs.Slots.{node_of, kids_of, Slots, slot}
+use Rattle.ssu_ir.specs.Slots.{node_of, successors_of, Slots, slot}
 use Rattle.ssu_ir.specs.Single.{defined, step_names, names}
 use Rattle.ssu_ir.specs.inner.Checks.{node_names, step_defs, node_defs, times_in, is_free, clones_from, copy_used, access_fits, addressed, node_clones, node_clones_from, node_fits}
 use Rattle.ssu_ir.specs.inner.Under.{tree_at, HasTree}
@@ -52,15 +52,15 @@ mention_here x slots i n h f z =
     r)
     (shape slots i n h f)
 
-pub mention_none : (x : ℕ) (slots : Slots) (i : ℕ) (n : SsuNode) → HasTree slots i → slot slots i ≡ Some n → [] ≡ kids_of n → is_in x (node_names (node_of n)) ≡ false → false ≡ is_in x (names (tree_at slots i))
+pub mention_none : (x : ℕ) (slots : Slots) (i : ℕ) (n : SsuNode) → HasTree slots i → slot slots i ≡ Some n → [] ≡ successors_of n → is_in x (node_names (node_of n)) ≡ false → false ≡ is_in x (names (tree_at slots i))
 mention_none x slots i n h f e z = let o = no_kids slots i n h f e in sym (name-end x (node_of n) o.l (tree_at slots i) o.is o.tree ∙ z)
 
-pub mention_one : (x : ℕ) (slots : Slots) (i : ℕ) (n : SsuNode) (k : ℕ) → HasTree slots i → slot slots i ≡ Some n → k ∷ [] ≡ kids_of n → is_in x (node_names (node_of n)) ≡ false → is_in x (names (tree_at slots k)) ≡ is_in x (names (tree_at slots i))
+pub mention_one : (x : ℕ) (slots : Slots) (i : ℕ) (n : SsuNode) (k : ℕ) → HasTree slots i → slot slots i ≡ Some n → k ∷ [] ≡ successors_of n → is_in x (node_names (node_of n)) ≡ false → is_in x (names (tree_at slots k)) ≡ is_in x (names (tree_at slots i))
 mention_one x slots i n k h f e z =
     let o = one_kid slots i n k h f e in
     sym (name-do x (node_of n) o.s (tree_at slots k) (tree_at slots i) o.is o.tree ∙ ap (λ b. b || is_in x (names (tree_at slots k))) z)
 
-pub mention_two : (x : ℕ) (slots : Slots) (i : ℕ) (n : SsuNode) (j k : ℕ) → HasTree slots i → slot slots i ≡ Some n → j ∷ k ∷ [] ≡ kids_of n → is_in x (node_names (node_of n)) ≡ false
+pub mention_two : (x : ℕ) (slots : Slots) (i : ℕ) (n : SsuNode) (j k : ℕ) → HasTree slots i → slot slots i ≡ Some n → j ∷ k ∷ [] ≡ successors_of n → is_in x (node_names (node_of n)) ≡ false
     → (is_in x (names (tree_at slots j)) || is_in x (names (tree_at slots k))) ≡ is_in x (names (tree_at slots i))
 mention_two x slots i n j k h f e z =
     let o = two_kids slots i n j k h f e in
@@ -98,16 +98,16 @@ free_here x slots i n h f z =
     r)
     (shape slots i n h f)
 
-pub free_none : (x : ℕ) (slots : Slots) (i : ℕ) (n : SsuNode) → HasTree slots i → slot slots i ≡ Some n → [] ≡ kids_of n → is_in x (node_names (node_of n)) ≡ false → false ≡ is_free x (tree_at slots i)
+pub free_none : (x : ℕ) (slots : Slots) (i : ℕ) (n : SsuNode) → HasTree slots i → slot slots i ≡ Some n → [] ≡ successors_of n → is_in x (node_names (node_of n)) ≡ false → false ≡ is_free x (tree_at slots i)
 free_none x slots i n h f e z = let o = no_kids slots i n h f e in sym (free-end x (node_of n) o.l (tree_at slots i) o.is o.tree ∙ z)
 
-pub free_one : (x : ℕ) (slots : Slots) (i : ℕ) (n : SsuNode) (k : ℕ) → HasTree slots i → slot slots i ≡ Some n → k ∷ [] ≡ kids_of n → is_in x (node_names (node_of n)) ≡ false
+pub free_one : (x : ℕ) (slots : Slots) (i : ℕ) (n : SsuNode) (k : ℕ) → HasTree slots i → slot slots i ≡ Some n → k ∷ [] ≡ successors_of n → is_in x (node_names (node_of n)) ≡ false
     → (not (is_in x (node_defs (node_of n))) && is_free x (tree_at slots k)) ≡ is_free x (tree_at slots i)
 free_one x slots i n k h f e z =
     let o = one_kid slots i n k h f e in
     sym (free-do x (node_of n) o.s (tree_at slots k) (tree_at slots i) o.is o.tree ∙ ap (λ b. b || (not (is_in x (node_defs (node_of n))) && is_free x (tree_at slots k))) z)
 
-pub free_two : (x : ℕ) (slots : Slots) (i : ℕ) (n : SsuNode) (j k : ℕ) → HasTree slots i → slot slots i ≡ Some n → j ∷ k ∷ [] ≡ kids_of n → is_in x (node_names (node_of n)) ≡ false
+pub free_two : (x : ℕ) (slots : Slots) (i : ℕ) (n : SsuNode) (j k : ℕ) → HasTree slots i → slot slots i ≡ Some n → j ∷ k ∷ [] ≡ successors_of n → is_in x (node_names (node_of n)) ≡ false
     → (is_free x (tree_at slots j) || is_free x (tree_at slots k)) ≡ is_free x (tree_at slots i)
 free_two x slots i n j k h f e z =
     let o = two_kids slots i n j k h f e in
@@ -149,10 +149,10 @@ copy_here x slots i n h f z =
     r)
     (shape slots i n h f)
 
-pub copy_none : (x : ℕ) (slots : Slots) (i : ℕ) (n : SsuNode) → HasTree slots i → slot slots i ≡ Some n → [] ≡ kids_of n → is_in x (node_uses (node_of n)) ≡ false → false ≡ copy_used x (tree_at slots i)
+pub copy_none : (x : ℕ) (slots : Slots) (i : ℕ) (n : SsuNode) → HasTree slots i → slot slots i ≡ Some n → [] ≡ successors_of n → is_in x (node_uses (node_of n)) ≡ false → false ≡ copy_used x (tree_at slots i)
 copy_none x slots i n h f e z = let o = no_kids slots i n h f e in sym (copy-end x (node_of n) o.l (tree_at slots i) o.is o.tree ∙ z)
 
-pub copy_one : (x : ℕ) (slots : Slots) (i : ℕ) (n : SsuNode) (k : ℕ) → HasTree slots i → slot slots i ≡ Some n → k ∷ [] ≡ kids_of n → is_in x (node_uses (node_of n)) ≡ false
+pub copy_one : (x : ℕ) (slots : Slots) (i : ℕ) (n : SsuNode) (k : ℕ) → HasTree slots i → slot slots i ≡ Some n → k ∷ [] ≡ successors_of n → is_in x (node_uses (node_of n)) ≡ false
     → (list_any (λ z. copy_used z (tree_at slots k)) (node_clones_from (node_of n) x) || (not (is_in x (node_clones (node_of n))) && copy_used x (tree_at slots k))) ≡ copy_used x (tree_at slots i)
 copy_one x slots i n k h f e z =
     let o = one_kid slots i n k h f e in
@@ -160,7 +160,7 @@ copy_one x slots i n k h f e z =
     (copy-do x (node_of n) o.s (tree_at slots k) (tree_at slots i) o.is o.tree
     ∙ ap (λ b. b || (list_any (λ w. copy_used w (tree_at slots k)) (node_clones_from (node_of n) x) || (not (is_in x (node_clones (node_of n))) && copy_used x (tree_at slots k)))) z)
 
-pub copy_two : (x : ℕ) (slots : Slots) (i : ℕ) (n : SsuNode) (j k : ℕ) → HasTree slots i → slot slots i ≡ Some n → j ∷ k ∷ [] ≡ kids_of n → is_in x (node_uses (node_of n)) ≡ false
+pub copy_two : (x : ℕ) (slots : Slots) (i : ℕ) (n : SsuNode) (j k : ℕ) → HasTree slots i → slot slots i ≡ Some n → j ∷ k ∷ [] ≡ successors_of n → is_in x (node_uses (node_of n)) ≡ false
     → (copy_used x (tree_at slots j) || copy_used x (tree_at slots k)) ≡ copy_used x (tree_at slots i)
 copy_two x slots i n j k h f e z =
     let o = two_kids slots i n j k h f e in
@@ -202,10 +202,10 @@ address_here o x slots i n h f z =
     r)
     (shape slots i n h f)
 
-pub address_none : (o : Option ℕ) (x : ℕ) (slots : Slots) (i : ℕ) (n : SsuNode) → HasTree slots i → slot slots i ≡ Some n → [] ≡ kids_of n → node_fits (node_of n) x o ≡ true → true ≡ addressed o x (tree_at slots i)
+pub address_none : (o : Option ℕ) (x : ℕ) (slots : Slots) (i : ℕ) (n : SsuNode) → HasTree slots i → slot slots i ≡ Some n → [] ≡ successors_of n → node_fits (node_of n) x o ≡ true → true ≡ addressed o x (tree_at slots i)
 address_none o x slots i n h f e z = let a = no_kids slots i n h f e in sym (address-end o x (node_of n) a.l (tree_at slots i) a.is a.tree ∙ z)
 
-pub address_one : (o : Option ℕ) (x : ℕ) (slots : Slots) (i : ℕ) (n : SsuNode) (k : ℕ) → HasTree slots i → slot slots i ≡ Some n → k ∷ [] ≡ kids_of n → node_fits (node_of n) x o ≡ true
+pub address_one : (o : Option ℕ) (x : ℕ) (slots : Slots) (i : ℕ) (n : SsuNode) (k : ℕ) → HasTree slots i → slot slots i ≡ Some n → k ∷ [] ≡ successors_of n → node_fits (node_of n) x o ≡ true
     → (list_all (λ z. addressed o z (tree_at slots k)) (node_clones_from (node_of n) x) && (is_in x (node_defs (node_of n)) || addressed o x (tree_at slots k))) ≡ addressed o x (tree_at slots i)
 address_one o x slots i n k h f e z =
     let a = one_kid slots i n k h f e in
@@ -213,7 +213,7 @@ address_one o x slots i n k h f e z =
     (address-do o x (node_of n) a.s (tree_at slots k) (tree_at slots i) a.is a.tree
     ∙ ap (λ b. b && (list_all (λ w. addressed o w (tree_at slots k)) (node_clones_from (node_of n) x) && (is_in x (node_defs (node_of n)) || addressed o x (tree_at slots k)))) z)
 
-pub address_two : (o : Option ℕ) (x : ℕ) (slots : Slots) (i : ℕ) (n : SsuNode) (j k : ℕ) → HasTree slots i → slot slots i ≡ Some n → j ∷ k ∷ [] ≡ kids_of n → node_fits (node_of n) x o ≡ true
+pub address_two : (o : Option ℕ) (x : ℕ) (slots : Slots) (i : ℕ) (n : SsuNode) (j k : ℕ) → HasTree slots i → slot slots i ≡ Some n → j ∷ k ∷ [] ≡ successors_of n → node_fits (node_of n) x o ≡ true
     → (addressed o x (tree_at slots j) && addressed o x (tree_at slots k)) ≡ addressed o x (tree_at slots i)
 address_two o x slots i n j k h f e z =
     let a = two_kids slots i n j k h f e in
@@ -243,14 +243,14 @@ times-if x h c a b t u T e d =
     let m : times_in x (node_clones h) ≡ 0 = ap (λ q. times_in x (node_clones q)) e in
     omega arith
 
-pub times_none : (x : ℕ) (slots : Slots) (i : ℕ) (n : SsuNode) → HasTree slots i → slot slots i ≡ Some n → [] ≡ kids_of n → times_in x (defined (tree_at slots i)) ≡ times_in x (node_values (node_of n)) + times_in x (node_clones (node_of n))
+pub times_none : (x : ℕ) (slots : Slots) (i : ℕ) (n : SsuNode) → HasTree slots i → slot slots i ≡ Some n → [] ≡ successors_of n → times_in x (defined (tree_at slots i)) ≡ times_in x (node_values (node_of n)) + times_in x (node_clones (node_of n))
 times_none x slots i n h f e = let o = no_kids slots i n h f e in times-end x (node_of n) o.l (tree_at slots i) o.is o.tree
 
-pub times_one : (x : ℕ) (slots : Slots) (i : ℕ) (n : SsuNode) (k : ℕ) → HasTree slots i → slot slots i ≡ Some n → k ∷ [] ≡ kids_of n
+pub times_one : (x : ℕ) (slots : Slots) (i : ℕ) (n : SsuNode) (k : ℕ) → HasTree slots i → slot slots i ≡ Some n → k ∷ [] ≡ successors_of n
     → times_in x (defined (tree_at slots i)) ≡ times_in x (node_values (node_of n)) + times_in x (node_clones (node_of n)) + times_in x (defined (tree_at slots k))
 times_one x slots i n k h f e = let o = one_kid slots i n k h f e in times-do x (node_of n) o.s (tree_at slots k) (tree_at slots i) o.is o.tree
 
-pub times_two : (x : ℕ) (slots : Slots) (i : ℕ) (n : SsuNode) (j k : ℕ) → HasTree slots i → slot slots i ≡ Some n → j ∷ k ∷ [] ≡ kids_of n
+pub times_two : (x : ℕ) (slots : Slots) (i : ℕ) (n : SsuNode) (j k : ℕ) → HasTree slots i → slot slots i ≡ Some n → j ∷ k ∷ [] ≡ successors_of n
     → times_in x (defined (tree_at slots i)) ≡ times_in x (node_values (node_of n)) + times_in x (node_clones (node_of n)) + (times_in x (defined (tree_at slots j)) + times_in x (defined (tree_at slots k)))
 times_two x slots i n j k h f e = let o = two_kids slots i n j k h f e in times-if x (node_of n) o.c o.x o.y (tree_at slots j) (tree_at slots k) (tree_at slots i) o.is o.tree
 

@@ -15,8 +15,8 @@ use Rattle.nv_base.specs.World.{World, over, ended, wrote}
 use Rattle.nv_base.proofs.Operands.{is_access}
 use Rattle.nv_base.proofs.LogLemmas.{noted-append}
 use Rattle.ssu_ir.specs.declared.node.NodeId.{NodeId}
-use Rattle.ssu_ir.specs.declared.step.Leaving.TheVariants.{Jump as LeavesBy, Over}
-use Rattle.ssu_ir.specs.declared.step.Went.TheVariants.{On, Left}
+use Rattle.ssu_ir.specs.declared.step.LabelExit.TheVariants.{Jump as LeavesBy, Over}
+use Rattle.ssu_ir.specs.declared.step.NextStep.TheVariants.{On, Left}
 use Rattle.ssu_ir.specs.Tree.{Step, Read, Write, Jump, Halt, Node, Does, Forks, Ends}
 use Rattle.ssu_ir.specs.Entered.{Exit, EndsWith, JumpsTo, exit_after_read, exit_after_write, step_exit}
 use Rattle.ssu_ir.specs.inner.Running.{At, Stepped, node_exit}

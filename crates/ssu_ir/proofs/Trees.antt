@@ -4,7 +4,7 @@ use Rattle.ssu_ir.specs.declared.node.SsuNode.TheVariants.{Lit, Una, Clone, Read
 use Rattle.std.proofs.lemmas.Bool.Decides.{eqb_tells}
 use Rattle.ssu_ir.specs.declared.node.SsuNode.{SsuNode}
 use Rattle.ssu_ir.specs.Tree.{Node, Does, Forks, Ends}
-use Rattle.ssu_ir.specs.Slots.{node_of, kids_of, over, Placed, root, roots_of, bare, bare_all, here, times, times_all, weight, weight_all, Slots, slot, occupied, filled, Stands, AllStand, place, place_slot, placed_at, placed_all, placed_in, each_number, is_slot, is_there, Formed, DoAt, IfAt, EndAt}
+use Rattle.ssu_ir.specs.Slots.{node_of, successors_of, over, Placed, root, roots_of, bare, bare_all, here, times, times_all, weight, weight_all, Slots, slot, occupied, filled, Stands, AllStand, place, place_slot, placed_at, placed_all, placed_in, each_number, is_slot, is_there, Formed, DoAt, IfAt, EndAt}
 use Rattle.ssu_ir.specs.Build.{Rooted, ids, trees_of, rooted, rooted_all, Forest}
 
 -- ---- nodes
@@ -14,7 +14,7 @@ arity (Does s) = 1
 arity (Forks c x y) = 2
 arity (Ends l) = 0
 
-pub arity_of : (n : SsuNode) → length (kids_of n) ≡ arity (node_of n)
+pub arity_of : (n : SsuNode) → length (successors_of n) ≡ arity (node_of n)
 arity_of (Lit x v k) = refl
 arity_of (Bin x o y z k) = refl
 arity_of (Una x o y k) = refl
@@ -35,10 +35,10 @@ and_second false b h = absurd (cc)
 
 -- ---- a tree that stands is read again
 
-pub place_slot_is : (i : ℕ) (below : ℕ → Placed) (o : Option SsuNode) (n : SsuNode) (h : Node) (ks : List ℕ) → o ≡ Some n → node_of n ≡ h → kids_of n ≡ ks → place_slot i below o ≡ place i below h ks
-place_slot_is i below o n h ks e d k = ap (place_slot i below) e ∙ ap (λ x. place i below x (kids_of n)) d ∙ ap (place i below h) k
+pub place_slot_is : (i : ℕ) (below : ℕ → Placed) (o : Option SsuNode) (n : SsuNode) (h : Node) (ks : List ℕ) → o ≡ Some n → node_of n ≡ h → successors_of n ≡ ks → place_slot i below o ≡ place i below h ks
+place_slot_is i below o n h ks e d k = ap (place_slot i below) e ∙ ap (λ x. place i below x (successors_of n)) d ∙ ap (place i below h) k
 
-pub is_slot_is : (test : ℕ → Bool) (o : Option SsuNode) (n : SsuNode) (ks : List ℕ) → o ≡ Some n → kids_of n ≡ ks → is_slot test o ≡ each_number test ks
+pub is_slot_is : (test : ℕ → Bool) (o : Option SsuNode) (n : SsuNode) (ks : List ℕ) → o ≡ Some n → successors_of n ≡ ks → is_slot test o ≡ each_number test ks
 is_slot_is test o n ks e k = ap (is_slot test) e ∙ ap (each_number test) k
 
 -- what is read under the root of a tree
@@ -146,7 +146,7 @@ record Over (key : ℕ) (n : SsuNode) (qs : List Placed) : Type 0 where
   counts : (i : ℕ) → times i tree ≡ here i key + times_all i qs
   weighs : weight tree ≡ 1 + weight_all qs
 
-over_head : (key : ℕ) (n : SsuNode) (h : Node) (qs : List Placed) → node_of n ≡ h → kids_of n ≡ roots_of qs → length (roots_of qs) ≡ arity h → Over key n qs
+over_head : (key : ℕ) (n : SsuNode) (h : Node) (qs : List Placed) → node_of n ≡ h → successors_of n ≡ roots_of qs → length (roots_of qs) ≡ arity h → Over key n qs
 over_head key n (Does s) [] e k a = absurd (omega arith)
 over_head key n (Does s) (p ∷ []) e k a = record {
   tree = DoAt key s p;
@@ -178,9 +178,9 @@ over_head key n (Ends l) [] e k a = record {
 }
 over_head key n (Ends l) (p ∷ qs) e k a = absurd (omega arith)
 
-over_node : (key : ℕ) (n : SsuNode) (qs : List Placed) → ids (rooted_all qs) ≡ kids_of n → Over key n qs
+over_node : (key : ℕ) (n : SsuNode) (qs : List Placed) → ids (rooted_all qs) ≡ successors_of n → Over key n qs
 over_node key n qs e =
-    let k : kids_of n ≡ roots_of qs = sym e ∙ sym (roots-rooted qs) in
+    let k : successors_of n ≡ roots_of qs = sym e ∙ sym (roots-rooted qs) in
     over_head key n (node_of n) qs refl k (ap length (sym k) ∙ arity_of n)
 
 pub times_all-append : (i : ℕ) (a b : List Placed) → times_all i (a ++ b) ≡ times_all i a + times_all i b
@@ -224,7 +224,7 @@ kept_node : (slots new : Slots) (key : ℕ) (n : SsuNode) → Added slots new ke
 kept_node slots new key n a i m h =
     a.others i (λ e. let was : slot slots i ≡ None = ap (slot slots) e ∙ a.was in cc) ∙ h
 
-pub grown : (slots new : Slots) (key : ℕ) (n : SsuNode) → Added slots new key n → (taken rest : List Rooted) → ids taken ≡ kids_of n → Forest slots (taken ++ rest) → Forest new ((key, over (node_of n) (trees_of taken)) ∷ rest)
+pub grown : (slots new : Slots) (key : ℕ) (n : SsuNode) → Added slots new key n → (taken rest : List Rooted) → ids taken ≡ successors_of n → Forest slots (taken ++ rest) → Forest new ((key, over (node_of n) (trees_of taken)) ∷ rest)
 grown slots new key n a taken rest e f =
     let s = split f.placed taken rest f.as_said in
     let o = over_node key n s.front (ap ids s.is_front ∙ e) in

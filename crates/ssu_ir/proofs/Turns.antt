@@ -6,7 +6,7 @@ use Rattle.ssu_ir.specs.declared.node.SsuNode.{SsuNode}
 use Rattle.ssu_ir.specs.declared.node.SsuLabel.{SsuLabel}
 use Rattle.ssu_ir.specs.declared.node.NodeId.{NodeId}
 use Rattle.ssu_ir.specs.Tree.{Tree}
-use Rattle.ssu_ir.specs.Slots.{Placed, root, roots_of, kids, preorder, preorder_all, Slots, slot, Stands, AllStand, bodies, DoAt, IfAt, EndAt}
+use Rattle.ssu_ir.specs.Slots.{Placed, root, roots_of, successor_list, preorder, preorder_all, Slots, slot, Stands, AllStand, bodies, DoAt, IfAt, EndAt}
 use Rattle.ssu_ir.specs.Work.{nums, tops}
 use Rattle.ssu_ir.specs.Build.{Rooted, ids, trees_of}
 use Rattle.ssu_ir.proofs.Reading.{Below, there_is, below}
@@ -18,7 +18,7 @@ pub record Made (slots : Slots) (i : ℕ) (ps : List Placed) (Later : Placed →
   pub top : Placed
   pub rest : List Placed
   pub at_number : root top ≡ i
-  pub uses : ps ≡ kids top ++ rest
+  pub uses : ps ≡ successor_list top ++ rest
   pub stands : Stands slots top
   pub later : Later top rest
 

@@ -6,7 +6,7 @@ use Rattle.ssu_ir.specs.declared.node.SsuNode.{SsuNode}
 use Rattle.ssu_ir.specs.declared.node.SsuLabel.{SsuLabel}
 use Rattle.ssu_ir.specs.declared.ssu.Ssu.{Ssu}
 use Rattle.ssu_ir.specs.Tree.{Step, Last, Do, If, End, Does, Forks, Ends}
-use Rattle.ssu_ir.specs.Slots.{node_of, kids_of, Placed, root, roots_of, bare, bare_all, weight, weight_all, Slots, slot, filled, Stands, AllStand, placed_at, placed_all, placed_in, Formed, bodies, DoAt, IfAt, EndAt}
+use Rattle.ssu_ir.specs.Slots.{node_of, successors_of, Placed, root, roots_of, bare, bare_all, weight, weight_all, Slots, slot, filled, Stands, AllStand, placed_at, placed_all, placed_in, Formed, bodies, DoAt, IfAt, EndAt}
 use Rattle.ssu_ir.specs.View.{with_bodies, labels_view}
 use Rattle.ssu_ir.specs.inner.Under.{tree_at, weight_at, HasTree, AllHave, label_of}
 use Rattle.ssu_ir.proofs.Trees.{again}
@@ -20,7 +20,7 @@ present_tree slots i h = let w = there_is slots h.placed h.stands in is_some_fro
 read_root : (slots : Slots) (p : Placed) → Stands slots p → weight p ≤ filled slots → placed_at (filled slots) slots (root p) ≡ p
 read_root slots p h w = (again slots (filled slots) p h w).same
 
--- ---- the trees behind a node
+-- ---- the trees after a node
 
 pub record Kid (slots : Slots) (i k : ℕ) : Type 0 where
   pub has : HasTree slots k
@@ -57,23 +57,23 @@ pub record TwoKids (slots : Slots) (i : ℕ) (n : SsuNode) (j k : ℕ) : Type 0 
 bare_root : (slots : Slots) (p : Placed) → Stands slots p → weight p ≤ filled slots → tree_at slots (root p) ≡ bare p
 bare_root slots p h w = ap bare (read_root slots p h w)
 
-none_of : (slots : Slots) (p : Placed) (n : SsuNode) → Stands slots p → weight p ≤ filled slots → slot slots (root p) ≡ Some n → kids_of n ≡ [] → NoKids slots (root p) n
+none_of : (slots : Slots) (p : Placed) (n : SsuNode) → Stands slots p → weight p ≤ filled slots → slot slots (root p) ≡ Some n → successors_of n ≡ [] → NoKids slots (root p) n
 none_of slots (DoAt i s q) n h w f e =
     let same : h.0.node ≡ n = let g = h.0.found in cc in
-    let two : kids_of n ≡ root q ∷ [] = ap kids_of (sym same) ∙ h.0.children in
+    let two : successors_of n ≡ root q ∷ [] = ap successors_of (sym same) ∙ h.0.children in
     absurd (cc)
 none_of slots (IfAt i c x y q r) n h w f e =
     let same : h.0.node ≡ n = let g = h.0.found in cc in
-    let two : kids_of n ≡ root q ∷ root r ∷ [] = ap kids_of (sym same) ∙ h.0.children in
+    let two : successors_of n ≡ root q ∷ root r ∷ [] = ap successors_of (sym same) ∙ h.0.children in
     absurd (cc)
 none_of slots (EndAt i l) n h w f e =
     let same : h.node ≡ n = let g = h.found in cc in
     record { l = l; is = ap node_of (sym same) ∙ h.is; tree = bare_root slots (EndAt i l) h w }
 
-one_of : (slots : Slots) (p : Placed) (n : SsuNode) (k : ℕ) → Stands slots p → weight p ≤ filled slots → slot slots (root p) ≡ Some n → kids_of n ≡ k ∷ [] → OneKid slots (root p) n k
+one_of : (slots : Slots) (p : Placed) (n : SsuNode) (k : ℕ) → Stands slots p → weight p ≤ filled slots → slot slots (root p) ≡ Some n → successors_of n ≡ k ∷ [] → OneKid slots (root p) n k
 one_of slots (DoAt i s q) n k h w f e =
     let same : h.0.node ≡ n = let g = h.0.found in cc in
-    let kids : kids_of n ≡ root q ∷ [] = ap kids_of (sym same) ∙ h.0.children in
+    let successor_list : successors_of n ≡ root q ∷ [] = ap successors_of (sym same) ∙ h.0.children in
     let at : root q ≡ k = cc in
     let within : weight q ≤ filled slots = omega arith in
     record {
@@ -84,21 +84,21 @@ one_of slots (DoAt i s q) n k h w f e =
     }
 one_of slots (IfAt i c x y q r) n k h w f e =
     let same : h.0.node ≡ n = let g = h.0.found in cc in
-    let two : kids_of n ≡ root q ∷ root r ∷ [] = ap kids_of (sym same) ∙ h.0.children in
+    let two : successors_of n ≡ root q ∷ root r ∷ [] = ap successors_of (sym same) ∙ h.0.children in
     absurd (cc)
 one_of slots (EndAt i l) n k h w f e =
     let same : h.node ≡ n = let g = h.found in cc in
-    let none : kids_of n ≡ [] = ap kids_of (sym same) ∙ h.children in
+    let none : successors_of n ≡ [] = ap successors_of (sym same) ∙ h.children in
     absurd (cc)
 
-two_of : (slots : Slots) (p : Placed) (n : SsuNode) (j k : ℕ) → Stands slots p → weight p ≤ filled slots → slot slots (root p) ≡ Some n → kids_of n ≡ j ∷ k ∷ [] → TwoKids slots (root p) n j k
+two_of : (slots : Slots) (p : Placed) (n : SsuNode) (j k : ℕ) → Stands slots p → weight p ≤ filled slots → slot slots (root p) ≡ Some n → successors_of n ≡ j ∷ k ∷ [] → TwoKids slots (root p) n j k
 two_of slots (DoAt i s q) n j k h w f e =
     let same : h.0.node ≡ n = let g = h.0.found in cc in
-    let kids : kids_of n ≡ root q ∷ [] = ap kids_of (sym same) ∙ h.0.children in
+    let successor_list : successors_of n ≡ root q ∷ [] = ap successors_of (sym same) ∙ h.0.children in
     absurd (cc)
 two_of slots (IfAt i c x y q r) n j k h w f e =
     let same : h.0.node ≡ n = let g = h.0.found in cc in
-    let two : kids_of n ≡ root q ∷ root r ∷ [] = ap kids_of (sym same) ∙ h.0.children in
+    let two : successors_of n ≡ root q ∷ root r ∷ [] = ap successors_of (sym same) ∙ h.0.children in
     let at : root q ≡ j = cc in
     let to : root r ≡ k = cc in
     let within : weight q ≤ filled slots = omega arith in
@@ -117,38 +117,38 @@ two_of slots (IfAt i c x y q r) n j k h w f e =
     }
 two_of slots (EndAt i l) n j k h w f e =
     let same : h.node ≡ n = let g = h.found in cc in
-    let none : kids_of n ≡ [] = ap kids_of (sym same) ∙ h.children in
+    let none : successors_of n ≡ [] = ap successors_of (sym same) ∙ h.children in
     absurd (cc)
 
-pub no_kids : (slots : Slots) (i : ℕ) (n : SsuNode) → HasTree slots i → slot slots i ≡ Some n → [] ≡ kids_of n → NoKids slots i n
+pub no_kids : (slots : Slots) (i : ℕ) (n : SsuNode) → HasTree slots i → slot slots i ≡ Some n → [] ≡ successors_of n → NoKids slots i n
 no_kids slots i n h f e =
     let P : ℕ → Type 0 = λ j. NoKids slots j n in
     subst P h.at_number (none_of slots h.placed n h.stands h.within (ap (slot slots) h.at_number ∙ f) (sym e))
 
-pub one_kid : (slots : Slots) (i : ℕ) (n : SsuNode) (k : ℕ) → HasTree slots i → slot slots i ≡ Some n → k ∷ [] ≡ kids_of n → OneKid slots i n k
+pub one_kid : (slots : Slots) (i : ℕ) (n : SsuNode) (k : ℕ) → HasTree slots i → slot slots i ≡ Some n → k ∷ [] ≡ successors_of n → OneKid slots i n k
 one_kid slots i n k h f e =
     let P : ℕ → Type 0 = λ j. OneKid slots j n k in
     subst P h.at_number (one_of slots h.placed n k h.stands h.within (ap (slot slots) h.at_number ∙ f) (sym e))
 
-pub two_kids : (slots : Slots) (i : ℕ) (n : SsuNode) (j k : ℕ) → HasTree slots i → slot slots i ≡ Some n → j ∷ k ∷ [] ≡ kids_of n → TwoKids slots i n j k
+pub two_kids : (slots : Slots) (i : ℕ) (n : SsuNode) (j k : ℕ) → HasTree slots i → slot slots i ≡ Some n → j ∷ k ∷ [] ≡ successors_of n → TwoKids slots i n j k
 two_kids slots i n j k h f e =
     let P : ℕ → Type 0 = λ r. TwoKids slots r n j k in
     subst P h.at_number (two_of slots h.placed n j k h.stands h.within (ap (slot slots) h.at_number ∙ f) (sym e))
 
--- what is behind the node of a number
+-- what is after the node of a number
 abbrev pub Shape : Slots → ℕ → SsuNode → Type 0
 Shape slots i n = NoKids slots i n ⊎ (((k : ℕ) × OneKid slots i n k) ⊎ ((j : ℕ) × ((k : ℕ) × TwoKids slots i n j k)))
 
 shape_of : (slots : Slots) (p : Placed) (n : SsuNode) → Stands slots p → weight p ≤ filled slots → slot slots (root p) ≡ Some n → Shape slots (root p) n
 shape_of slots (DoAt i s q) n h w f =
     let same : h.0.node ≡ n = let g = h.0.found in cc in
-    inr (inl (root q, one_of slots (DoAt i s q) n (root q) h w f (ap kids_of (sym same) ∙ h.0.children)))
+    inr (inl (root q, one_of slots (DoAt i s q) n (root q) h w f (ap successors_of (sym same) ∙ h.0.children)))
 shape_of slots (IfAt i c x y q r) n h w f =
     let same : h.0.node ≡ n = let g = h.0.found in cc in
-    inr (inr (root q, (root r, two_of slots (IfAt i c x y q r) n (root q) (root r) h w f (ap kids_of (sym same) ∙ h.0.children))))
+    inr (inr (root q, (root r, two_of slots (IfAt i c x y q r) n (root q) (root r) h w f (ap successors_of (sym same) ∙ h.0.children))))
 shape_of slots (EndAt i l) n h w f =
     let same : h.node ≡ n = let g = h.found in cc in
-    inl (none_of slots (EndAt i l) n h w f (ap kids_of (sym same) ∙ h.children))
+    inl (none_of slots (EndAt i l) n h w f (ap successors_of (sym same) ∙ h.children))
 
 pub shape : (slots : Slots) (i : ℕ) (n : SsuNode) → HasTree slots i → slot slots i ≡ Some n → Shape slots i n
 shape slots i n h f =

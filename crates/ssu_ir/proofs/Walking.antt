@@ -15,12 +15,12 @@ use Rattle.ssu_ir.specs.declared.node.SsuNode.{SsuNode}
 use Rattle.ssu_ir.specs.declared.node.SsuNode.TheVariants as node
 use Rattle.ssu_ir.specs.declared.node.SsuLabel.{SsuLabel}
 use Rattle.ssu_ir.specs.declared.ssu.Ssu.{Ssu}
-use Rattle.ssu_ir.specs.declared.step.Leaving.{Leaving}
-use Rattle.ssu_ir.specs.declared.step.Went.{Went}
-use Rattle.ssu_ir.specs.declared.step.Went.TheVariants.{On, Left}
+use Rattle.ssu_ir.specs.declared.step.LabelExit.{LabelExit}
+use Rattle.ssu_ir.specs.declared.step.NextStep.{NextStep}
+use Rattle.ssu_ir.specs.declared.step.NextStep.TheVariants.{On, Left}
 use Rattle.ssu_ir.specs.Tree.{Last, Jump, Halt, Tree, Label, Do, If, Node, Does, Forks, Ends, step_values, step_clones}
 use Rattle.ssu_ir.specs.Single.{is_step, is_last, are_nodes, are_new, uses_once, takes_as_many, step_names, names}
-use Rattle.ssu_ir.specs.Slots.{Slots, slot, node_of, kids_of}
+use Rattle.ssu_ir.specs.Slots.{Slots, slot, node_of, successors_of}
 use Rattle.ssu_ir.specs.View.{labels_view}
 use Rattle.ssu_ir.specs.Entered.{Exit, tree_exit}
 use Rattle.ssu_ir.specs.inner.Checks.{is_node, node_defs}
@@ -34,7 +34,7 @@ use Rattle.ssu_ir.proofs.Runs.{Made, made-do, made-first, made-second, made-few}
 abbrev Many : List ℕ → Type 0
 Many ks = (ks ≡ []) ⊎ (((k : ℕ) × (ks ≡ k ∷ [])) ⊎ ((j : ℕ) × ((k : ℕ) × (ks ≡ j ∷ k ∷ []))))
 
-many : (n : SsuNode) → Many (kids_of n)
+many : (n : SsuNode) → Many (successors_of n)
 many (node.Lit x v k) = inr (inl (k.0, refl))
 many (node.Una x op y k) = inr (inl (k.0, refl))
 many (node.Bin x op y z k) = inr (inl (k.0, refl))
@@ -49,18 +49,18 @@ many (node.Halt e xs) = inl refl
 abbrev exits : Slots → ℕ → Env → World → Exit
 exits slots j = tree_exit (tree_at slots j)
 
-node-tree : (slots : Slots) (i : ℕ) (n : SsuNode) (env : Env) (w : World) → HasTree slots i → slot slots i ≡ Some n → tree_exit (tree_at slots i) env w ≡ node_exit (node_of n) (kids_of n) (exits slots) env w
+node-tree : (slots : Slots) (i : ℕ) (n : SsuNode) (env : Env) (w : World) → HasTree slots i → slot slots i ≡ Some n → tree_exit (tree_at slots i) env w ≡ node_exit (node_of n) (successors_of n) (exits slots) env w
 node-tree slots i n env w h f = elim (many n) [
   | inl e ↦
       let k = no_kids slots i n h f (sym e) in
-      ap (λ t. tree_exit t env w) k.tree ∙ sym (ap (λ x. node_exit x (kids_of n) (exits slots) env w) k.is)
+      ap (λ t. tree_exit t env w) k.tree ∙ sym (ap (λ x. node_exit x (successors_of n) (exits slots) env w) k.is)
   | inr more ↦ elim more [
     | inl one ↦
         let k = one_kid slots i n one.0 h f (sym one.1) in
-        ap (λ t. tree_exit t env w) k.tree ∙ sym (ap (λ x. node_exit x (kids_of n) (exits slots) env w) k.is ∙ ap (λ ks. node_exit (Does k.s) ks (exits slots) env w) one.1)
+        ap (λ t. tree_exit t env w) k.tree ∙ sym (ap (λ x. node_exit x (successors_of n) (exits slots) env w) k.is ∙ ap (λ ks. node_exit (Does k.s) ks (exits slots) env w) one.1)
     | inr two ↦
         let k = two_kids slots i n two.0 two.1.0 h f (sym two.1.1) in
-        ap (λ t. tree_exit t env w) k.tree ∙ sym (ap (λ x. node_exit x (kids_of n) (exits slots) env w) k.is ∙ ap (λ ks. node_exit (Forks k.c k.x k.y) ks (exits slots) env w) two.1.1)
+        ap (λ t. tree_exit t env w) k.tree ∙ sym (ap (λ x. node_exit x (successors_of n) (exits slots) env w) k.is ∙ ap (λ ks. node_exit (Forks k.c k.x k.y) ks (exits slots) env w) two.1.1)
   ]
 ]
 
@@ -139,7 +139,7 @@ child-second slots labels i j k n start now now' o a u m l =
 at-number : (slots : Slots) (labels : List Label) (i j k start now' : ℕ) → nat_eq k j ≡ true → ChildOf slots labels i j start now' → ChildOf slots labels i k start now'
 at-number slots labels i j k start now' e c = let P : ℕ → Type 0 = λ x. ChildOf slots labels i x start now' in subst P (sym (same-number k j e)) c
 
-child : (slots : Slots) (labels : List Label) (i k : ℕ) (n : SsuNode) (start now now' : ℕ) → HasTree slots i → slot slots i ≡ Some n → is_in k (kids_of n) ≡ true → are_nodes labels (tree_at slots i) ≡ true → uses_once (tree_at slots i) ≡ true
+child : (slots : Slots) (labels : List Label) (i k : ℕ) (n : SsuNode) (start now now' : ℕ) → HasTree slots i → slot slots i ≡ Some n → is_in k (successors_of n) ≡ true → are_nodes labels (tree_at slots i) ≡ true → uses_once (tree_at slots i) ≡ true
     → Made (tree_at slots i) start now → now' ≤ now + length (stored_at (node_of n)) → All (λ y. y < 2 ^ 32) (stored_at (node_of n)) → ChildOf slots labels i k start now'
 child slots labels i k n start now now' h f g a u m l w = elim (many n) [
   | inl e ↦ absurd (false≢true (sym (ap (is_in k) e) ∙ g))
@@ -164,18 +164,18 @@ child slots labels i k n start now now' h f g a u m l w = elim (many n) [
 
 -- ---- one node more
 
-abbrev pub Steps : SsuNode → Env → Memories → Log → Went → List ℕ → Env → Memories → Log → Type 0
-Steps n env p log r ws env' p' log' = (log0 : Log) (w : World) → At log0 p log w → Stepped (node_of n) (kids_of n) env log0 w r ws env' p' log'
+abbrev pub Steps : SsuNode → Env → Memories → Log → NextStep → List ℕ → Env → Memories → Log → Type 0
+Steps n env p log r ws env' p' log' = (log0 : Log) (w : World) → At log0 p log w → Stepped (node_of n) (successors_of n) env log0 w r ws env' p' log'
 
 pub record Onward (slots : Slots) (labels : List Label) (start : ℕ) (env0 : Env) (p0 : Memories) (log1 : Log) (i k : ℕ) (env : Env) (p : Memories) (log : Log) : Type 0 where
   pub walking : Walking slots labels start env0 p0 log1 k env p log
   pub lighter : weight_at slots k < weight_at slots i
 
-pub walk-on : (slots : Slots) (labels : List Label) (start : ℕ) (env0 : Env) (p0 : Memories) (log1 : Log) (i : ℕ) (env : Env) (p : Memories) (log : Log) (n : SsuNode) (r : Went) (k : NodeId) (ws : List ℕ) (env' : Env) (p' : Memories) (log' : Log)
-    → Walking slots labels start env0 p0 log1 i env p log → slot slots i ≡ Some n → Steps n env p log r ws env' p' log' → r ≡ On k → GoesOn (kids_of n) r
+pub walk-on : (slots : Slots) (labels : List Label) (start : ℕ) (env0 : Env) (p0 : Memories) (log1 : Log) (i : ℕ) (env : Env) (p : Memories) (log : Log) (n : SsuNode) (r : NextStep) (k : NodeId) (ws : List ℕ) (env' : Env) (p' : Memories) (log' : Log)
+    → Walking slots labels start env0 p0 log1 i env p log → slot slots i ≡ Some n → Steps n env p log r ws env' p' log' → r ≡ On k → GoesOn (successors_of n) r
     → log'.count ≤ log.count + length (stored_at (node_of n)) → All (λ y. y < 2 ^ 32) (stored_at (node_of n)) → Onward slots labels start env0 p0 log1 i k.0 env' p' log'
 walk-on slots labels start env0 p0 log1 i env p log n r k ws env' p' log' h f s e g l w =
-    let Next : Went → Type 0 = GoesOn (kids_of n) in
+    let Next : NextStep → Type 0 = GoesOn (successors_of n) in
     let c = child slots labels i k.0 n log1.count log.count log'.count h.has f (subst Next e g) h.nodes h.once h.made l w in
     record {
       walking = record {
@@ -195,7 +195,7 @@ walk-on slots labels start env0 p0 log1 i env p log n r k ws env' p' log' h f s 
       lighter = c.lighter;
     }
 
-pub walk-left : (slots : Slots) (labels : List Label) (start : ℕ) (env0 : Env) (p0 : Memories) (log1 : Log) (i : ℕ) (env : Env) (p : Memories) (log : Log) (n : SsuNode) (r : Went) (l : Leaving) (ws : List ℕ) (env' : Env) (p' : Memories) (log' : Log)
+pub walk-left : (slots : Slots) (labels : List Label) (start : ℕ) (env0 : Env) (p0 : Memories) (log1 : Log) (i : ℕ) (env : Env) (p : Memories) (log : Log) (n : SsuNode) (r : NextStep) (l : LabelExit) (ws : List ℕ) (env' : Env) (p' : Memories) (log' : Log)
     → Walking slots labels start env0 p0 log1 i env p log → slot slots i ≡ Some n → Steps n env p log r ws env' p' log' → r ≡ Left l
     → (log0 : Log) (w : World) → At log0 p0 log1 w → LeftBy (tree_exit (tree_at slots start) env0 w) log0 l ws p' log'
 walk-left slots labels start env0 p0 log1 i env p log n r l ws env' p' log' h f s e log0 w a =
@@ -257,11 +257,11 @@ room-same s places places' room room' h e d =
     let Q : ℕ → Type 0 = HasRoom s places' in
     subst Q (sym d) (subst P (sym e) h)
 
--- ---- how often the label has written behind a node
+-- ---- how often the label has written after a node
 
-pub few-behind : (slots : Slots) (i : ℕ) (n : SsuNode) (start now now' : ℕ) → HasTree slots i → slot slots i ≡ Some n → uses_once (tree_at slots i) ≡ true → Made (tree_at slots i) start now
+pub few-successors : (slots : Slots) (i : ℕ) (n : SsuNode) (start now now' : ℕ) → HasTree slots i → slot slots i ≡ Some n → uses_once (tree_at slots i) ≡ true → Made (tree_at slots i) start now
     → now' ≤ now + length (stored_at (node_of n)) → All (λ y. y < 2 ^ 32) (stored_at (node_of n)) → now' ≤ start + 2 ^ 32
-few-behind slots i n start now now' h f u m l w = elim (many n) [
+few-successors slots i n start now now' h f u m l w = elim (many n) [
   | inl e ↦
       let k = no_kids slots i n h f (sym e) in
       let stores : now' ≤ now + 0 = subst (λ (x : Node). now' ≤ now + length (stored_at x)) k.is l in

@@ -8,7 +8,7 @@ use Rattle.ssu_ir.specs.declared.node.SsuLabel.{SsuLabel}
 use Rattle.ssu_ir.specs.declared.node.NodeId.{NodeId}
 use Rattle.ssu_ir.specs.declared.ssu.Ssu.{Ssu}
 use Rattle.ssu_ir.specs.Tree.{Step, Last, Tree, Label, Node, Do, If, End, Does, Forks, Ends}
-use Rattle.ssu_ir.specs.Slots.{node_of, kids_of, over, Placed, root, roots_of, kids, bare, bare_all, preorder, preorder_all, Slots, slot, Stands, AllStand, placed_in, Formed, bodies}
+use Rattle.ssu_ir.specs.Slots.{node_of, successors_of, over, Placed, root, roots_of, successor_list, bare, bare_all, preorder, preorder_all, Slots, slot, Stands, AllStand, placed_in, Formed, bodies}
 use Rattle.ssu_ir.specs.View.{placed_of, with_bodies, labels_view}
 use Rattle.ssu_ir.specs.Work.{nums, tops, Todo}
 use Rattle.ssu_ir.proofs.Trees.{arity}
@@ -67,11 +67,11 @@ next slots i rest [] e h = absurd (cc)
 next slots i rest (p ∷ ps) e h = record { top = p; others = ps; is = refl; at_number = cc; at_rest = cc; stands = h.0; stand = h.1 }
 
 -- the work after that tree's root
-abbrev pub todo_next : (slots : Slots) (i : ℕ) (rest work : List ℕ) (left : List Placed) (t : Next slots i rest left) (n : SsuNode) → Below slots t.top n → work ≡ kids_of n ++ rest → Todo slots work
+abbrev pub todo_next : (slots : Slots) (i : ℕ) (rest work : List ℕ) (left : List Placed) (t : Next slots i rest left) (n : SsuNode) → Below slots t.top n → work ≡ successors_of n ++ rest → Todo slots work
 todo_next slots i rest work left t n b e = record {
-  left = kids t.top ++ t.others;
-  at_numbers = roots_of-append (kids t.top) t.others ∙ ap (λ l. l ++ roots_of t.others) (sym b.numbers) ∙ ap (λ l. kids_of n ++ l) t.at_rest ∙ sym e;
-  stand = all_stand-append slots (kids t.top) t.others b.stand t.stand;
+  left = successor_list t.top ++ t.others;
+  at_numbers = roots_of-append (successor_list t.top) t.others ∙ ap (λ l. l ++ roots_of t.others) (sym b.numbers) ∙ ap (λ l. successors_of n ++ l) t.at_rest ∙ sym e;
+  stand = all_stand-append slots (successor_list t.top) t.others b.stand t.stand;
 }
 
 -- ---- steps, by what the calls of a loop ensure
@@ -133,8 +133,8 @@ length-bare_all [] = refl
 length-bare_all (p ∷ ps) = omega (arith, length-bare_all ps)
 
 -- what a node counts and what is below it
-pub sum_below : (f : Node → ℕ) (F : Tree → ℕ) → IsSum f F → (slots : Slots) (p : Placed) (n : SsuNode) → Below slots p n → F (bare p) ≡ f (node_of n) + sum_trees F (bare_all (kids p))
-sum_below f F k slots p n b = ap F b.tree ∙ sum-over f F k (node_of n) (bare_all (kids p)) (length-bare_all (kids p) ∙ b.many)
+pub sum_below : (f : Node → ℕ) (F : Tree → ℕ) → IsSum f F → (slots : Slots) (p : Placed) (n : SsuNode) → Below slots p n → F (bare p) ≡ f (node_of n) + sum_trees F (bare_all (successor_list p))
+sum_below f F k slots p n b = ap F b.tree ∙ sum-over f F k (node_of n) (bare_all (successor_list p)) (length-bare_all (successor_list p) ∙ b.many)
 
 -- after a node, what is counted and what is still to be counted is the whole
 pub record SumStep (F : Tree → ℕ) (slots : Slots) (new : List NodeId) (total goal : ℕ) : Type 0 where
@@ -149,7 +149,7 @@ sum_within f F k slots old mid x n total goal e g t sum =
     let s : sum_trees F (bare_all t.left) ≡ F (bare d.top) + sum_trees F (bare_all d.others) = ap (λ l. sum_trees F (bare_all l)) d.is in
     omega (arith, b)
 
-pub sum_step : (f : Node → ℕ) (F : Tree → ℕ) → IsSum f F → (slots : Slots) (old mid new : List NodeId) (x : NodeId) (n : SsuNode) (total goal : ℕ) → old ≡ mid ++ x ∷ [] → slot slots x.0 ≡ Some n → tops new ≡ kids_of n ++ tops mid → (t : Todo slots (tops old)) → total + sum_trees F (bare_all t.left) ≡ goal → SumStep F slots new (total + f (node_of n)) goal
+pub sum_step : (f : Node → ℕ) (F : Tree → ℕ) → IsSum f F → (slots : Slots) (old mid new : List NodeId) (x : NodeId) (n : SsuNode) (total goal : ℕ) → old ≡ mid ++ x ∷ [] → slot slots x.0 ≡ Some n → tops new ≡ successors_of n ++ tops mid → (t : Todo slots (tops old)) → total + sum_trees F (bare_all t.left) ≡ goal → SumStep F slots new (total + f (node_of n)) goal
 sum_step f F k slots old mid new x n total goal e g h t sum =
     let d = next_of slots old mid x e t in
     let w = below_of slots old mid x e t n g in
@@ -157,7 +157,7 @@ sum_step f F k slots old mid new x n total goal e g h t sum =
     let s : sum_trees F (bare_all t.left) ≡ F (bare d.top) + sum_trees F (bare_all d.others) = ap (λ l. sum_trees F (bare_all l)) d.is in
     record {
       todo = todo_next slots x.0 (tops mid) (tops new) t.left d n w h;
-      sum = omega (arith, b, sum_trees-append F (kids d.top) d.others);
+      sum = omega (arith, b, sum_trees-append F (successor_list d.top) d.others);
     }
 
 -- ---- the order of a walk
@@ -166,18 +166,18 @@ pub record OrderStep (slots : Slots) (new order : List NodeId) (goal : List ℕ)
   pub todo : Todo slots (tops new)
   pub so_far : nums order ++ preorder_all todo.left ≡ goal
 
-pub order_step : (slots : Slots) (old mid new order more : List NodeId) (x : NodeId) (n : SsuNode) (goal : List ℕ) → old ≡ mid ++ x ∷ [] → slot slots x.0 ≡ Some n → tops new ≡ kids_of n ++ tops mid → more ≡ order ++ x ∷ [] → (t : Todo slots (tops old)) → nums order ++ preorder_all t.left ≡ goal → OrderStep slots new more goal
+pub order_step : (slots : Slots) (old mid new order more : List NodeId) (x : NodeId) (n : SsuNode) (goal : List ℕ) → old ≡ mid ++ x ∷ [] → slot slots x.0 ≡ Some n → tops new ≡ successors_of n ++ tops mid → more ≡ order ++ x ∷ [] → (t : Todo slots (tops old)) → nums order ++ preorder_all t.left ≡ goal → OrderStep slots new more goal
 order_step slots old mid new order more x n goal e f k o t so_far =
     let d = next_of slots old mid x e t in
     let b = below_of slots old mid x e t n f in
-    let s : preorder_all t.left ≡ x.0 ∷ (preorder_all (kids d.top) ++ preorder_all d.others) = ap preorder_all d.is ∙ ap (λ l. l ++ preorder_all d.others) b.order ∙ ap (λ i. i ∷ (preorder_all (kids d.top) ++ preorder_all d.others)) d.at_number in
+    let s : preorder_all t.left ≡ x.0 ∷ (preorder_all (successor_list d.top) ++ preorder_all d.others) = ap preorder_all d.is ∙ ap (λ l. l ++ preorder_all d.others) b.order ∙ ap (λ i. i ∷ (preorder_all (successor_list d.top) ++ preorder_all d.others)) d.at_number in
     record {
       todo = todo_next slots x.0 (tops mid) (tops new) t.left d n b k;
       so_far =
-          ap (λ l. nums l ++ preorder_all (kids d.top ++ d.others)) o
-          ∙ ap (λ l. l ++ preorder_all (kids d.top ++ d.others)) (nums-append order (x ∷ []))
-          ∙ append_assoc (nums order) (x.0 ∷ []) (preorder_all (kids d.top ++ d.others))
-          ∙ ap (λ l. nums order ++ (x.0 ∷ l)) (preorder_all-append (kids d.top) d.others)
+          ap (λ l. nums l ++ preorder_all (successor_list d.top ++ d.others)) o
+          ∙ ap (λ l. l ++ preorder_all (successor_list d.top ++ d.others)) (nums-append order (x ∷ []))
+          ∙ append_assoc (nums order) (x.0 ∷ []) (preorder_all (successor_list d.top ++ d.others))
+          ∙ ap (λ l. nums order ++ (x.0 ∷ l)) (preorder_all-append (successor_list d.top) d.others)
           ∙ ap (λ l. nums order ++ l) (sym s)
           ∙ so_far;
     }

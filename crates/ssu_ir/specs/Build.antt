@@ -8,7 +8,7 @@ use Rattle.ssu_ir.specs.declared.build.SsuBuild.{SsuBuild}
 use Rattle.ssu_ir.specs.declared.ssu.Ssu.{Ssu}
 use Rattle.ssu_ir.specs.Tree.{Tree}
 use Rattle.ssu_ir.specs.View.{with_bodies, labels_view}
-use Rattle.ssu_ir.specs.Slots.{Slots, Placed, root, bare, AllStand, times_all, occupied, weight_all, filled, bodies, over, node_of, kids_of}
+use Rattle.ssu_ir.specs.Slots.{Slots, Placed, root, bare, AllStand, times_all, occupied, weight_all, filled, bodies, over, node_of, successors_of}
 
 -- a root, and its tree
 abbrev pub Rooted : Type 0
@@ -45,7 +45,7 @@ Holds b rs = Forest b.nodes.slots rs
 pub record CanTake (b : SsuBuild) (n : SsuNode) : Type 0 where
   pub taken : List Rooted
   pub rest : List Rooted
-  pub children : ids taken ≡ kids_of n
+  pub children : ids taken ≡ successors_of n
   pub holds : Holds b (taken ++ rest)
 
 -- the same in other words, where the builder has these roots
@@ -56,7 +56,7 @@ pub record AreDifferentRoots (roots : List Rooted) (ks : List ℕ) : Type 0 wher
 -- the node stands under this number over the roots that it takes, and is a root in their place
 abbrev pub Grown : SsuBuild → SsuBuild → SsuNode → ℕ → Type 0
 Grown old new n id =
-    (taken rest : List Rooted) → ids taken ≡ kids_of n → Holds old (taken ++ rest)
+    (taken rest : List Rooted) → ids taken ≡ successors_of n → Holds old (taken ++ rest)
     → Holds new ((id, over (node_of n) (trees_of taken)) ∷ rest)
 
 -- the nodes, under their numbers

@@ -9,7 +9,7 @@ use Rattle.ssu_ir.specs.Tree.{Lit, Bin, Clone, Read, Write, Jump, Halt, Tree, Do
 abbrev pub sum_of_two : List Label
 sum_of_two = record { params = 0 ∷ 1 ∷ []; body = Do (Bin 2 Add 0 1) (End (Halt 0 (2 ∷ []))) } ∷ []
 
--- two words are read, written behind and added up: each is cloned
+-- two words are read, written after and added up: each is cloned
 abbrev pub copied_and_added : List Label
 copied_and_added =
     record {

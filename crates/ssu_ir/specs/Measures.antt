@@ -3,7 +3,7 @@ use Rattle.std.specs.Prelude.{ℕ, ◌+◌, ◌*◌, max, List, [], ◌∷◌, l
 use Rattle.ssu_ir.specs.Tree.{Step, Lit, Una, Bin, Clone, Read, Write, Last, Jump, Halt, Tree, Do, If, End, Label, Node, Does, Forks, Ends, node_values, node_uses}
 use Rattle.ssu_ir.specs.Points.{Point, points, place_values}
 
--- ---- the greatest number of values that are held at a point
+-- ---- the greatest number of live values at a point
 
 abbrev pub most_held : List Point → ℕ
 most_held [] = 0

@@ -89,9 +89,9 @@ is_scoped known (Do s t) = all_known known (step_names s) && is_scoped (known ++
 is_scoped known (If c x y t u) = all_known known (x ∷ y ∷ []) && (is_scoped known t && is_scoped known u)
 is_scoped known (End l) = all_known known (last_uses l)
 
--- ---- the clones of a value stand directly behind its definition, so that its own variable has no other use
+-- ---- the clones of a value stand directly after its definition, so that its own variable has no other use
 
--- behind a step, the values whose clones may stand there; `fresh` are those that have them before it
+-- after a step, the values whose clones may stand there; `fresh` are those that have them before it
 abbrev pub fresh_after : List ℕ → Step → List ℕ
 fresh_after fresh (Lit x v) = x ∷ []
 fresh_after fresh (Una x op y) = x ∷ []
@@ -149,7 +149,7 @@ numbers_after number (Clone xs y) = numbered number xs (number y)
 numbers_after number (Read m xs y) = numbered number xs None
 numbers_after number (Write m y xs) = number
 
--- so many words from a number on lie below 512
+-- N words from a number on lie below 512
 abbrev pub fits_scratch : ℕ → Option ℕ → Bool
 fits_scratch n (Some v) = nat_le (v + n) source_scratch
 fits_scratch n None = false

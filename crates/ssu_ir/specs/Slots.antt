@@ -22,16 +22,16 @@ node_of (Jump l xs) = Ends (pure.Jump l xs.items)
 node_of (Halt e xs) = Ends (pure.Halt e xs.items)
 
 -- the numbers of its children
-abbrev pub kids_of : SsuNode → List ℕ
-kids_of (Lit x v k) = k.0 ∷ []
-kids_of (Una x op y k) = k.0 ∷ []
-kids_of (Bin x op y z k) = k.0 ∷ []
-kids_of (Clone xs y k) = k.0 ∷ []
-kids_of (Read m xs y k) = k.0 ∷ []
-kids_of (Write m y xs k) = k.0 ∷ []
-kids_of (If c x y j k) = j.0 ∷ k.0 ∷ []
-kids_of (Jump l xs) = []
-kids_of (Halt e xs) = []
+abbrev pub successors_of : SsuNode → List ℕ
+successors_of (Lit x v k) = k.0 ∷ []
+successors_of (Una x op y k) = k.0 ∷ []
+successors_of (Bin x op y z k) = k.0 ∷ []
+successors_of (Clone xs y k) = k.0 ∷ []
+successors_of (Read m xs y k) = k.0 ∷ []
+successors_of (Write m y xs k) = k.0 ∷ []
+successors_of (If c x y j k) = j.0 ∷ k.0 ∷ []
+successors_of (Jump l xs) = []
+successors_of (Halt e xs) = []
 
 -- a node before as many trees as it has children; before fewer, no tree of any use
 abbrev pub over : Node → List Tree → Tree
@@ -59,10 +59,10 @@ roots_of [] = []
 roots_of (p ∷ ps) = root p ∷ roots_of ps
 
 -- the trees below its root
-abbrev pub kids : Placed → List Placed
-kids (DoAt i s p) = p ∷ []
-kids (IfAt i c x y p q) = p ∷ q ∷ []
-kids (EndAt i l) = []
+abbrev pub successor_list : Placed → List Placed
+successor_list (DoAt i s p) = p ∷ []
+successor_list (IfAt i c x y p q) = p ∷ q ∷ []
+successor_list (EndAt i l) = []
 
 -- the tree without the numbers
 abbrev pub bare : Placed → Tree
@@ -129,7 +129,7 @@ pub record NodeAt (slots : Slots) (i : ℕ) (n : Node) (ks : List ℕ) : Type 0 
   pub node : SsuNode
   pub found : slot slots i ≡ Some node
   pub is : node_of node ≡ n
-  pub children : kids_of node ≡ ks
+  pub children : successors_of node ≡ ks
 
 -- each node of the tree lies in the slot of its number
 abbrev pub Stands : Slots → Placed → Type 0
@@ -153,7 +153,7 @@ place i below (Ends l) ks = EndAt i l
 
 abbrev pub place_slot : ℕ → (ℕ → Placed) → Option SsuNode → Placed
 place_slot i below None = EndAt i (pure.Halt 0 [])
-place_slot i below (Some n) = place i below (node_of n) (kids_of n)
+place_slot i below (Some n) = place i below (node_of n) (successors_of n)
 
 abbrev pub placed_at : ℕ → Slots → ℕ → Placed
 placed_at zero slots i = EndAt i (pure.Halt 0 [])
@@ -174,7 +174,7 @@ each_number test (i ∷ is) = test i && each_number test is
 
 abbrev pub is_slot : (ℕ → Bool) → Option SsuNode → Bool
 is_slot below None = false
-is_slot below (Some n) = each_number below (kids_of n)
+is_slot below (Some n) = each_number below (successors_of n)
 
 abbrev pub is_there : ℕ → Slots → ℕ → Bool
 is_there zero slots i = false

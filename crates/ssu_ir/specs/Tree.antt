@@ -28,7 +28,7 @@ pub record Label : Type 0 where
   pub params : List ℕ
   pub body : Tree
 
--- a node alone, without the trees behind it
+-- a node alone, without the trees after it
 pub data Node : Type 0 where
   Does : (s : Step) → Node
   Forks : (c : Cmp) (x y : ℕ) → Node

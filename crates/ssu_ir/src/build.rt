@@ -9,7 +9,7 @@ use nv_base::NoMemory;
 use slab::Slab;
 use std::alloc::Global;
 
-/// Nodes that are being put together. A root is a node that isn't behind any other yet.
+/// Nodes that are being put together. A root is a node that isn't after any other yet.
 #[derive(Drop)]
 pub struct SsuBuild {
     nodes: Slab<SsuNode>,

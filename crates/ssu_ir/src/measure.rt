@@ -8,7 +8,7 @@ ghost use Rattle.ssu_ir.specs.inner.Sizes as sizes;
 
 use crate::node::SsuNode;
 use crate::ssu::Ssu;
-use crate::walk::{push_kids, starts};
+use crate::walk::{push_successors, starts};
 use nv_base::NoMemory;
 use std::alloc::Global;
 
@@ -21,7 +21,7 @@ pub fn size(alloc: Global, s: &Ssu) -> Result<u64, NoMemory>
     'walk: while let Some(id) = work.pop() {
         let n = s.node(id);
         total = sum(total, node_size(n)?)?;
-        push_kids(&mut work, n)?;
+        push_successors(&mut work, n)?;
     }
     Ok(total)
 }

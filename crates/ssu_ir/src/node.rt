@@ -6,7 +6,7 @@ use nv_base::{Bin, Cmp, Mem, Una, Vars};
 #[derive(Clone, Copy, PartialEq, Eq)]
 pub struct NodeId(pub usize);
 
-/// One node; the nodes behind it by their numbers.
+/// One node; the nodes after it by their numbers.
 #[derive(Drop)]
 pub enum SsuNode {
     /// Gives a variable the word of a literal.

@@ -1,34 +1,34 @@
 // What a node names, defines and uses, as slices of it.
 
 ghost use Rattle.std.specs.Prelude.{◌≡◌, ◌++◌};
-ghost use Rattle.ssu_ir.specs.Slots.{node_of, kids_of};
+ghost use Rattle.ssu_ir.specs.Slots.{node_of, successors_of};
 ghost use Rattle.ssu_ir.specs.Tree.{node_values, node_uses};
 ghost use Rattle.ssu_ir.specs.inner.Checks.{node_names, node_clones, node_results, node_clones_from, node_number, node_fresh_after};
-ghost use Rattle.ssu_ir.specs.inner.Under.{kid_numbers};
+ghost use Rattle.ssu_ir.specs.inner.Under.{successor_numbers};
 
 use crate::node::{NodeId, SsuNode};
 use std::slice::from_ref;
 
-/// The nodes behind a node.
-pub enum Kids {
+/// The nodes after a node.
+pub enum NextNodes {
     None,
     One(NodeId),
     Two(NodeId, NodeId),
 }
 
-pub fn behind(n: &SsuNode) -> Kids
-    ensures { kid_numbers result ≡ kids_of n.now }
+pub fn successors(n: &SsuNode) -> NextNodes
+    ensures { successor_numbers result ≡ successors_of n.now }
 {
     match n {
-        SsuNode::Lit(_, _, k) => Kids::One(*k),
-        SsuNode::Una(_, _, _, k) => Kids::One(*k),
-        SsuNode::Bin(_, _, _, _, k) => Kids::One(*k),
-        SsuNode::Clone(_, _, k) => Kids::One(*k),
-        SsuNode::Read(_, _, _, k) => Kids::One(*k),
-        SsuNode::Write(_, _, _, k) => Kids::One(*k),
-        SsuNode::If(_, _, _, first, second) => Kids::Two(*first, *second),
-        SsuNode::Jump(_, _) => Kids::None,
-        SsuNode::Halt(_, _) => Kids::None,
+        SsuNode::Lit(_, _, k) => NextNodes::One(*k),
+        SsuNode::Una(_, _, _, k) => NextNodes::One(*k),
+        SsuNode::Bin(_, _, _, _, k) => NextNodes::One(*k),
+        SsuNode::Clone(_, _, k) => NextNodes::One(*k),
+        SsuNode::Read(_, _, _, k) => NextNodes::One(*k),
+        SsuNode::Write(_, _, _, k) => NextNodes::One(*k),
+        SsuNode::If(_, _, _, first, second) => NextNodes::Two(*first, *second),
+        SsuNode::Jump(_, _) => NextNodes::None,
+        SsuNode::Halt(_, _) => NextNodes::None,
     }
 }
 
@@ -134,8 +134,8 @@ pub fn results(n: &SsuNode) -> &[u32]
     }
 }
 
-/// The values whose clones may stand behind a node, where `fresh` may stand before it.
-pub fn fresh_behind<'a>(n: &'a SsuNode, fresh: &'a [u32]) -> &'a [u32]
+/// The values whose clones may stand after a node, where `fresh` may stand before it.
+pub fn fresh_below<'a>(n: &'a SsuNode, fresh: &'a [u32]) -> &'a [u32]
     ensures { result.now ≡ node_fresh_after fresh.now (node_of n.now) }
 {
     match n {

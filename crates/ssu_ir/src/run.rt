@@ -15,7 +15,7 @@ ghost use Rattle.ssu_ir.specs.inner.Under.{HasTree, tree_at};
 use crate::node::NodeId;
 use crate::places::{places, room};
 use crate::ssu::Ssu;
-use crate::step::{Leaving, Went, step};
+use crate::step::{LabelExit, NextStep, step};
 use crate::variables::assign_all;
 use nv_base::{NoMemory, Outcome, Packet, WriteLog};
 use std::alloc::Global;
@@ -28,7 +28,7 @@ fn leave(
     words: &mut Vec<u32>,
     p: &mut Packet,
     log: &mut WriteLog,
-) -> Leaving
+) -> LabelExit
     requires tree { HasTree s.now.nodes.slots from.0 }
     requires nodes { are_nodes (labels_view s.now) (tree_at s.now.nodes.slots from.0) ≡ true }
     requires once { uses_once (tree_at s.now.nodes.slots from.0) ≡ true }
@@ -42,8 +42,8 @@ fn leave(
     let mut id = from;
     'walk: loop {
         match step(s.node(id), values, words, p, log) {
-            Went::On(next) => id = next,
-            Went::Left(l) => return l,
+            NextStep::On(next) => id = next,
+            NextStep::Left(l) => return l,
         }
     }
 }
@@ -56,7 +56,7 @@ fn visit(
     words: &mut Vec<u32>,
     p: &mut Packet,
     log: &mut WriteLog,
-) -> Leaving
+) -> LabelExit
     requires single { rules.single (labels_view s.now) ≡ true }
     requires fits { takes_as_many (length words.old.items) (slice_get (labels_view s.now) label) ≡ true }
     requires room { HasRoom s.now (length values.old) (vec_capacity words.old) }
@@ -106,8 +106,8 @@ fn run(
     'jumps: for _ in 0..n + 1 {
         count(counts, label);
         match visit(s, label, values, words, p, log) {
-            Leaving::Over(o) => return o,
-            Leaving::Jump(l) => label = l,
+            LabelExit::Over(o) => return o,
+            LabelExit::Jump(l) => label = l,
         }
     }
     Outcome::Going

@@ -13,7 +13,7 @@ ghost use Rattle.ssu_ir.specs.inner.Checks.{node_names, node_defs, node_clones, 
 ghost use Rattle.ssu_ir.specs.inner.Under.{HasTree, tree_at};
 
 use crate::node::{NodeId, SsuNode};
-use crate::pieces::{Kids, behind, clones, clones_from, operands, uses, values};
+use crate::pieces::{NextNodes, clones, clones_from, operands, successors, uses, values};
 use crate::ssu::Ssu;
 use nv_base::{Mem, SOURCE_SCRATCH};
 
@@ -100,7 +100,7 @@ fn fits(n: &SsuNode, x: u32, number: Option<u32>) -> bool
     }
 }
 
-// Whether so many words may be accessed there.
+// Whether N words may be accessed there.
 fn is_address(m: Mem, number: Option<u32>, n: usize) -> bool
     ensures { result ≡ rules.is_address m number n }
 {
@@ -130,10 +130,10 @@ pub fn mentions(s: &Ssu, id: NodeId, x: u32) -> bool
     if is_operand(n, x) {
         return true;
     }
-    match behind(n) {
-        Kids::None => false,
-        Kids::One(k) => mentions(s, k, x),
-        Kids::Two(j, k) => mentions(s, j, x) || mentions(s, k, x),
+    match successors(n) {
+        NextNodes::None => false,
+        NextNodes::One(k) => mentions(s, k, x),
+        NextNodes::Two(j, k) => mentions(s, j, x) || mentions(s, k, x),
     }
 }
 
@@ -145,13 +145,13 @@ pub fn times_defined(s: &Ssu, id: NodeId, x: u32) -> u8
 {
     let n = s.node(id);
     let here = times_here(n, x);
-    match behind(n) {
-        Kids::None => here,
-        Kids::One(k) => {
+    match successors(n) {
+        NextNodes::None => here,
+        NextNodes::One(k) => {
             let below = times_defined(s, k, x);
             here.saturating_add(below)
         }
-        Kids::Two(j, k) => {
+        NextNodes::Two(j, k) => {
             let first = times_defined(s, j, x);
             let second = times_defined(s, k, x);
             let below = first.saturating_add(second);
@@ -170,10 +170,10 @@ pub fn is_free(s: &Ssu, id: NodeId, x: u32) -> bool
     if is_operand(n, x) {
         return true;
     }
-    match behind(n) {
-        Kids::None => false,
-        Kids::One(k) => !is_defined(n, x) && is_free(s, k, x),
-        Kids::Two(j, k) => is_free(s, j, x) || is_free(s, k, x),
+    match successors(n) {
+        NextNodes::None => false,
+        NextNodes::One(k) => !is_defined(n, x) && is_free(s, k, x),
+        NextNodes::Two(j, k) => is_free(s, j, x) || is_free(s, k, x),
     }
 }
 
@@ -188,12 +188,12 @@ pub fn copy_used(s: &Ssu, id: NodeId, x: u32) -> bool
     if is_use(n, x) {
         return true;
     }
-    match behind(n) {
-        Kids::None => false,
-        Kids::One(k) => {
+    match successors(n) {
+        NextNodes::None => false,
+        NextNodes::One(k) => {
             any_used(s, k, clones_from(n, x)) || (!has(clones(n), x) && copy_used(s, k, x))
         }
-        Kids::Two(j, k) => copy_used(s, j, x) || copy_used(s, k, x),
+        NextNodes::Two(j, k) => copy_used(s, j, x) || copy_used(s, k, x),
     }
 }
 
@@ -223,13 +223,13 @@ pub fn addressed(s: &Ssu, id: NodeId, x: u32, number: Option<u32>) -> bool
     if !fits(n, x, number) {
         return false;
     }
-    match behind(n) {
-        Kids::None => true,
-        Kids::One(k) => {
+    match successors(n) {
+        NextNodes::None => true,
+        NextNodes::One(k) => {
             all_addressed(s, k, clones_from(n, x), number)
                 && (is_defined(n, x) || addressed(s, k, x, number))
         }
-        Kids::Two(j, k) => addressed(s, j, x, number) && addressed(s, k, x, number),
+        NextNodes::Two(j, k) => addressed(s, j, x, number) && addressed(s, k, x, number),
     }
 }
 

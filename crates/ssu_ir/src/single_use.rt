@@ -14,7 +14,9 @@ ghost use Rattle.ssu_ir.specs.inner.Checks.{node_names, node_defs, node_fresh, t
 ghost use Rattle.ssu_ir.specs.inner.Under.{HasTree, AllHave, tree_at, label_of};
 
 use crate::node::{NodeId, SsuLabel, SsuNode};
-use crate::pieces::{Kids, behind, clones, fresh_behind, number, operands, results, values};
+use crate::pieces::{
+    NextNodes, clones, fresh_below, number, operands, results, successors, values,
+};
 use crate::search::{
     addressed, all_addressed, copy_used, has, is_free, mentions, times, times_defined,
 };
@@ -85,18 +87,18 @@ fn is_kept(s: &Ssu, l: &SsuLabel, id: NodeId, fresh: &[u32]) -> bool
     if !node_alone(s, l, n) {
         return false;
     }
-    match behind(n) {
-        Kids::None => true,
-        Kids::One(k) => {
+    match successors(n) {
+        NextNodes::None => true,
+        NextNodes::One(k) => {
             if !operands_new(s, n, k) {
                 return false;
             }
             if !defs_kept(s, n, k, fresh) {
                 return false;
             }
-            is_kept(s, l, k, fresh_behind(n, fresh))
+            is_kept(s, l, k, fresh_below(n, fresh))
         }
-        Kids::Two(j, k) => {
+        NextNodes::Two(j, k) => {
             if !operands_new(s, n, j) {
                 return false;
             }
@@ -111,7 +113,7 @@ fn is_kept(s: &Ssu, l: &SsuLabel, id: NodeId, fresh: &[u32]) -> bool
     }
 }
 
-// The tests of a node for which nothing behind it is wanted.
+// The tests of a node for which nothing after it is wanted.
 #[tactic(none)]
 fn node_alone(s: &Ssu, l: &SsuLabel, n: &SsuNode) -> bool
     requires { HasTree s.now.nodes.slots l.now.body.0 }

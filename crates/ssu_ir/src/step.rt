@@ -7,7 +7,7 @@ ghost use Rattle.nv_base.specs.Log.{Log, noted};
 ghost use Rattle.nv_base.specs.Memories.{fetched, stored};
 ghost use Rattle.nv_base.specs.World.{World, ended as ended_by};
 ghost use Rattle.nv_base.specs.Words.{assigned_all};
-ghost use Rattle.ssu_ir.specs.Slots.{node_of, kids_of};
+ghost use Rattle.ssu_ir.specs.Slots.{node_of, successors_of};
 ghost use Rattle.ssu_ir.specs.inner.Running.{At, Fits, GoesOn, Stepped, env_of, stored_at};
 
 use crate::node::{NodeId, SsuNode};
@@ -15,7 +15,7 @@ use crate::variables::{assign, assign_all, assign_each, collect, word_of};
 use nv_base::{Access, Mem, Outcome, Packet, Words, Write, WriteLog};
 
 /// How a run leaves a label.
-pub enum Leaving {
+pub enum LabelExit {
     /// By a jump to the label of this number, with the words that were collected.
     Jump(u32),
     /// The run is over.
@@ -23,9 +23,9 @@ pub enum Leaving {
 }
 
 /// What follows a node.
-pub enum Went {
+pub enum NextStep {
     On(NodeId),
-    Left(Leaving),
+    Left(LabelExit),
 }
 
 // Reads the words of these variables from an address on.
@@ -85,12 +85,12 @@ pub fn step(
     words: &mut Vec<u32>,
     p: &mut Packet,
     log: &mut WriteLog,
-) -> Went
+) -> NextStep
     requires fits { Fits (length values.old) (vec_capacity words.old) (node_of n.now) }
     requires room { 8 ≤ vec_capacity words.old }
     requires countable { log.old.count < 2 ^ 63 }
-    ensures stepped { (log0 : Log) (w : World) → At log0 p.old log.old w → Stepped (node_of n.now) (kids_of n.now) (env_of values.old) log0 w result words.new.items (env_of values.new) p.new log.new }
-    ensures next { GoesOn (kids_of n.now) result }
+    ensures stepped { (log0 : Log) (w : World) → At log0 p.old log.old w → Stepped (node_of n.now) (successors_of n.now) (env_of values.old) log0 w result words.new.items (env_of values.new) p.new log.new }
+    ensures next { GoesOn (successors_of n.now) result }
     ensures counted { log.new.count ≤ log.old.count + length (stored_at (node_of n.now)) }
     ensures addresses { All (λ y. y < 2 ^ 32) (stored_at (node_of n.now)) }
     ensures places { length values.new ≡ length values.old }
@@ -99,52 +99,52 @@ pub fn step(
     match n {
         SsuNode::Lit(x, v, k) => {
             assign(values, *x, *v);
-            Went::On(*k)
+            NextStep::On(*k)
         }
         SsuNode::Una(x, op, y, k) => {
             let w = op.apply(word_of(values, *y));
             assign(values, *x, w);
-            Went::On(*k)
+            NextStep::On(*k)
         }
         SsuNode::Bin(x, op, y, z, k) => {
             let w = op.apply(word_of(values, *y), word_of(values, *z));
             assign(values, *x, w);
-            Went::On(*k)
+            NextStep::On(*k)
         }
         SsuNode::Clone(xs, y, k) => {
             let w = word_of(values, *y);
             assign_each(values, xs, w);
-            Went::On(*k)
+            NextStep::On(*k)
         }
         SsuNode::Read(m, xs, y, k) => {
             let at = word_of(values, *y);
             match read(values, *m, xs, at, p) {
-                Access::Done => Went::On(*k),
-                Access::Bad => Went::Left(Leaving::Over(Outcome::Fault(*m, at as u64))),
+                Access::Done => NextStep::On(*k),
+                Access::Bad => NextStep::Left(LabelExit::Over(Outcome::Fault(*m, at as u64))),
             }
         }
         SsuNode::Write(m, y, xs, k) => {
             let at = word_of(values, *y);
             collect(values, xs, words);
             match write(words, *m, at, p, log) {
-                Access::Done => Went::On(*k),
-                Access::Bad => Went::Left(Leaving::Over(Outcome::Fault(*m, at as u64))),
+                Access::Done => NextStep::On(*k),
+                Access::Bad => NextStep::Left(LabelExit::Over(Outcome::Fault(*m, at as u64))),
             }
         }
         SsuNode::If(c, x, y, first, second) => {
             if c.holds(word_of(values, *x), word_of(values, *y)) {
-                Went::On(*first)
+                NextStep::On(*first)
             } else {
-                Went::On(*second)
+                NextStep::On(*second)
             }
         }
         SsuNode::Jump(l, xs) => {
             collect(values, xs, words);
-            Went::Left(Leaving::Jump(*l))
+            NextStep::Left(LabelExit::Jump(*l))
         }
         SsuNode::Halt(e, xs) => {
             collect(values, xs, words);
-            Went::Left(Leaving::Over(ended(*e, Words::of(words))))
+            NextStep::Left(LabelExit::Over(ended(*e, Words::of(words))))
         }
     }
 }

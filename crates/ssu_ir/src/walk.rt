@@ -2,7 +2,7 @@
 //! walk goes down a long tree by recursion.
 
 ghost use Rattle.std.specs.Prelude.{◌≡◌, ◌++◌, map, reverse, IfOk, OnOk};
-ghost use Rattle.ssu_ir.specs.Slots.{kids_of, bodies, preorder_all};
+ghost use Rattle.ssu_ir.specs.Slots.{successors_of, bodies, preorder_all};
 ghost use Rattle.ssu_ir.specs.View.{placed_of};
 ghost use Rattle.ssu_ir.specs.Work.{tops, nums};
 
@@ -27,8 +27,8 @@ fn bodies_backwards(alloc: Global, s: &Ssu) -> Result<Vec<NodeId>, AllocError>
 }
 
 /// The children of a node come next, the first arm before the second.
-pub fn push_kids(work: &mut Vec<NodeId>, n: &SsuNode) -> Result<(), NoMemory>
-    ensures { OnOk result (tops work.new.items ≡ kids_of n.now ++ tops work.old.items) }
+pub fn push_successors(work: &mut Vec<NodeId>, n: &SsuNode) -> Result<(), NoMemory>
+    ensures { OnOk result (tops work.new.items ≡ successors_of n.now ++ tops work.old.items) }
 {
     match n {
         SsuNode::Lit(_, _, k) => work.push(*k)?,
@@ -47,7 +47,7 @@ pub fn push_kids(work: &mut Vec<NodeId>, n: &SsuNode) -> Result<(), NoMemory>
     Ok(())
 }
 
-/// The numbers of all nodes, label by label, each node before those behind it and a first arm before
+/// The numbers of all nodes, label by label, each node before those after it and a first arm before
 /// the second.
 pub fn preorder(alloc: Global, s: &Ssu) -> Result<Vec<NodeId>, NoMemory>
     ensures { IfOk result (λ v. nums v.items ≡ preorder_all (placed_of s.now)) }
@@ -56,7 +56,7 @@ pub fn preorder(alloc: Global, s: &Ssu) -> Result<Vec<NodeId>, NoMemory>
     let mut work = starts(alloc, s)?;
     'walk: while let Some(id) = work.pop() {
         order.push(id)?;
-        push_kids(&mut work, s.node(id))?;
+        push_successors(&mut work, s.node(id))?;
     }
     Ok(order)
 }

@@ -14,5 +14,5 @@ pub mod Along
 pub mod Stack
 pub mod Turns
 pub mod NodeForms
-pub mod Held
+pub mod Liveness
 pub mod Peak

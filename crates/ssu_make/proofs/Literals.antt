@@ -14,7 +14,7 @@ use Rattle.ssu_make.specs.inner.Made.{high, low, literal, names_taken, last_take
 use Rattle.std.proofs.lemmas.Bool.{eq-eqb}
 use Rattle.ssu_make.proofs.Assigned.{assigned-same, assigned-other}
 
--- the environment behind a literal
+-- the environment after a literal
 abbrev pub halves_env : ℕ → ℕ → Env → Env
 halves_env n w e = assigned (assigned e n (word (high w))) (n + 1) (word (low w))
 
@@ -99,7 +99,7 @@ agrees-tail base r m n a as' env e le g = record {
   same = λ y k lt. let lower = g.below y k (omega arith) in atom-other n a (base y + k) e (inl (omega arith)) ∙ g.same y k (omega arith);
 }
 
--- behind the literals of the operands, only what follows is to be used
+-- after the literals of the operands, only what follows is to be used
 pub agrees-behind : (base r : Counts) (m n : ℕ) (as' : List Atom) (env e : Env) → m ≤ n → Agrees base (λ y. occurs as' y + r y) m env e → Agrees base r m env (literals_env n as' e)
 agrees-behind base r m n as' env e le g = record {
   below = λ y k lt. g.below y k (omega arith);

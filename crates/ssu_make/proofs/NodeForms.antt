@@ -18,7 +18,7 @@ use Rattle.ssu_ir.specs.declared.build.SsuBuild.{SsuBuild}
 use Rattle.ssu_ir.specs.declared.node.SsuLabel.{SsuLabel}
 use Rattle.ssu_ir.specs.declared.node.SsuNode.{SsuNode}
 use Rattle.ssu_ir.specs.Build.{Rooted, Holds, Grown, nodes_in, ids, trees_of}
-use Rattle.ssu_ir.specs.Slots.{bodies, node_of, kids_of}
+use Rattle.ssu_ir.specs.Slots.{bodies, node_of, successors_of}
 use Rattle.ssu_ir.specs.Single.{is_narrow}
 use Rattle.ssu_ir.specs.View.{with_bodies}
 use Rattle.ssu_ir.specs.Tree as ssu
@@ -33,15 +33,15 @@ use Rattle.ssu_make.proofs.Turns.{becomes-node, joined-node, adds-node, becomes-
 
 -- ---- literals
 
-pub narrow-becomes : (old new : SsuBuild) (node : SsuNode) (root id n v : ℕ) → is_narrow v ≡ true → word v ≡ v → Grown old new node id → node_of node ≡ ssu.Does (ssu.Lit n v) → kids_of node ≡ root ∷ [] → Becomes old new root id (atom_literal n (Lit v))
+pub narrow-becomes : (old new : SsuBuild) (node : SsuNode) (root id n v : ℕ) → is_narrow v ≡ true → word v ≡ v → Grown old new node id → node_of node ≡ ssu.Does (ssu.Lit n v) → successors_of node ≡ root ∷ [] → Becomes old new root id (atom_literal n (Lit v))
 narrow-becomes old new node root id n v e w g a k =
     let same : ssu.Do (ssu.Lit n v) ≡ atom_literal n (Lit v) = ap (λ b. literal b n v) (sym e) ∙ ap (λ x. literal (is_narrow x) n x) (sym w) in
     subst (Becomes old new root id) same (becomes-node old new node root id (ssu.Lit n v) g a k)
 
 pub wide-becomes : (a b c d : SsuBuild) (whole down up : SsuNode) (root i j k n v : ℕ)
-    → Grown a b whole i → node_of whole ≡ ssu.Does (ssu.Bin (n + 2) Or n (n + 1)) → kids_of whole ≡ root ∷ []
-    → Grown b c down j → node_of down ≡ ssu.Does (ssu.Lit (n + 1) (low v)) → kids_of down ≡ i ∷ []
-    → Grown c d up k → node_of up ≡ ssu.Does (ssu.Lit n (high v)) → kids_of up ≡ j ∷ [] → Becomes a d root k (literal false n v)
+    → Grown a b whole i → node_of whole ≡ ssu.Does (ssu.Bin (n + 2) Or n (n + 1)) → successors_of whole ≡ root ∷ []
+    → Grown b c down j → node_of down ≡ ssu.Does (ssu.Lit (n + 1) (low v)) → successors_of down ≡ i ∷ []
+    → Grown c d up k → node_of up ≡ ssu.Does (ssu.Lit n (high v)) → successors_of up ≡ j ∷ [] → Becomes a d root k (literal false n v)
 wide-becomes a b c d whole down up root i j k n v g e f g' e' f' g'' e'' f'' =
     let one = becomes-node a b whole root i (ssu.Bin (n + 2) Or n (n + 1)) g e f in
     let two = becomes-node b c down i j (ssu.Lit (n + 1) (low v)) g' e' f' in
@@ -51,7 +51,7 @@ wide-becomes a b c d whole down up root i j k n v g e f g' e' f' g'' e'' f'' =
 
 -- ---- clones
 
-pub clone-becomes : (old new : SsuBuild) (node : SsuNode) (root id first n : ℕ) (copies : List ℕ) (own : ℕ) → nat_lt 1 n ≡ true → copies ≡ range_with_len first n → own ≡ first + n → Grown old new node id → node_of node ≡ ssu.Does (ssu.Clone copies own) → kids_of node ≡ root ∷ []
+pub clone-becomes : (old new : SsuBuild) (node : SsuNode) (root id first n : ℕ) (copies : List ℕ) (own : ℕ) → nat_lt 1 n ≡ true → copies ≡ range_with_len first n → own ≡ first + n → Grown old new node id → node_of node ≡ ssu.Does (ssu.Clone copies own) → successors_of node ≡ root ∷ []
     → Becomes old new root id (clone_step (nat_lt 1 n) first n)
 clone-becomes old new node root id first n copies own two ec eo g a k =
     let same : ssu.Do (ssu.Clone copies own) ≡ clone_step (nat_lt 1 n) first n = ap (λ l. ssu.Do (ssu.Clone l own)) ec ∙ ap (λ z. ssu.Do (ssu.Clone (range_with_len first n) z)) eo ∙ ap (λ b. clone_step b first n) (sym two) in
@@ -61,7 +61,7 @@ clone-becomes old new node root id first n copies own two ec eo g a k =
 
 pub let-made : (old a b new : SsuBuild) (node : SsuNode) (root behind i id : ℕ) (base r r' : Counts) (n x own : ℕ) (p : Primitive) (list : List Atom) (ys : List ℕ)
     → Becomes old a root behind (clones base r (x ∷ [])) → own ≡ value base r x → ((y : ℕ) → r' y ≡ outside (x ∷ []) r y) → list ≡ operands p → ys ≡ names base r' n list
-    → Grown a b node i → node_of node ≡ ssu.Does (prim_step own p ys) → kids_of node ≡ behind ∷ [] → Becomes b new i id (literals n list) → Becomes old new root id (made_let base n x p r)
+    → Grown a b node i → node_of node ≡ ssu.Does (prim_step own p ys) → successors_of node ≡ behind ∷ [] → Becomes b new i id (literals n list) → Becomes old new root id (made_let base n x p r)
 let-made old a b new node root behind i id base r r' n x own p list ys c eo er el ey g en ek l =
     let s = prim_step own p ys in
     let C = clones base r (x ∷ []) in
@@ -75,7 +75,7 @@ let-made old a b new node root behind i id base r r' n x own p list ys c eo er e
 
 pub read-made : (old a b new : SsuBuild) (node : SsuNode) (root behind i id : ℕ) (base r r' : Counts) (n : ℕ) (m : Mem) (xs : List ℕ) (atom : Atom) (own ys : List ℕ) (y : ℕ)
     → Becomes old a root behind (clones base r xs) → own ≡ map (value base r) xs → ((y : ℕ) → r' y ≡ outside xs r y) → ys ≡ names base r' n (atom ∷ []) → y ≡ slice_index ys 0
-    → Grown a b node i → node_of node ≡ ssu.Does (ssu.Read m own y) → kids_of node ≡ behind ∷ [] → Becomes b new i id (literals n (atom ∷ [])) → Becomes old new root id (made_read base n m xs atom r)
+    → Grown a b node i → node_of node ≡ ssu.Does (ssu.Read m own y) → successors_of node ≡ behind ∷ [] → Becomes b new i id (literals n (atom ∷ [])) → Becomes old new root id (made_read base n m xs atom r)
 read-made old a b new node root behind i id base r r' n m xs atom own ys y c eo er ey e0 g en ek l =
     let s = ssu.Read m own y in
     let C = clones base r xs in
@@ -90,7 +90,7 @@ read-made old a b new node root behind i id base r r' n m xs atom own ys y c eo 
 
 pub write-made : (old b new : SsuBuild) (node : SsuNode) (root i id : ℕ) (base r : Counts) (n : ℕ) (m : Mem) (atom : Atom) (bs list : List Atom) (ys words : List ℕ) (y : ℕ)
     → list ≡ atom ∷ bs → ys ≡ names base r n list → y ≡ slice_index ys 0 → words ≡ drop 1 ys
-    → Grown old b node i → node_of node ≡ ssu.Does (ssu.Write m y words) → kids_of node ≡ root ∷ [] → Becomes b new i id (literals n list) → Becomes old new root id (made_write base n m atom bs r)
+    → Grown old b node i → node_of node ≡ ssu.Does (ssu.Write m y words) → successors_of node ≡ root ∷ [] → Becomes b new i id (literals n list) → Becomes old new root id (made_write base n m atom bs r)
 write-made old b new node root i id base r n m atom bs list ys words y el ey e0 ew g en ek l =
     let s = ssu.Write m y words in
     let same : (λ t. literals n list (ssu.Do s t)) ≡ made_write base n m atom bs r =
@@ -102,7 +102,7 @@ write-made old b new node root i id base r n m atom bs list ys words y el ey e0 
 
 pub if-made : (old b new : SsuBuild) (node : SsuNode) (first second i id : ℕ) (base r r' : Counts) (n : ℕ) (c : Cmp) (a a' : Atom) (ys : List ℕ) (x y : ℕ)
     → ((y : ℕ) → r' y ≡ r y) → ys ≡ names base r' n (a ∷ a' ∷ []) → x ≡ slice_index ys 0 → y ≡ slice_index ys 1
-    → Grown old b node i → node_of node ≡ ssu.Forks c x y → kids_of node ≡ first ∷ second ∷ [] → Becomes b new i id (literals n (a ∷ a' ∷ [])) → Joined old new first second id (made_if base n c a a' r)
+    → Grown old b node i → node_of node ≡ ssu.Forks c x y → successors_of node ≡ first ∷ second ∷ [] → Becomes b new i id (literals n (a ∷ a' ∷ [])) → Joined old new first second id (made_if base n c a a' r)
 if-made old b new node first second i id base r r' n c a a' ys x y er ey ex ez g en ek l =
     let list = a ∷ a' ∷ [] in
     let same : (λ t u. literals n list (ssu.If c x y t u)) ≡ made_if base n c a a' r =
@@ -113,14 +113,14 @@ if-made old b new node first second i id base r r' n c a a' ys x y er ey ex ez g
     subst (Joined old new first second id) same (joined-becomes old b new first second i id (ssu.If c x y) (literals n list) (joined-node old b node first second i c x y g en ek) l)
 
 pub jump-made : (old b new : SsuBuild) (node : SsuNode) (i id : ℕ) (base r : Counts) (n j : ℕ) (bs : List Atom) (ys : List ℕ) → ((y : ℕ) → r y ≡ 0) → ys ≡ names base r n bs
-    → Grown old b node i → node_of node ≡ ssu.Ends (ssu.Jump j ys) → kids_of node ≡ [] → Becomes b new i id (literals n bs) → Adds old new id (made_jump base n j bs)
+    → Grown old b node i → node_of node ≡ ssu.Ends (ssu.Jump j ys) → successors_of node ≡ [] → Becomes b new i id (literals n bs) → Adds old new id (made_jump base n j bs)
 jump-made old b new node i id base r n j bs ys er ey g en ek l =
     let same : literals n bs (ssu.End (ssu.Jump j ys)) ≡ made_jump base n j bs =
     ap (λ zs. literals n bs (ssu.End (ssu.Jump j zs))) (ey ∙ ap (λ f. names base f n bs) (same-everywhere r (λ y. 0) er)) in
     subst (Adds old new id) same (adds-becomes old b new i id (ssu.End (ssu.Jump j ys)) (literals n bs) (adds-node old b node i (ssu.Jump j ys) g en ek) l)
 
 pub halt-made : (old b new : SsuBuild) (node : SsuNode) (i id : ℕ) (base r : Counts) (n e : ℕ) (bs : List Atom) (ys words : List ℕ) → ((y : ℕ) → r y ≡ 0) → ys ≡ names base r n bs → words ≡ ys
-    → Grown old b node i → node_of node ≡ ssu.Ends (ssu.Halt e words) → kids_of node ≡ [] → Becomes b new i id (literals n bs) → Adds old new id (made_halt base n e bs)
+    → Grown old b node i → node_of node ≡ ssu.Ends (ssu.Halt e words) → successors_of node ≡ [] → Becomes b new i id (literals n bs) → Adds old new id (made_halt base n e bs)
 halt-made old b new node i id base r n e bs ys words er ey ew g en ek l =
     let same : literals n bs (ssu.End (ssu.Halt e words)) ≡ made_halt base n e bs =
     ap (λ zs. literals n bs (ssu.End (ssu.Halt e zs))) (ew ∙ ey ∙ ap (λ f. names base f n bs) (same-everywhere r (λ y. 0) er)) in

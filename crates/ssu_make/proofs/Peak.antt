@@ -15,7 +15,7 @@ use Rattle.flow_ir.specs.Tree.{Tree, Let, Read, Write, If, Jump, Halt, Label}
 use Rattle.flow_ir.specs.Formed.{defined, is_formed, is_label}
 use Rattle.flow_ir.specs.Wide.{live, tree_wide, label_wide, wide}
 use Rattle.ssu_ir.specs.Tree as ssu
-use Rattle.ssu_ir.specs.Points.{Names, Point, own, used, held, tree_points, points_from}
+use Rattle.ssu_ir.specs.Points.{Names, Point, own, used, live_of, tree_points, points_from}
 use Rattle.ssu_ir.specs.Measures.{most_held, peak}
 use Rattle.ssu_ir.specs.Single.{is_narrow}
 use Rattle.ssu_ir.proofs.Lists.{image_from}
@@ -29,7 +29,7 @@ use Rattle.ssu_make.proofs.Once.{Fresh, fresh-first, fresh-second, values-define
 use Rattle.ssu_make.proofs.Scoped.{param-at}
 use Rattle.ssu_make.proofs.Equal.{label-fits}
 use Rattle.ssu_make.proofs.Results.{clones-names, used-prim, live-used, vars-occur, different-before}
-use Rattle.ssu_make.proofs.Held.{Sees, sees-weaker, sees-behind, valued, behind, used-of, IsOf, filter-fewer, filter-among, different-map, names-of, literals-of, fresh-apart}
+use Rattle.ssu_make.proofs.Liveness.{Sees, sees-weaker, sees-behind, valued, behind, used-of, IsOf, filter-fewer, filter-among, different-map, names-of, literals-of, fresh-apart}
 
 -- ---- one more value above
 
@@ -57,10 +57,10 @@ most_held-both : (a b : List Point) (w : ℕ) → most_held a ≤ w → most_hel
 most_held-both [] b w p q = q
 most_held-both (x ∷ a) b w p q = let r = most_held-both a b w (omega arith) q in omega arith
 
-first-held : (t : ssu.Tree) (of : Names) (above : List ℕ) → length (held of above t) ≤ most_held (tree_points of above t)
-first-held (ssu.Do s t) of above = omega arith
-first-held (ssu.If c x y t u) of above = omega arith
-first-held (ssu.End l) of above = omega arith
+first-live_of : (t : ssu.Tree) (of : Names) (above : List ℕ) → length (live_of of above t) ≤ most_held (tree_points of above t)
+first-live_of (ssu.Do s t) of above = omega arith
+first-live_of (ssu.If c x y t u) of above = omega arith
+first-live_of (ssu.End l) of above = omega arith
 
 -- ---- literals
 
@@ -176,12 +176,12 @@ half-not-named base r n d val of (a ∷ as') v far small h g i j =
 abbrev Adds : List ℕ → List ℕ → ℕ → ℕ → Type 0
 Adds above above' n k = (z : ℕ) → times z above' ≤ times z above + lies n k z
 
-literal-peak : (b : Bool) (n w : ℕ) (t : ssu.Tree) (of : Names) (above : List ℕ) (h wide : ℕ) → length (held of above (literal b n w t)) ≤ h → h + 2 ≤ wide → ((v : ℕ) → is_in v (half_names b n) ≡ true → is_in v (used of t) ≡ false)
-    → ((above' : List ℕ) → Adds above above' n (names_taken b) → length (held of above' t) ≤ h + 1 → most_held (tree_points of above' t) ≤ wide) → most_held (tree_points of above (literal b n w t)) ≤ wide
+literal-peak : (b : Bool) (n w : ℕ) (t : ssu.Tree) (of : Names) (above : List ℕ) (h wide : ℕ) → length (live_of of above (literal b n w t)) ≤ h → h + 2 ≤ wide → ((v : ℕ) → is_in v (half_names b n) ≡ true → is_in v (used of t) ≡ false)
+    → ((above' : List ℕ) → Adds above above' n (names_taken b) → length (live_of of above' t) ≤ h + 1 → most_held (tree_points of above' t) ≤ wide) → most_held (tree_points of above (literal b n w t)) ≤ wide
 unfolding half_names
 literal-peak true n w t of above h wide first room unhalved next =
     let one = above ++ n ∷ [] in
-    let few : length (held of one t) ≤ h + 1 = let a = filter-last (λ x. is_in x (used of t)) above n in omega arith in
+    let few : length (live_of of one t) ≤ h + 1 = let a = filter-last (λ x. is_in x (used of t)) above n in omega arith in
     let rest = next one (λ z. let a = times-append z above (n ∷ []) in omega (arith, a)) few in
     omega arith
 literal-peak false n w t of above h wide first room unhalved next =
@@ -198,7 +198,7 @@ literal-peak false n w t of above h wide first room unhalved next =
     let f = filter-none p one (n + 1) no-m in
     let g = filter-last p two (n + 2) in
     let sub = filter-fewer p whole above (λ z i j. or_right (nat_eq z (of n)) _ (or_right (nat_eq z (of (n + 1))) _ j)) in
-    let few : length (held of three t) ≤ h + 1 = omega arith in
+    let few : length (live_of of three t) ≤ h + 1 = omega arith in
     let rest = next three (λ z.
     let x = times-append z above (n ∷ []) in
     let y = times-append z one ((n + 1) ∷ []) in
@@ -206,15 +206,15 @@ literal-peak false n w t of above h wide first room unhalved next =
     omega (arith, x, y, q)) few in
     omega arith
 
-atom-peak : (n : ℕ) (a : Atom) (t : ssu.Tree) (of : Names) (above : List ℕ) (h wide : ℕ) → length (held of above (atom_literal n a t)) ≤ h → h + lit_count a + 1 ≤ wide → ((v : ℕ) → is_in v (atom_halves n a) ≡ true → is_in v (used of t) ≡ false)
-    → ((above' : List ℕ) → Adds above above' n (taken a) → length (held of above' t) ≤ h + lit_count a → most_held (tree_points of above' t) ≤ wide) → most_held (tree_points of above (atom_literal n a t)) ≤ wide
+atom-peak : (n : ℕ) (a : Atom) (t : ssu.Tree) (of : Names) (above : List ℕ) (h wide : ℕ) → length (live_of of above (atom_literal n a t)) ≤ h → h + lit_count a + 1 ≤ wide → ((v : ℕ) → is_in v (atom_halves n a) ≡ true → is_in v (used of t) ≡ false)
+    → ((above' : List ℕ) → Adds above above' n (taken a) → length (live_of of above' t) ≤ h + lit_count a → most_held (tree_points of above' t) ≤ wide) → most_held (tree_points of above (atom_literal n a t)) ≤ wide
 unfolding lit_count atom_halves
 atom-peak n (Var x) t of above h wide first room unhalved next = next above (λ z. omega arith) (omega arith)
 atom-peak n (Lit v) t of above h wide first room unhalved next = literal-peak (is_narrow (word v)) n (word v) t of above h wide first (omega arith) unhalved next
 
-literals-peak : (n d : ℕ) (as' : List Atom) (t : ssu.Tree) (of : Names) (above : List ℕ) (h wide : ℕ) → d ≤ n → ((z : ℕ) → d ≤ z → of z ≡ z) → length (held of above (literals n as' t)) ≤ h → h + lits as' + some as' ≤ wide
+literals-peak : (n d : ℕ) (as' : List Atom) (t : ssu.Tree) (of : Names) (above : List ℕ) (h wide : ℕ) → d ≤ n → ((z : ℕ) → d ≤ z → of z ≡ z) → length (live_of of above (literals n as' t)) ≤ h → h + lits as' + some as' ≤ wide
     → ((v : ℕ) → is_in v (halves n as') ≡ true → is_in v (used of t) ≡ false)
-    → ((above' : List ℕ) → Adds above above' n (all_taken as') → length (held of above' t) ≤ h + lits as' → most_held (tree_points of above' t) ≤ wide) → most_held (tree_points of above (literals n as' t)) ≤ wide
+    → ((above' : List ℕ) → Adds above above' n (all_taken as') → length (live_of of above' t) ≤ h + lits as' → most_held (tree_points of above' t) ≤ wide) → most_held (tree_points of above (literals n as' t)) ≤ wide
 unfolding lits some halves atom_halves
 literals-peak n d [] t of above h wide far g first room unhalved next = next above (λ z. omega arith) (omega arith)
 literals-peak n d (a ∷ as') t of above h wide far g first room unhalved next =
@@ -246,7 +246,7 @@ clone-peak : (b : Bool) (first n : ℕ) (t : ssu.Tree) (of : Names) (above vals 
     → most_held (tree_points of above (clone_step b first n t)) ≤ wide
 unfolding clone_env
 clone-peak true first n t of above vals wide e h rest =
-    let same : length (held of above (clone_step true first n t)) ≡ length (filter (λ x. is_in x vals) above) = ap (λ l. length (filter (λ x. is_in x l) above)) e in
+    let same : length (live_of of above (clone_step true first n t)) ≡ length (filter (λ x. is_in x vals) above) = ap (λ l. length (filter (λ x. is_in x l) above)) e in
     let list : most_held (tree_points (clone_env true first n of) (above ++ []) t) ≡ most_held (tree_points (clone_env true first n of) above t) = ap (λ l. most_held (tree_points (clone_env true first n of) l t)) (append-nil above) in
     omega (arith, same, list)
 clone-peak false first n t of above vals wide e h rest = rest
@@ -257,7 +257,7 @@ clones-peak base r [] t of above wide h = h
 clones-peak base r (x ∷ xs) t of above wide h =
     let of' = clone_env (nat_lt 1 (r x)) (base x) (r x) of in
     let rest = clones-peak base r xs t of' above wide h in
-    let first = first-held (clones base r xs t) of' above in
+    let first = first-live_of (clones base r xs t) of' above in
     clone-peak (nat_lt 1 (r x)) (base x) (r x) (clones base r xs t) of above (used of' (clones base r xs t)) wide refl (omega arith) rest
 
 -- ---- what stands above a tree
@@ -273,8 +273,8 @@ among-lives base size val lives n k defs v c e (inr (inl p)) = let a = p.0 in le
 among-lives base size val lives n k defs v c e (inr (inr p)) =
     let a = p.2 in let b = p.3 in absurd (⊎_elim (λ (q : v < base p.0). omega arith) (λ (q : base p.0 + size p.0 < v). omega arith) (e p.0 p.1))
 
-sits-held : (base size : Counts) (val : ℕ → ℕ) (lives : List ℕ) (n k : ℕ) (defs above : List ℕ) (t : ssu.Tree) (of : Names) → Sits base size above n k defs → ((v : ℕ) → is_in v (used of t) ≡ true → IsOf base size val lives n k defs v) → length (held of above t) ≤ different lives
-sits-held base size val lives n k defs above t of s h =
+sits-live_of : (base size : Counts) (val : ℕ → ℕ) (lives : List ℕ) (n k : ℕ) (defs above : List ℕ) (t : ssu.Tree) (of : Names) → Sits base size above n k defs → ((v : ℕ) → is_in v (used of t) ≡ true → IsOf base size val lives n k defs v) → length (live_of of above t) ≤ different lives
+sits-live_of base size val lives n k defs above t of s h =
     let a = filter-among (λ x. is_in x (used of t)) above (map val lives) s.once (λ z i j. let q = s.clear z i in among-lives base size val lives n k defs z q.0 q.1 (h z j)) in
     let b = different-map val lives in
     omega arith
@@ -303,14 +303,14 @@ vars-lits [] = refl
 vars-lits (Var x ∷ as') = let e = vars-lits as' in omega arith
 vars-lits (Lit v ∷ as') = let e = vars-lits as' in omega arith
 
-operands-room : (held' : List ℕ) (os : List Atom) → different (all_vars os ++ held') + lits os + some os ≤ operands_wide held' os
+operands-room : (live_of' : List ℕ) (os : List Atom) → different (all_vars os ++ live_of') + lits os + some os ≤ operands_wide live_of' os
 unfolding lits some
-operands-room held' [] = omega arith
-operands-room held' (a ∷ as') =
+operands-room live_of' [] = omega arith
+operands-room live_of' (a ∷ as') =
     let os = a ∷ as' in
     let vars = all_vars os in
-    let x = different-below (vars ++ held') (vars ++ without held' vars) (within-both vars held' (vars ++ without held' vars) (within-left vars (without held' vars)) (within-behind held' vars)) in
-    let y = different-append vars (without held' vars) in
+    let x = different-below (vars ++ live_of') (vars ++ without live_of' vars) (within-both vars live_of' (vars ++ without live_of' vars) (within-left vars (without live_of' vars)) (within-behind live_of' vars)) in
+    let y = different-append vars (without live_of' vars) in
     let z = different-length vars in
     let w : length vars + (lit_count a + lits as') ≡ length os = vars-lits os in
     omega (arith, x, y, z, w)
@@ -398,7 +398,7 @@ module _ (base size : Counts) (c d : ℕ) (vs : List ℕ) (laid : Laid base size
 
 -- ---- trees
 
-prim-points : (x : ℕ) (p : Primitive) (ys : List ℕ) (t : ssu.Tree) (of : Names) (above : List ℕ) → most_held (tree_points of above (ssu.Do (prim_step x p ys) t)) ≡ max (length (held of above (ssu.Do (prim_step x p ys) t))) (most_held (tree_points of (above ++ x ∷ []) t))
+prim-points : (x : ℕ) (p : Primitive) (ys : List ℕ) (t : ssu.Tree) (of : Names) (above : List ℕ) → most_held (tree_points of above (ssu.Do (prim_step x p ys) t)) ≡ max (length (live_of of above (ssu.Do (prim_step x p ys) t))) (most_held (tree_points of (above ++ x ∷ []) t))
 prim-points x (Same a) ys t of above = refl
 prim-points x (UnaOf op a) ys t of above = refl
 prim-points x (BinOf op a b) ys t of above = refl
@@ -453,7 +453,7 @@ module _ (labels : List Label) (base size : Counts) (c d : ℕ) (vs : List ℕ) 
       let b = behind labels base size c d vs laid t known (x ∷ []) val of fits within once (sees-weaker base size d val of (uses (Let x p t)) r' (x ∷ defined t) (x ∷ defined t) (λ y. omega arith) (λ y j. j) sees) in
       let small' = small-behind base size c d vs laid r (x ∷ []) val b.sized within (λ y lt. small y (omega arith)) in
       let of' = clones_env base r (x ∷ []) of in
-      let first = sits-held base size val lives n (spent (Let x p t)) (x ∷ defined t) above (made base n (Let x p t)) of s (λ v i. used-of labels base size c d vs laid (Let x p t) known n val of v f once far sees i) in
+      let first = sits-live_of base size val lives n (spent (Let x p t)) (x ∷ defined t) above (made base n (Let x p t)) of s (λ v i. used-of labels base size c d vs laid (Let x p t) known n val of v f once far sees i) in
       let room = prim-room p in
       literals-peak N d os X of above (different lives) w (omega arith) sees.new first (omega arith)
       (λ v i. none-in v (used of X) (λ j.
@@ -485,7 +485,7 @@ module _ (labels : List Label) (base size : Counts) (c d : ℕ) (vs : List ℕ) 
       let b = behind labels base size c d vs laid t known xs val of fits within once (sees-weaker base size d val of (uses (Read m xs a t)) r' (xs ++ defined t) (xs ++ defined t) (λ y. omega arith) (λ y j. j) sees) in
       let small' = small-behind base size c d vs laid r xs val b.sized within (λ y lt. small y (omega arith)) in
       let of' = clones_env base r xs of in
-      let first = sits-held base size val lives n (spent (Read m xs a t)) (xs ++ defined t) above (made base n (Read m xs a t)) of s (λ v i. used-of labels base size c d vs laid (Read m xs a t) known n val of v f once far sees i) in
+      let first = sits-live_of base size val lives n (spent (Read m xs a t)) (xs ++ defined t) above (made base n (Read m xs a t)) of s (λ v i. used-of labels base size c d vs laid (Read m xs a t) known n val of v f once far sees i) in
       let wider = different-below lives (all_vars os ++ without (live t) xs) (within-both (atom_vars a) (without (live t) xs) (all_vars os ++ without (live t) xs) (λ y j. within-left (all_vars os) (without (live t) xs) y (within-left (atom_vars a) [] y j)) (within-right (all_vars os) (without (live t) xs))) in
       let room = operands-room (without (live t) xs) os in
       literals-peak N d os X of above (different lives) w (omega arith) sees.new first (omega (arith, wider, room))
@@ -513,7 +513,7 @@ module _ (labels : List Label) (base size : Counts) (c d : ℕ) (vs : List ℕ) 
       let fits = fits-write labels vs size known m a bs t f in
       let sees' = sees-weaker base size d val of (uses (Write m a bs t)) r (defined t) (defined t) (λ y. omega arith) (λ y j. j) sees in
       let small' : (y : ℕ) → 0 < r y → val y < d = λ y lt. small y (omega arith) in
-      let first = sits-held base size val lives n (spent (Write m a bs t)) (defined t) above (made base n (Write m a bs t)) of s (λ v i. used-of labels base size c d vs laid (Write m a bs t) known n val of v f once far sees i) in
+      let first = sits-live_of base size val lives n (spent (Write m a bs t)) (defined t) above (made base n (Write m a bs t)) of s (λ v i. used-of labels base size c d vs laid (Write m a bs t) known n val of v f once far sees i) in
       let room = operands-room (live t) os in
       literals-peak N d os X of above (different lives) w (omega arith) sees.new first (omega (arith, room))
       (λ v i. none-in v (used of X) (λ j.
@@ -547,7 +547,7 @@ module _ (labels : List Label) (base size : Counts) (c d : ℕ) (vs : List ℕ) 
       let sees'' = sees-weaker base size d val of (uses (If q' a b t u)) (uses u) D (defined u) (λ y. omega arith) (within-right (defined t) (defined u)) sees in
       let small' : (y : ℕ) → 0 < uses t y → val y < d = λ y lt. small y (omega arith) in
       let small'' : (y : ℕ) → 0 < uses u y → val y < d = λ y lt. small y (omega arith) in
-      let first = sits-held base size val lives n (spent (If q' a b t u)) D above (made base n (If q' a b t u)) of s (λ v i. used-of labels base size c d vs laid (If q' a b t u) known n val of v f once far sees i) in
+      let first = sits-live_of base size val lives n (spent (If q' a b t u)) D above (made base n (If q' a b t u)) of s (λ v i. used-of labels base size c d vs laid (If q' a b t u) known n val of v f once far sees i) in
       let room = operands-room (live t ++ live u) os in
       literals-peak N d os X of above (different lives) w (omega arith) sees.new first (omega (arith, room))
       (λ v i. none-in v (used of X) (λ j.
@@ -571,7 +571,7 @@ module _ (labels : List Label) (base size : Counts) (c d : ℕ) (vs : List ℕ) 
   peak-made (Jump l bs) known n val of above f once far sees small s =
       let ns = names base (λ y. 0) n bs in
       let X = ssu.End (ssu.Jump l ns) in
-      let first = sits-held base size val (all_vars bs) n (all_taken bs) [] above (made base n (Jump l bs)) of s (λ v i. used-of labels base size c d vs laid (Jump l bs) known n val of v f once far sees i) in
+      let first = sits-live_of base size val (all_vars bs) n (all_taken bs) [] above (made base n (Jump l bs)) of s (λ v i. used-of labels base size c d vs laid (Jump l bs) known n val of v f once far sees i) in
       let room = operands-room [] bs in
       let nil : different (all_vars bs ++ []) ≡ different (all_vars bs) = ap different (append-nil (all_vars bs)) in
       literals-peak n d bs X of above (different (all_vars bs)) (operands_wide [] bs) far sees.new first (omega (arith, room, nil))
@@ -580,7 +580,7 @@ module _ (labels : List Label) (base size : Counts) (c d : ℕ) (vs : List ℕ) 
   peak-made (Halt e bs) known n val of above f once far sees small s =
       let ns = names base (λ y. 0) n bs in
       let X = ssu.End (ssu.Halt e ns) in
-      let first = sits-held base size val (all_vars bs) n (all_taken bs) [] above (made base n (Halt e bs)) of s (λ v i. used-of labels base size c d vs laid (Halt e bs) known n val of v f once far sees i) in
+      let first = sits-live_of base size val (all_vars bs) n (all_taken bs) [] above (made base n (Halt e bs)) of s (λ v i. used-of labels base size c d vs laid (Halt e bs) known n val of v f once far sees i) in
       let room = operands-room [] bs in
       let nil : different (all_vars bs ++ []) ≡ different (all_vars bs) = ap different (append-nil (all_vars bs)) in
       literals-peak n d bs X of above (different (all_vars bs)) (operands_wide [] bs) far sees.new first (omega (arith, room, nil))

@@ -123,7 +123,7 @@ prim-uses base r n x (Same a) = refl
 prim-uses base r n x (UnaOf op a) = refl
 prim-uses base r n x (BinOf op a b) = refl
 
--- behind a primitive the copies are the same
+-- after a primitive the copies are the same
 prim-after : (x : ℕ) (p : Primitive) (ys : List ℕ) (t : ssu.Tree) (of : Names) → used of (ssu.Do (prim_step x p ys) t) ≡ map of (ssu.step_uses (prim_step x p ys)) ++ used of t
 prim-after x (Same a) ys t of = refl
 prim-after x (UnaOf op a) ys t of = refl

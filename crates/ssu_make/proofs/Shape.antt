@@ -1,4 +1,4 @@
--- The nodes of a form that was made: literals are narrow, counts and accesses right, clones directly behind their values, scratch addressed by literals.
+-- The nodes of a form that was made: literals are narrow, counts and accesses right, clones directly after their values, scratch addressed by literals.
 use Rattle.std.proofs.Common.{◌≡◌, ℕ, suc, ◌+◌, ◌/◌, ◌%◌, ◌^◌, ◌<◌, ◌≤◌, Bool, true, false, nat_eq, nat_lt, nat_le, ◌||◌, List, [], ◌∷◌, ◌++◌, map, Option, Some, None, refl, ap, ◌∙◌, ◌⊎◌, inl, inr, if◌then◌else◌, length, slice_get, slice_index, arith}
 use Rattle.std.proofs.lemmas.Bool.{false≢true, and_parts, and_from, or_left, or_right, eq-eqb, lt-ltb, leb-true, ne_eqb}
 use Rattle.std.proofs.lemmas.List.{length-map}
@@ -97,7 +97,7 @@ module _ (labels : List Label) (ss : List ssu.Label) (many : AsMany labels ss) (
   made-nodes (Halt e bs) known n f =
       literals-nodes ss n bs _ (ap (λ k. nat_le k 8) (names-length base (λ y. 0) n bs) ∙ (halt-parts labels known e bs f).1)
 
--- ---- clones stand directly behind their values
+-- ---- clones stand directly after their values
 
 -- whatever was defined directly before
 unfoldable pub EarlyAnyway : ssu.Tree → Type 0

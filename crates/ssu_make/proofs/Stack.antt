@@ -16,7 +16,7 @@ use Rattle.ssu_ir.specs.Tree as ssu
 use Rattle.ssu_make.specs.declared.tree.Part.{Part}
 use Rattle.ssu_make.specs.inner.Uses.{Counts, occurs, operands, outside, uses}
 use Rattle.ssu_make.specs.inner.Made.{all_taken, most, spent, made, made_let, made_read, made_write, made_if}
-use Rattle.ssu_make.specs.inner.Making.{counted, HasRoots, IsRoot, AreRoots, Becomes, Joined, MadeTo, kids, tops, Builds, next_after, roots_of, AreCounted, Stacked, CanMake, IsOver}
+use Rattle.ssu_make.specs.inner.Making.{counted, HasRoots, IsRoot, AreRoots, Becomes, Joined, MadeTo, successor_list, tops, Builds, next_after, roots_of, AreCounted, Stacked, CanMake, IsOver}
 use Rattle.ssu_make.proofs.Along.{same-everywhere, OnWay}
 use Rattle.ssu_make.proofs.Turns.{tops-last}
 
@@ -57,12 +57,12 @@ top-roots base n t u ts old new d parts mid left first second h s e f = record {
 }
 
 pub can-none : (base : Counts) (v : Tree) (b : SsuBuild) (d : ℕ) (parts : List Part) → CanMake base v b d parts → HasRoots b
-can-none base v b d parts c = roots-of-stack base c.first (kids v ++ c.rest) c.old b d (reverse parts) c.roots c.stacked
+can-none base v b d parts c = roots-of-stack base c.first (successor_list v ++ c.rest) c.old b d (reverse parts) c.roots c.stacked
 
-pub can-one : (base : Counts) (v k : Tree) (b : SsuBuild) (d : ℕ) (parts left : List Part) (part : Part) → CanMake base v b d parts → kids v ≡ k ∷ [] → parts ≡ left ++ part ∷ [] → IsRoot b part.root.0
+pub can-one : (base : Counts) (v k : Tree) (b : SsuBuild) (d : ℕ) (parts left : List Part) (part : Part) → CanMake base v b d parts → successor_list v ≡ k ∷ [] → parts ≡ left ++ part ∷ [] → IsRoot b part.root.0
 can-one base v k b d parts left part c e f = top-root base c.first k c.rest c.old b d parts left part c.roots (subst (λ l. Stacked base c.first (l ++ c.rest) c.old b d (reverse parts)) e c.stacked) f
 
-pub can-two : (base : Counts) (v k l : Tree) (b : SsuBuild) (d : ℕ) (parts mid left : List Part) (first second : Part) → CanMake base v b d parts → kids v ≡ k ∷ l ∷ [] → parts ≡ mid ++ first ∷ [] → mid ≡ left ++ second ∷ [] → AreRoots b first.root.0 second.root.0
+pub can-two : (base : Counts) (v k l : Tree) (b : SsuBuild) (d : ℕ) (parts mid left : List Part) (first second : Part) → CanMake base v b d parts → successor_list v ≡ k ∷ l ∷ [] → parts ≡ mid ++ first ∷ [] → mid ≡ left ++ second ∷ [] → AreRoots b first.root.0 second.root.0
 can-two base v k l b d parts mid left first second c e f g = top-roots base c.first k l c.rest c.old b d parts mid left first second c.roots (subst (λ z. Stacked base c.first (z ++ c.rest) c.old b d (reverse parts)) e c.stacked) f g
 
 -- ---- a node over what follows it
@@ -148,7 +148,7 @@ over-if base d d' v k l mid new parts between left top next part c a b is e f j 
 
 -- ---- the nodes of a tree, and back
 
-pub builds-step : (t : Tree) (order order' work work' : List (Bor Boxed)) (s : Bor Boxed) (stack : List Tree) → Builds (tops order) (tops work) t → work ≡ work' ++ s ∷ [] → order' ≡ order ++ s ∷ [] → stack ≡ kids (tree_view s.now) ++ tops work' → Builds (tops order') stack t
+pub builds-step : (t : Tree) (order order' work work' : List (Bor Boxed)) (s : Bor Boxed) (stack : List Tree) → Builds (tops order) (tops work) t → work ≡ work' ++ s ∷ [] → order' ≡ order ++ s ∷ [] → stack ≡ successor_list (tree_view s.now) ++ tops work' → Builds (tops order') stack t
 builds-step t order order' work work' s stack h e f g =
     subst (λ l. Builds l stack t) (sym (ap tops f ∙ tops-last order s)) (tops work', g, subst (λ l. Builds (tops order) l t) (ap tops e ∙ tops-last work' s) h)
 

@@ -12,11 +12,11 @@ use Rattle.flow_ir.specs.Formed.{defined}
 use Rattle.ssu_ir.specs.declared.build.SsuBuild.{SsuBuild}
 use Rattle.ssu_ir.specs.declared.node.SsuNode.{SsuNode}
 use Rattle.ssu_ir.specs.Build.{Holds, CanTake, Grown}
-use Rattle.ssu_ir.specs.Slots.{over, node_of, kids_of}
+use Rattle.ssu_ir.specs.Slots.{over, node_of, successors_of}
 use Rattle.ssu_ir.specs.Tree as ssu
 use Rattle.ssu_make.specs.inner.Uses.{Counts, here, occurs, all_uses}
 use Rattle.ssu_make.specs.inner.Made.{name, names, taken, all_taken, literals, atom_literal, clone_step, clones}
-use Rattle.ssu_make.specs.inner.Making.{HasRoots, IsRoot, AreRoots, Becomes, Joined, Adds, tops, kids, node_operands, node_defined}
+use Rattle.ssu_make.specs.inner.Making.{HasRoots, IsRoot, AreRoots, Becomes, Joined, Adds, tops, successor_list, node_operands, node_defined}
 use Rattle.ssu_make.proofs.Along.{same-everywhere, Named, LiteralsOn, ClonesOn, weight, weights, sum_uses, defined_in, Surveys}
 
 -- ---- lists
@@ -30,26 +30,26 @@ range-last (suc n) a = let k : suc n + 1 ≡ suc (n + 1) = omega arith in let e 
 
 -- ---- builders
 
-pub can-take-one : (b : SsuBuild) (n : SsuNode) (i : ℕ) → IsRoot b i → kids_of n ≡ i ∷ [] → CanTake b n
+pub can-take-one : (b : SsuBuild) (n : SsuNode) (i : ℕ) → IsRoot b i → successors_of n ≡ i ∷ [] → CanTake b n
 can-take-one b n i r e = record { taken = (i, r.tree) ∷ []; rest = r.rest; children = sym e; holds = r.holds }
 
-pub can-take-two : (b : SsuBuild) (n : SsuNode) (i j : ℕ) → AreRoots b i j → kids_of n ≡ i ∷ j ∷ [] → CanTake b n
+pub can-take-two : (b : SsuBuild) (n : SsuNode) (i j : ℕ) → AreRoots b i j → successors_of n ≡ i ∷ j ∷ [] → CanTake b n
 can-take-two b n i j r e = record { taken = (i, r.first) ∷ (j, r.second) ∷ []; rest = r.rest; children = sym e; holds = r.holds }
 
-pub can-take-none : (b : SsuBuild) (n : SsuNode) → HasRoots b → kids_of n ≡ [] → CanTake b n
+pub can-take-none : (b : SsuBuild) (n : SsuNode) → HasRoots b → successors_of n ≡ [] → CanTake b n
 can-take-none b n r e = record { taken = []; rest = r.roots; children = sym e; holds = r.holds }
 
-pub becomes-node : (old new : SsuBuild) (n : SsuNode) (i id : ℕ) (s : ssu.Step) → Grown old new n id → node_of n ≡ ssu.Does s → kids_of n ≡ i ∷ [] → Becomes old new i id (ssu.Do s)
+pub becomes-node : (old new : SsuBuild) (n : SsuNode) (i id : ℕ) (s : ssu.Step) → Grown old new n id → node_of n ≡ ssu.Does s → successors_of n ≡ i ∷ [] → Becomes old new i id (ssu.Do s)
 becomes-node old new n i id s g e k = record {
   by = λ t rest h. subst (λ m. Holds new ((id, over m (t ∷ [])) ∷ rest)) e (g ((i, t) ∷ []) rest (sym k) h);
 }
 
-pub joined-node : (old new : SsuBuild) (n : SsuNode) (i j id : ℕ) (c : Cmp) (x y : ℕ) → Grown old new n id → node_of n ≡ ssu.Forks c x y → kids_of n ≡ i ∷ j ∷ [] → Joined old new i j id (ssu.If c x y)
+pub joined-node : (old new : SsuBuild) (n : SsuNode) (i j id : ℕ) (c : Cmp) (x y : ℕ) → Grown old new n id → node_of n ≡ ssu.Forks c x y → successors_of n ≡ i ∷ j ∷ [] → Joined old new i j id (ssu.If c x y)
 joined-node old new n i j id c x y g e k = record {
   by = λ t u rest h. subst (λ m. Holds new ((id, over m (t ∷ u ∷ [])) ∷ rest)) e (g ((i, t) ∷ (j, u) ∷ []) rest (sym k) h);
 }
 
-pub adds-node : (old new : SsuBuild) (n : SsuNode) (id : ℕ) (l : ssu.Last) → Grown old new n id → node_of n ≡ ssu.Ends l → kids_of n ≡ [] → Adds old new id (ssu.End l)
+pub adds-node : (old new : SsuBuild) (n : SsuNode) (id : ℕ) (l : ssu.Last) → Grown old new n id → node_of n ≡ ssu.Ends l → successors_of n ≡ [] → Adds old new id (ssu.End l)
 adds-node old new n id l g e k = record { by = λ rest h. subst (λ m. Holds new ((id, over m []) ∷ rest)) e (g [] rest (sym k) h) }
 
 pub becomes-root : (old new : SsuBuild) (i j : ℕ) (f : ssu.Tree → ssu.Tree) → Becomes old new i j f → IsRoot old i → IsRoot new j
@@ -147,54 +147,54 @@ unfolding weights
 weights-append [] b = omega arith
 weights-append (t ∷ a) b = omega (arith, weights-append a b)
 
-uses-kids : (t : Tree) (y : ℕ) → all_uses t y ≡ occurs (node_operands t) y + sum_uses (kids t) y
+uses-successor_list : (t : Tree) (y : ℕ) → all_uses t y ≡ occurs (node_operands t) y + sum_uses (successor_list t) y
 unfolding sum_uses
-uses-kids (Let x p t) y = omega arith
-uses-kids (Read m xs a t) y = omega arith
-uses-kids (Write m a bs t) y = omega arith
-uses-kids (If c a b t u) y = omega arith
-uses-kids (Jump l bs) y = omega arith
-uses-kids (Halt e bs) y = omega arith
+uses-successor_list (Let x p t) y = omega arith
+uses-successor_list (Read m xs a t) y = omega arith
+uses-successor_list (Write m a bs t) y = omega arith
+uses-successor_list (If c a b t u) y = omega arith
+uses-successor_list (Jump l bs) y = omega arith
+uses-successor_list (Halt e bs) y = omega arith
 
-defined-kids : (t : Tree) → defined t ≡ node_defined t ++ defined_in (kids t)
+defined-successor_list : (t : Tree) → defined t ≡ node_defined t ++ defined_in (successor_list t)
 unfolding defined_in
-defined-kids (Let x p t) = ap (λ l. x ∷ l) (sym (append-nil (defined t)))
-defined-kids (Read m xs a t) = ap (λ l. xs ++ l) (sym (append-nil (defined t)))
-defined-kids (Write m a bs t) = sym (append-nil (defined t))
-defined-kids (If c a b t u) = ap (λ l. defined t ++ l) (sym (append-nil (defined u)))
-defined-kids (Jump l bs) = refl
-defined-kids (Halt e bs) = refl
+defined-successor_list (Let x p t) = ap (λ l. x ∷ l) (sym (append-nil (defined t)))
+defined-successor_list (Read m xs a t) = ap (λ l. xs ++ l) (sym (append-nil (defined t)))
+defined-successor_list (Write m a bs t) = sym (append-nil (defined t))
+defined-successor_list (If c a b t u) = ap (λ l. defined t ++ l) (sym (append-nil (defined u)))
+defined-successor_list (Jump l bs) = refl
+defined-successor_list (Halt e bs) = refl
 
-weights-kids : (t : Tree) → weights (kids t) < weight t
+weights-successor_list : (t : Tree) → weights (successor_list t) < weight t
 unfolding weight weights
-weights-kids (Let x p t) = omega arith
-weights-kids (Read m xs a t) = omega arith
-weights-kids (Write m a bs t) = omega arith
-weights-kids (If c a b t u) = omega arith
-weights-kids (Jump l bs) = omega arith
-weights-kids (Halt e bs) = omega arith
+weights-successor_list (Let x p t) = omega arith
+weights-successor_list (Read m xs a t) = omega arith
+weights-successor_list (Write m a bs t) = omega arith
+weights-successor_list (If c a b t u) = omega arith
+weights-successor_list (Jump l bs) = omega arith
+weights-successor_list (Halt e bs) = omega arith
 
 pub surveys-start : (t : Tree) (before : List ℕ) (now : Counts) → ((y : ℕ) → now y ≡ 0) → Surveys t before (t ∷ []) now before
 unfolding sum_uses defined_in
 surveys-start t before now none = record { counts = λ y. omega (arith, none y); found = ap (λ l. before ++ l) (append-nil (defined t)) }
 
-pub surveys-step : (t : Tree) (before : List ℕ) (s : Tree) (rest work : List Tree) (now now' : Counts) (all all' : List ℕ) → Surveys t before (s ∷ rest) now all → work ≡ kids s ++ rest → ((y : ℕ) → now' y ≡ occurs (node_operands s) y + now y) → all' ≡ all ++ node_defined s
+pub surveys-step : (t : Tree) (before : List ℕ) (s : Tree) (rest work : List Tree) (now now' : Counts) (all all' : List ℕ) → Surveys t before (s ∷ rest) now all → work ≡ successor_list s ++ rest → ((y : ℕ) → now' y ≡ occurs (node_operands s) y + now y) → all' ≡ all ++ node_defined s
     → Surveys t before work now' all'
 unfolding sum_uses defined_in
 surveys-step t before s rest work now now' all all' h ew en ea = record {
   counts = λ y.
       let a = h.counts y in
-      let b = ap (λ l. sum_uses l y) ew ∙ uses-append (kids s) rest y in
-      omega (arith, a, b, en y, uses-kids s y);
+      let b = ap (λ l. sum_uses l y) ew ∙ uses-append (successor_list s) rest y in
+      omega (arith, a, b, en y, uses-successor_list s y);
   found =
       ap (λ l. l ++ defined_in work) ea ∙ append_assoc all (node_defined s) (defined_in work)
-      ∙ ap (λ l. all ++ (node_defined s ++ l)) (ap defined_in ew ∙ defined-append (kids s) rest)
-      ∙ ap (λ l. all ++ l) (sym (append_assoc (node_defined s) (defined_in (kids s)) (defined_in rest)) ∙ ap (λ l. l ++ defined_in rest) (sym (defined-kids s))) ∙ h.found;
+      ∙ ap (λ l. all ++ (node_defined s ++ l)) (ap defined_in ew ∙ defined-append (successor_list s) rest)
+      ∙ ap (λ l. all ++ l) (sym (append_assoc (node_defined s) (defined_in (successor_list s)) (defined_in rest)) ∙ ap (λ l. l ++ defined_in rest) (sym (defined-successor_list s))) ∙ h.found;
 }
 
-pub surveys-less : (s : Tree) (rest work : List Tree) → work ≡ kids s ++ rest → weights work < weights (s ∷ rest)
+pub surveys-less : (s : Tree) (rest work : List Tree) → work ≡ successor_list s ++ rest → weights work < weights (s ∷ rest)
 unfolding weights
-surveys-less s rest work e = let a = ap weights e ∙ weights-append (kids s) rest in let b = weights-kids s in omega (arith, a, b)
+surveys-less s rest work e = let a = ap weights e ∙ weights-append (successor_list s) rest in let b = weights-successor_list s in omega (arith, a, b)
 
 pub surveys-end : (t : Tree) (before : List ℕ) (now : Counts) (all : List ℕ) → Surveys t before [] now all → ((y : ℕ) → now y ≡ all_uses t y) × (all ≡ before ++ defined t)
 unfolding sum_uses defined_in

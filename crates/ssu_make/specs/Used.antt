@@ -5,7 +5,7 @@ use Rattle.nv_base.specs.Sets.{is_in}
 use Rattle.flow_ir.specs.Tree.{Tree, Let, Read, Write, If, Jump, Halt, Label}
 use Rattle.flow_ir.specs.Wide.{live}
 
--- each variable that a `Let` defines is used behind it
+-- each variable that a `Let` defines is used after it
 abbrev pub lets_used : Tree → Bool
 lets_used (Let x a t) = is_in x (live t) && lets_used t
 lets_used (Read m xs a t) = lets_used t

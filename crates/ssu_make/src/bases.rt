@@ -3,7 +3,7 @@
 ghost use Rattle.std.specs.Prelude.{◌≡◌, ℕ, ◌+◌, ◌≤◌, ◌++◌, map, IfOk, OnOk};
 ghost use Rattle.flow_ir.specs.Formed.{defined};
 ghost use Rattle.flow_ir.specs.View.{tree_view};
-ghost use Rattle.ssu_make.specs.inner.Making.{counted, tops, kids, node_operands, node_defined, LaidOut};
+ghost use Rattle.ssu_make.specs.inner.Making.{counted, tops, successor_list, node_operands, node_defined, LaidOut};
 ghost use Rattle.ssu_make.specs.inner.Uses.{here, occurs, all_uses};
 
 use crate::counts::Counts;
@@ -32,7 +32,7 @@ fn count_all(counts: &mut Counts, list: &[Atom]) -> Result<(), NoMemory>
     Ok(())
 }
 
-// Counts the operands of a node, and adds the variables that it defines and the trees behind it.
+// Counts the operands of a node, and adds the variables that it defines and the trees after it.
 fn survey_node<'a>(
     alloc: Global,
     t: &'a Tree,
@@ -42,7 +42,7 @@ fn survey_node<'a>(
 ) -> Result<(), NoMemory>
     ensures counts { OnOk result ((y : ℕ) → counted counts.new y ≡ occurs (node_operands (tree_view t.now)) y + counted counts.old y) }
     ensures found { OnOk result (found.new.items ≡ found.old.items ++ node_defined (tree_view t.now)) }
-    ensures work { OnOk result (tops work.new.items ≡ kids (tree_view t.now) ++ tops work.old.items) }
+    ensures work { OnOk result (tops work.new.items ≡ successor_list (tree_view t.now) ++ tops work.old.items) }
 {
     match t {
         Tree::Let(x, p, rest) => {

@@ -12,7 +12,7 @@ use crate::counts::Counts;
 use nv_base::{Atom, NoMemory};
 use std::alloc::Global;
 
-/// A sum, or want of memory where there are too many names.
+/// A sum, or memory exhaustion where there are too many names.
 pub fn plus(a: u32, b: u32) -> Result<u32, NoMemory>
     ensures { IfOk result (λ n. n ≡ a + b) }
 {

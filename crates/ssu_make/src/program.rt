@@ -24,7 +24,7 @@ use nv_base::NoMemory;
 use ssu_ir::{Ssu, SsuBuild, SsuLabel};
 use std::alloc::Global;
 
-/// The single-use form of a flow. Want of memory is also the answer where 2^32 names or nodes would
+/// The single-use form of a flow. Memory exhaustion is also the answer where 2^32 names or nodes would
 /// be needed.
 pub fn make(alloc: Global, f: &Flow) -> Result<Ssu, NoMemory>
     requires { all_lets_used (map label_view f.now.labels.items) ≡ true }

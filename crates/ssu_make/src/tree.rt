@@ -3,8 +3,8 @@
 ghost use Rattle.std.specs.Prelude.{◌≡◌, ℕ, ◌+◌, ◌<◌, [], ◌∷◌, ◌++◌, length, slice_index, IfOk, OnOk};
 ghost use Rattle.flow_ir.specs.View.{tree_view};
 ghost use Rattle.ssu_ir.specs.Tree as ssu;
-ghost use Rattle.ssu_ir.specs.Slots.{node_of, kids_of};
-ghost use Rattle.ssu_make.specs.inner.Making.{counted, HasRoots, IsRoot, AreRoots, Becomes, Joined, Adds, MadeTo, tops, kids, Builds, CanMake, IsOver};
+ghost use Rattle.ssu_ir.specs.Slots.{node_of, successors_of};
+ghost use Rattle.ssu_make.specs.inner.Making.{counted, HasRoots, IsRoot, AreRoots, Becomes, Joined, Adds, MadeTo, tops, successor_list, Builds, CanMake, IsOver};
 ghost use Rattle.ssu_make.specs.inner.Made.{all_taken, most, spent, made, made_let, made_read, made_write, made_if, made_jump, made_halt, prim_step};
 ghost use Rattle.ssu_make.specs.inner.Uses.{occurs, outside, uses};
 ghost use Rattle.ssu_make.specs.inner.Uses as spec;
@@ -39,7 +39,7 @@ pub fn prim_operands(alloc: Global, p: Prim) -> Result<Vec<Atom>, NoMemory>
 fn prim_node(x: u32, p: Prim, ys: &[u32], root: NodeId) -> SsuNode
     requires { length ys.now ≡ length (spec.operands p) }
     ensures node { node_of result ≡ ssu.Does (prim_step x p ys.now) }
-    ensures children { kids_of result ≡ root.0 ∷ [] }
+    ensures children { successors_of result ≡ root.0 ∷ [] }
 {
     match p {
         Prim::Same(_) => SsuNode::Bin(x, Bin::Or, ys[0], ys[1], root),
@@ -202,8 +202,8 @@ fn make_halt(
 }
 
 /// Adds what follows a node, the first arm of an `If` on top.
-pub fn push_kids<'a>(t: &'a Tree, work: &mut Vec<&'a Tree>) -> Result<(), NoMemory>
-    ensures { OnOk result (tops work.new.items ≡ kids (tree_view t.now) ++ tops work.old.items) }
+pub fn push_successors<'a>(t: &'a Tree, work: &mut Vec<&'a Tree>) -> Result<(), NoMemory>
+    ensures { OnOk result (tops work.new.items ≡ successor_list (tree_view t.now) ++ tops work.old.items) }
 {
     match t {
         Tree::Let(_, _, rest) => work.push(rest)?,
@@ -228,7 +228,7 @@ fn tree_order<'a>(alloc: Global, t: &'a Tree) -> Result<Vec<&'a Tree>, NoMemory>
     work.push(t)?;
     'walk: while let Some(s) = work.pop() {
         order.push(s)?;
-        push_kids(s, &mut work)?;
+        push_successors(s, &mut work)?;
     }
     Ok(order)
 }

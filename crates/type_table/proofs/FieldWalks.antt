@@ -143,11 +143,11 @@ fields_named s i ts h = (h.0, h.1, cells_names s h.0 ts h.2)
 pub forms_named : (s : Store) (i : ℕ) (fs : Forms) → IsForms s i fs → AreNamed s i (form_names fs)
 forms_named s i fs h = (h.0, h.1, form_cells_names s h.0 fs h.2)
 
--- ---- names that were seen, and those of a tree behind them
+-- ---- names that were seen, and those of a tree after them
 pub seen_none : (s : Store) → AreSeen s [] []
 seen_none s = record { once = refl; each = λ n x at. refl }
 
--- what is said of some names and those of a tree behind them
+-- what is said of some names and those of a tree after them
 abbrev pub SaysSo : Store → ℕ → List ℕ → (List (List ℕ) → Type 0) → Type 0
 SaysSo s i old Q = (t : Row) (xs names : List (List ℕ)) → AreSeen s old xs → Stands s i t → AreNames s (leaves t) names → Q (xs ++ names)
 
@@ -174,7 +174,7 @@ seen_one s is i n j at old absent t xs names before h k = by names (subst (λ u.
     }
     by (y ∷ z ∷ ys) l = absurd l.1
 
--- of both of two trees: a name was met in the left one, or the right one stands behind that
+-- of both of two trees: a name was met in the left one, or the right one stands after that
 pub meets_left : (s : Store) (i j k : ℕ) → slice_get s.cells i ≡ Some (Both j k) → (old : List ℕ) (b : Bool) → SaysSo s j old (λ l. b ≡ has_twice l) → b ≡ true → SaysSo s i old (λ l. true ≡ has_twice l)
 meets_left s i j k at old b left e t xs names before h named =
     let v = stands_both s i j k at t h in

@@ -8,7 +8,7 @@ use Rattle.type_table.specs.declared.table.Facts.{Facts}
 use Rattle.type_table.specs.declared.table.Cell.{Cell}
 use Rattle.type_table.specs.declared.table.Cell.TheVariants.{Word, Bool as BoolCell, NoParts, NoFields, Tuple, Record, Choice, Part, Field, Both}
 use Rattle.type_table.specs.inner.Cells.{nothing, fact_at, over, lone, cell_facts, AreBelow, IsTable}
-use Rattle.type_table.specs.inner.Store.{Store, Grows}
+use Rattle.type_table.specs.inner.Store.{Store, Extends}
 
 pub get_left : {A : Type 0} (xs ys : List A) (i : ℕ) (x : A) → slice_get xs i ≡ Some x → slice_get (xs ++ ys) i ≡ Some x
 get_left xs ys i x h =
@@ -111,18 +111,18 @@ IsTable-name names cells facts x is new = record {
   known = is.known;
 }
 
-pub Grows-cells : (names : List (List ℕ)) (cells more : List Cell) → Grows (record { names = names; cells = cells }) (record { names = names; cells = cells ++ more })
-Grows-cells names cells more = record { names_stay = λ i x h. h; cells_stay = λ i c h. get_left cells more i c h }
+pub Extends-cells : (names : List (List ℕ)) (cells more : List Cell) → Extends (record { names = names; cells = cells }) (record { names = names; cells = cells ++ more })
+Extends-cells names cells more = record { names_stay = λ i x h. h; cells_stay = λ i c h. get_left cells more i c h }
 
-pub Grows-names : (names more : List (List ℕ)) (cells : List Cell) → Grows (record { names = names; cells = cells }) (record { names = names ++ more; cells = cells })
-Grows-names names more cells = record { names_stay = λ i x h. get_left names more i x h; cells_stay = λ i c h. h }
+pub Extends-names : (names more : List (List ℕ)) (cells : List Cell) → Extends (record { names = names; cells = cells }) (record { names = names ++ more; cells = cells })
+Extends-names names more cells = record { names_stay = λ i x h. get_left names more i x h; cells_stay = λ i c h. h }
 
-pub Grows-refl : (s : Store) → Grows s s
-Grows-refl s = record { names_stay = λ i x h. h; cells_stay = λ i c h. h }
+pub Extends-refl : (s : Store) → Extends s s
+Extends-refl s = record { names_stay = λ i x h. h; cells_stay = λ i c h. h }
 
-pub Grows-trans : (a b c : Store) → Grows a b → Grows b c → Grows a c
-Grows-trans a b c f g = record { names_stay = λ i x h. g.names_stay i x (f.names_stay i x h); cells_stay = λ i d h. g.cells_stay i d (f.cells_stay i d h) }
+pub Extends-trans : (a b c : Store) → Extends a b → Extends b c → Extends a c
+Extends-trans a b c f g = record { names_stay = λ i x h. g.names_stay i x (f.names_stay i x h); cells_stay = λ i d h. g.cells_stay i d (f.cells_stay i d h) }
 
-pub grows_after : {T E : Type 0} (a b c : Store) (r : Result T E) → Grows a b → OnOk r (Grows b c) → OnOk r (Grows a c)
-grows_after a b c (Ok x) f g = Grows-trans a b c f g
+pub grows_after : {T E : Type 0} (a b c : Store) (r : Result T E) → Extends a b → OnOk r (Extends b c) → OnOk r (Extends a c)
+grows_after a b c (Ok x) f g = Extends-trans a b c f g
 grows_after a b c (Err e) f g = tt

@@ -5,13 +5,13 @@ use Rattle.std.specs.Result.{IfOk, OnOk}
 use Rattle.nv_base.specs.declared.error.NoMemory.{NoMemory}
 use Rattle.nv_ast.specs.Types.{NamedTys, Forms, no_named_tys, named_ty_and, no_forms, form_and, ◌+++◌}
 use Rattle.type_table.specs.inner.Rows.{Row, one, hung, grown}
-use Rattle.type_table.specs.inner.Store.{Store, Grows, Stands, IsRow, IsFields, IsForms, AreFieldCells, AreFormCells, fields_then}
+use Rattle.type_table.specs.inner.Store.{Store, Extends, Stands, IsRow, IsFields, IsForms, AreFieldCells, AreFormCells, fields_then}
 use Rattle.type_table.specs.inner.Lists.{AreOnes, AreStacked}
 use Rattle.type_table.proofs.Rows.{grown_edge}
 use Rattle.type_table.proofs.Staying.{cells_stay, form_cells_stay}
 use Rattle.type_table.proofs.FieldCells.{cells_then, form_cells_then}
 
--- ---- behind the empty list
+-- ---- after the empty list
 pub fields_after : (s : Store) (i j : ℕ) → ((ps : List (ℕ × ℕ)) → IsRow s i ps → true ≡ (length ps == 0)) → (ts us : NamedTys) → IsFields s i ts → IsFields s j us → IsFields s j (fields_then ts us)
 fields_after s i j none ts us h k = by h.0 (none h.0 h.1) ts h.2
   where
@@ -28,7 +28,7 @@ forms_after s i j none fs gs h k = by h.0 (none h.0 h.1) fs h.2
     by [] e (form_and x f hs) cells = absurd cells
     by (p ∷ ps) e hs cells = absurd (true≢false (e ∙ eqb-suc-zero (length ps)))
 
--- ---- behind a tree: the rows along its right edge, and its last field
+-- ---- after a tree: the rows along its right edge, and its last field
 abbrev pub JoinsRows : Store → Store → ℕ → ℕ → Result ℕ NoMemory → Type 0
 JoinsRows a b first second r = (ps qs : List (ℕ × ℕ)) → IsRow a first ps → IsRow a second qs → IfOk r (λ i. IsRow b i (ps ++ qs))
 
@@ -43,12 +43,12 @@ joined_rows a b first second last r rows behind seen some e ones edge grow (p �
     let at = edge g.rows g.last (subst (Stands a first) g.whole h) in
     subst (λ t. IfOk r (λ i. Stands b i t)) (sym (g.behind qs)) (grow g.rows g.last qs at.0 at.1 (subst (λ (l : List ℕ). AreOnes a l qs) (sym e) (ones qs k)))
 
-pub joined_fields : (a b : Store) (first second : ℕ) (r : Result ℕ NoMemory) → OnOk r (Grows a b) → JoinsRows a b first second r → (ts us : NamedTys) → IsFields a first ts → IsFields a second us → IfOk r (λ i. IsFields b i (fields_then ts us))
+pub joined_fields : (a b : Store) (first second : ℕ) (r : Result ℕ NoMemory) → OnOk r (Extends a b) → JoinsRows a b first second r → (ts us : NamedTys) → IsFields a first ts → IsFields a second us → IfOk r (λ i. IsFields b i (fields_then ts us))
 joined_fields a b first second (Ok i) grows rows ts us h k =
     (h.0 ++ k.0, rows h.0 k.0 h.1 k.1, cells_then b h.0 k.0 ts us (cells_stay a b grows h.0 ts h.2) (cells_stay a b grows k.0 us k.2))
 joined_fields a b first second (Err e) grows rows ts us h k = tt
 
-pub joined_forms : (a b : Store) (first second : ℕ) (r : Result ℕ NoMemory) → OnOk r (Grows a b) → JoinsRows a b first second r → (fs gs : Forms) → IsForms a first fs → IsForms a second gs → IfOk r (λ i. IsForms b i (fs +++ gs))
+pub joined_forms : (a b : Store) (first second : ℕ) (r : Result ℕ NoMemory) → OnOk r (Extends a b) → JoinsRows a b first second r → (fs gs : Forms) → IsForms a first fs → IsForms a second gs → IfOk r (λ i. IsForms b i (fs +++ gs))
 joined_forms a b first second (Ok i) grows rows fs gs h k =
     (h.0 ++ k.0, rows h.0 k.0 h.1 k.1, form_cells_then b h.0 k.0 fs gs (form_cells_stay a b grows h.0 fs h.2) (form_cells_stay a b grows k.0 gs k.2))
 joined_forms a b first second (Err e) grows rows fs gs h k = tt

@@ -1,4 +1,4 @@
--- Trees of fields as they are made: two that hang together, more behind some rows, and the lists of single fields.
+-- Trees of fields as they are made: two that hang together, more after some rows, and the lists of single fields.
 use Rattle.std.proofs.Common.{◌≡◌, ◌∙◌, refl, ap, sym, subst, ℕ, ◌+◌, ◌==◌, ◌<◌, true, false, cond, List, [], ◌∷◌, ◌++◌, Some, None, Option, Result, Ok, Err, slice_get, get_or, take, length, length-append, arith, true≢false}
 use Rattle.std.specs.Borrow.{Bor}
 use Rattle.std.specs.Option.{IsSome, option_to_list}
@@ -8,14 +8,14 @@ use Rattle.nv_base.specs.declared.error.NoMemory.{NoMemory}
 use Rattle.nv_ast.specs.Types.{NamedTys, no_named_tys, named_ty_and, Forms, no_forms, form_and}
 use Rattle.type_table.specs.declared.table.Cell.TheVariants.{Field, Both}
 use Rattle.type_table.specs.inner.Rows.{Row, one, both, depth, ends_as_deep, carried, hung, grown}
-use Rattle.type_table.specs.inner.Store.{Store, IsStore, Grows, Stands, IsRow, AreFieldCells, AreFormCells, IsFields, IsForms, AreFields, AreForms}
+use Rattle.type_table.specs.inner.Store.{Store, IsStore, Extends, Stands, IsRow, AreFieldCells, AreFormCells, IsFields, IsForms, AreFields, AreForms}
 use Rattle.type_table.specs.inner.Lists.{AreOnes, AreStacked, IsPut, ArePut}
 use Rattle.type_table.specs.inner.Named.{named}
 use Rattle.type_table.proofs.RowNumbers.{stands_stays, ones_stay, stacked_stay}
 use Rattle.type_table.proofs.Staying.{type_stays, form_stays, cells_stay, form_cells_stay}
 use Rattle.type_table.proofs.There.{IsSame, same_type, same_form}
 
-pub made_both : (a b : Store) (r : Result ℕ NoMemory) (j k : ℕ) → IfOk r (λ i. slice_get b.cells i ≡ Some (Both j k)) → OnOk r (Grows a b)
+pub made_both : (a b : Store) (r : Result ℕ NoMemory) (j k : ℕ) → IfOk r (λ i. slice_get b.cells i ≡ Some (Both j k)) → OnOk r (Extends a b)
     → (t u : Row) → Stands a j t → Stands a k u → IfOk r (λ i. Stands b i (both t u))
 made_both a b (Ok i) j k at grows t u h l = (j, k, at, stands_stays a b grows j t h, stands_stays a b grows k u l)
 made_both a b (Err e) j k at grows t u h l = tt
@@ -42,7 +42,7 @@ popped old new front i None e f some = absurd (true≢false (sym (some (subst (�
 abbrev pub ComesTo : {X : Type 0} → (List Row → Row → X) → Store → List ℕ → ℕ → Store → List ℕ → ℕ → Type 0
 ComesTo f a is i s js j = (ts : List Row) (t : Row) → AreStacked a is ts → Stands a i t → (us : List Row) × (u : Row) × (f ts t ≡ f us u) × AreStacked s js us × Stands s j u
 
-pub hung_step : (a s b : Store) (is js front : List ℕ) (i j before k : ℕ) → js ≡ front ++ before ∷ [] → Grows s b
+pub hung_step : (a s b : Store) (is js front : List ℕ) (i j before k : ℕ) → js ≡ front ++ before ∷ [] → Extends s b
     → ((t u : Row) → Stands s before t → Stands s j u → Stands b k (both t u)) → ComesTo hung a is i s js j → ComesTo hung a is i b front k
 hung_step a s b is js front i j before k e grows made so ts t h l =
     let old = so ts t h l in
@@ -58,8 +58,8 @@ hung_end a s is js i j none so ts t h l =
     by [] u e k m = subst (Stands s j) (sym e) m
     by (v ∷ vs) u e k m = absurd (pushed_some k.0 k.1 (sym k.2))
 
--- ---- one more row behind some others
-pub carried_step : (a s b : Store) (is js front : List ℕ) (i j before k : ℕ) → js ≡ front ++ before ∷ [] → ((us : List Row) (u : Row) → AreStacked s js us → Stands s j u → true ≡ ends_as_deep us u) → Grows s b
+-- ---- one more row after some others
+pub carried_step : (a s b : Store) (is js front : List ℕ) (i j before k : ℕ) → js ≡ front ++ before ∷ [] → ((us : List Row) (u : Row) → AreStacked s js us → Stands s j u → true ≡ ends_as_deep us u) → Extends s b
     → ((t u : Row) → Stands s before t → Stands s j u → Stands b k (both t u)) → ComesTo carried a is i s js j → ComesTo carried a is i b front k
 carried_step a s b is js front i j before k e deep grows made so ts t h l =
     let old = so ts t h l in
@@ -87,7 +87,7 @@ abbrev pub GrowsTo : Store → List ℕ → ℕ → List ℕ → Store → List 
 GrowsTo a is i behind s js j left = (ts : List Row) (p : ℕ × ℕ) (ps : List (ℕ × ℕ)) → AreStacked a is ts → Stands a i (one p) → AreOnes a behind ps
     → (us : List Row) × (q : ℕ × ℕ) × (qs : List (ℕ × ℕ)) × (grown ts p ps ≡ grown us q qs) × AreStacked s js us × Stands s j (one q) × AreOnes s left qs
 
-pub grown_step : (a s b : Store) (is behind js new left rest : List ℕ) (i j next : ℕ) → left ≡ next ∷ rest → Grows s b
+pub grown_step : (a s b : Store) (is behind js new left rest : List ℕ) (i j next : ℕ) → left ≡ next ∷ rest → Extends s b
     → ((us : List Row) (u : Row) → AreStacked s js us → Stands s j u → AreStacked b new (carried us u)) → GrowsTo a is i behind s js j left → GrowsTo a is i behind b new next rest
 grown_step a s b is behind js new left rest i j next e grows carry so ts p ps h k l =
     let old = so ts p ps h k l in
@@ -120,7 +120,7 @@ row_some a b is start behind i r e none made ps h = by ps (subst (λ (l : List �
     by (q ∷ qs) k = made [] q qs none k.0 k.1
 
 -- ---- lists of single fields of types or forms that had numbers
-pub put_one : (a s m b : Store) (e : List ℕ × ℕ) (name part i : ℕ) → IsStore m → Grows a s → Grows s m → Grows m b → slice_get m.names name ≡ Some e.0 → IsSame m e.1 part → slice_get b.cells i ≡ Some (Field name part) → IsPut a b e i
+pub put_one : (a s m b : Store) (e : List ℕ × ℕ) (name part i : ℕ) → IsStore m → Extends a s → Extends s m → Extends m b → slice_get m.names name ≡ Some e.0 → IsSame m e.1 part → slice_get b.cells i ≡ Some (Field name part) → IsPut a b e i
 put_one a s m b e name part i is f g h there same at = record {
   name = name;
   part = part;
@@ -130,7 +130,7 @@ put_one a s m b e name part i is f g h there same at = record {
   of_form = λ t k. form_stays m b h part t (same_form m is e.1 part same t (form_stays s m g e.1 t (form_stays a s f e.1 t k)));
 }
 
-put_stays : (a s b : Store) → Grows s b → (e : List ℕ × ℕ) (i : ℕ) → IsPut a s e i → IsPut a b e i
+put_stays : (a s b : Store) → Extends s b → (e : List ℕ × ℕ) (i : ℕ) → IsPut a s e i → IsPut a b e i
 put_stays a s b grows e i h = record {
   name = h.name;
   part = h.part;
@@ -140,7 +140,7 @@ put_stays a s b grows e i h = record {
   of_form = λ f k. form_stays s b grows h.part f (h.of_form f k);
 }
 
-pub put_more : (a s b : Store) → Grows s b → (es : List (List ℕ × ℕ)) (is : List ℕ) (e : List ℕ × ℕ) (i : ℕ) → ArePut a s es is → IsPut a b e i → ArePut a b (es ++ e ∷ []) (is ++ i ∷ [])
+pub put_more : (a s b : Store) → Extends s b → (es : List (List ℕ × ℕ)) (is : List ℕ) (e : List ℕ × ℕ) (i : ℕ) → ArePut a s es is → IsPut a b e i → ArePut a b (es ++ e ∷ []) (is ++ i ∷ [])
 put_more a s b grows [] [] e i h k = (k, tt)
 put_more a s b grows [] (j ∷ is) e i h k = absurd h
 put_more a s b grows (d ∷ es) [] e i h k = absurd h
@@ -177,14 +177,14 @@ put_forms a b (e ∷ es) (i ∷ is) (form_and x f fs) h k =
     ((new.name, new.part) ∷ rest.0, (new.of_cell, rest.1), (new.of_name ∙ ap Some k.0, new.of_form f k.1, rest.2))
 
 -- ---- their lists
-pub made_fields : (a s b : Store) (es : List (List ℕ × ℕ)) (is seen : List ℕ) (r : Result ℕ NoMemory) → seen ≡ is → ArePut a s es is → ((ps : List (ℕ × ℕ)) → AreOnes s seen ps → IfOk r (λ i. IsRow b i ps)) → OnOk r (Grows s b)
+pub made_fields : (a s b : Store) (es : List (List ℕ × ℕ)) (is seen : List ℕ) (r : Result ℕ NoMemory) → seen ≡ is → ArePut a s es is → ((ps : List (ℕ × ℕ)) → AreOnes s seen ps → IfOk r (λ i. IsRow b i ps)) → OnOk r (Extends s b)
     → (ts : NamedTys) → AreFields a es ts → IfOk r (λ i. IsFields b i ts)
 made_fields a s b es is seen (Ok i) e put row grows ts h =
     let v = put_types a s es is ts put h in
     (v.0, row v.0 (subst (λ (l : List ℕ). AreOnes s l v.0) (sym e) v.1), cells_stay s b grows v.0 ts v.2)
 made_fields a s b es is seen (Err x) e put row grows ts h = tt
 
-pub made_forms : (a s b : Store) (es : List (List ℕ × ℕ)) (is seen : List ℕ) (r : Result ℕ NoMemory) → seen ≡ is → ArePut a s es is → ((ps : List (ℕ × ℕ)) → AreOnes s seen ps → IfOk r (λ i. IsRow b i ps)) → OnOk r (Grows s b)
+pub made_forms : (a s b : Store) (es : List (List ℕ × ℕ)) (is seen : List ℕ) (r : Result ℕ NoMemory) → seen ≡ is → ArePut a s es is → ((ps : List (ℕ × ℕ)) → AreOnes s seen ps → IfOk r (λ i. IsRow b i ps)) → OnOk r (Extends s b)
     → (fs : Forms) → AreForms a es fs → IfOk r (λ i. IsForms b i fs)
 made_forms a s b es is seen (Ok i) e put row grows fs h =
     let v = put_forms a s es is fs put h in

@@ -3,26 +3,26 @@ use Rattle.std.proofs.Common.{◌≡◌, ◌∙◌, refl, ap, sym, subst, ℕ, L
 use Rattle.type_table.specs.declared.table.Cell.{Cell}
 use Rattle.type_table.specs.declared.table.Cell.TheVariants.{NoFields, Field, Both}
 use Rattle.type_table.specs.inner.Rows.{Row, one, both, leaves, grown}
-use Rattle.type_table.specs.inner.Store.{Store, IsStore, Grows, Stands, IsRow}
+use Rattle.type_table.specs.inner.Store.{Store, IsStore, Extends, Stands, IsRow}
 use Rattle.type_table.specs.inner.Lists.{AreOnes, AreStacked}
 use Rattle.type_table.proofs.Rows.{leaves_row}
 
 -- ---- a store that grows
-pub stands_stays : (a b : Store) → Grows a b → (i : ℕ) (t : Row) → Stands a i t → Stands b i t
+pub stands_stays : (a b : Store) → Extends a b → (i : ℕ) (t : Row) → Stands a i t → Stands b i t
 stands_stays a b g i (one p) h = g.cells_stay i _ h
 stands_stays a b g i (both t u) h = (h.0, h.1, g.cells_stay i _ h.2, stands_stays a b g h.0 t h.3, stands_stays a b g h.1 u h.4)
 
-pub row_stays : (a b : Store) → Grows a b → (i : ℕ) (ps : List (ℕ × ℕ)) → IsRow a i ps → IsRow b i ps
+pub row_stays : (a b : Store) → Extends a b → (i : ℕ) (ps : List (ℕ × ℕ)) → IsRow a i ps → IsRow b i ps
 row_stays a b g i [] h = h
 row_stays a b g i (p ∷ ps) h = stands_stays a b g i (grown [] p ps) h
 
-pub ones_stay : (a b : Store) → Grows a b → (is : List ℕ) (ps : List (ℕ × ℕ)) → AreOnes a is ps → AreOnes b is ps
+pub ones_stay : (a b : Store) → Extends a b → (is : List ℕ) (ps : List (ℕ × ℕ)) → AreOnes a is ps → AreOnes b is ps
 ones_stay a b g [] [] h = h
 ones_stay a b g (i ∷ is) (p ∷ ps) h = (g.cells_stay i _ h.0, ones_stay a b g is ps h.1)
 ones_stay a b g [] (p ∷ ps) h = h
 ones_stay a b g (i ∷ is) [] h = h
 
-pub stacked_stay : (a b : Store) → Grows a b → (is : List ℕ) (ts : List Row) → AreStacked a is ts → AreStacked b is ts
+pub stacked_stay : (a b : Store) → Extends a b → (is : List ℕ) (ts : List Row) → AreStacked a is ts → AreStacked b is ts
 stacked_stay a b g is [] h = h
 stacked_stay a b g is (t ∷ ts) h = (h.0, h.1, h.2, stands_stays a b g h.1 t h.3, stacked_stay a b g h.0 ts h.4)
 

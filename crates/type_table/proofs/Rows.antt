@@ -1,4 +1,4 @@
--- Trees of fields: their leaves, and how one more field stands behind a tree.
+-- Trees of fields: their leaves, and how one more field stands after a tree.
 use Rattle.std.proofs.Common.{◌≡◌, ◌∙◌, refl, ap, sym, ℕ, Bool, true, false, cond, eqb, List, [], ◌∷◌, ◌++◌, append_assoc}
 use Rattle.type_table.specs.inner.Rows.{Row, one, both, leaves, depth, carried, hung, grown}
 
@@ -27,7 +27,7 @@ leaves_grown ts p (q ∷ qs) = leaves_grown (carried ts (one p)) q qs ∙ ap (λ
 pub leaves_row : (p : ℕ × ℕ) (ps : List (ℕ × ℕ)) → leaves (grown [] p ps) ≡ p ∷ ps
 leaves_row p ps = leaves_grown [] p ps
 
--- ---- more fields behind a list: they stand behind the rows along its right edge
+-- ---- more fields after a list: they stand after the rows along its right edge
 pub record IsEdge (ts : List Row) (p : ℕ × ℕ) (ps : List (ℕ × ℕ)) : Type 0 where
   pub rows : List Row
   pub last : ℕ × ℕ

@@ -28,7 +28,7 @@ and_false : (a b : Bool) → b ≡ false → false ≡ (a && b)
 and_false true b e = sym e
 and_false false b e = refl
 
--- so many words are a list exactly where it is of words alone and has as many
+-- N words are a list exactly where it is of words alone and has as many
 pub words_counted : (n : ℕ) (ts : Tys) → same_types (word_parts n) ts ≡ (words_alone ts && eqb (total_words ts) n)
 words_counted zero no_tys = refl
 words_counted zero (ty_and WordTy ts) = and_false (words_alone ts) (eqb (1 + total_words ts) 0) (ap (λ k. eqb k 0) (one_more (total_words ts)) ∙ eqb-suc-zero (total_words ts))
@@ -60,7 +60,7 @@ same_still m n lt e = omega (arith, e, lt)
 pub still_test : (m n : ℕ) → n < most → eqb (still m) n ≡ eqb m n
 still_test m n lt = eqb_together (still m) m n n (still_same m n lt) (same_still m n lt)
 
--- what is known of a tuple's parts tells whether it is that of so many words
+-- what is known of a tuple's parts tells whether it is that of N words
 pub tuple_of_words : (f : Facts) (n : ℕ) (ts : Tys) → (n ≡ 1 → ⊥) → n < most → AreKnown f ts → f.words_alone ≡ true → eqb f.words n ≡ same_type (words_ty n) (TupleTy ts)
 tuple_of_words f n ts other lt k alone =
     ap (λ w. eqb w n) k.of_words
@@ -87,7 +87,7 @@ words_alone-parts : (n : ℕ) → words_alone (word_parts n) ≡ true
 words_alone-parts zero = refl
 words_alone-parts (suc n) = words_alone-parts n
 
--- the type of so many words can be stored
+-- the type of N words can be stored
 pub store_words : (n : ℕ) → can_store (words_ty n) ≡ true
 store_words n = by (eqb n 1)
   where

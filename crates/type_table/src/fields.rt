@@ -6,7 +6,7 @@ ghost use Rattle.std.specs.Prelude.{◌≡◌, ◌<◌, ◌≤◌, ◌==◌, ◌
 ghost use Rattle.nv_ast.specs.Tests.{has_twice};
 ghost use Rattle.nv_ast.specs.Types.{NamedTys, Forms, ◌+++◌};
 ghost use Rattle.type_table.specs.inner.Rows.{Row, one, both, leaves, depth, ends_as_deep, carried, hung, grown};
-ghost use Rattle.type_table.specs.inner.Store.{Grows, IsStore, Stands, IsRow, IsFields, IsForms, halves_of, AreFields, AreForms, AreNames, AreNamed, AreSeen, form_names, field_names, fields_then};
+ghost use Rattle.type_table.specs.inner.Store.{Extends, IsStore, Stands, IsRow, IsFields, IsForms, halves_of, AreFields, AreForms, AreNames, AreNamed, AreSeen, form_names, field_names, fields_then};
 ghost use Rattle.type_table.specs.inner.Lists.{AreOnes, AreStacked, ArePut};
 ghost use Rattle.type_table.specs.inner.Named.{named};
 
@@ -25,7 +25,7 @@ impl<'a> Table<'a> {
     ) -> Result<usize, NoMemory>
         ensures made { (ts : NamedTys) → AreFields self.old (named types.now) ts → IfOk result (λ i. IsFields self.new i ts) }
         ensures forms { (fs : Forms) → AreForms self.old (named types.now) fs → IfOk result (λ i. IsForms self.new i fs) }
-        ensures grows { OnOk result (Grows self.old self.new) }
+        ensures grows { OnOk result (Extends self.old self.new) }
     {
         let lists = self.single_fields(alloc, types)?;
         self.row(alloc, &lists)
@@ -41,7 +41,7 @@ impl<'a> Table<'a> {
     ) -> Result<(usize, usize), NoMemory>
         ensures of_forms { (fs gs : Forms) → IsForms self.old first.0 fs → IsForms self.old second.0 gs → IfOk result (λ r. IsForms self.new r.0 (fs +++ gs)) }
         ensures of_types { (ts us : NamedTys) → IsFields self.old first.1 ts → IsFields self.old second.1 us → IfOk result (λ r. IsFields self.new r.1 (fields_then ts us)) }
-        ensures grows { OnOk result (Grows self.old self.new) }
+        ensures grows { OnOk result (Extends self.old self.new) }
     {
         let forms = self.joined(alloc, first.0, second.0)?;
         if first.0 == first.1 && second.0 == second.1 {
@@ -55,7 +55,7 @@ impl<'a> Table<'a> {
     fn joined(&mut self, alloc: Global, first: usize, second: usize) -> Result<usize, NoMemory>
         ensures of_fields { (ts us : NamedTys) → IsFields self.old first ts → IsFields self.old second us → IfOk result (λ i. IsFields self.new i (fields_then ts us)) }
         ensures of_forms { (fs gs : Forms) → IsForms self.old first fs → IsForms self.old second gs → IfOk result (λ i. IsForms self.new i (fs +++ gs)) }
-        ensures grows { OnOk result (Grows self.old self.new) }
+        ensures grows { OnOk result (Extends self.old self.new) }
     {
         if self.is_empty(first) {
             return Ok(second);
@@ -178,7 +178,7 @@ impl<'a> Table<'a> {
         types: &[(&'a Name, usize)],
     ) -> Result<Vec<usize>, NoMemory>
         ensures put { IfOk result (λ v. ArePut self.old self.new (named types.now) v.items) }
-        ensures grows { OnOk result (Grows self.old self.new) }
+        ensures grows { OnOk result (Extends self.old self.new) }
     {
         let mut lists = Vec::new(alloc);
         for entry in types {
@@ -192,7 +192,7 @@ impl<'a> Table<'a> {
     // The list of the fields of some lists of one field.
     fn row(&mut self, alloc: Global, lists: &[usize]) -> Result<usize, NoMemory>
         ensures row { (ps : List (ℕ × ℕ)) → AreOnes self.old lists.now ps → IfOk result (λ i. IsRow self.new i ps) }
-        ensures grows { OnOk result (Grows self.old self.new) }
+        ensures grows { OnOk result (Extends self.old self.new) }
     {
         match lists.split_first() {
             Some((first, behind)) => self.extended(Vec::new(alloc), *first, behind),
@@ -200,7 +200,7 @@ impl<'a> Table<'a> {
         }
     }
 
-    // The list of the fields of some rows, of a last one, and of more lists of one field behind it.
+    // The list of the fields of some rows, of a last one, and of more lists of one field after it.
     fn extended(
         &mut self,
         rows: Vec<usize>,
@@ -208,7 +208,7 @@ impl<'a> Table<'a> {
         behind: &[usize],
     ) -> Result<usize, NoMemory>
         ensures extended { (ts : List Row) (p : ℕ × ℕ) (ps : List (ℕ × ℕ)) → AreStacked self.old rows.items ts → Stands self.old last (one p) → AreOnes self.old behind.now ps → IfOk result (λ i. Stands self.new i (grown ts p ps)) }
-        ensures grows { OnOk result (Grows self.old self.new) }
+        ensures grows { OnOk result (Extends self.old self.new) }
     {
         let mut rows = rows;
         let mut last = last;
@@ -219,10 +219,10 @@ impl<'a> Table<'a> {
         self.hung(rows, last)
     }
 
-    // Puts a row behind some others, where two of one depth become one.
+    // Puts a row after some others, where two of one depth become one.
     fn carry(&mut self, rows: &mut Vec<usize>, row: usize) -> Result<(), NoMemory>
         ensures carried { (ts : List Row) (t : Row) → AreStacked self.old rows.old.items ts → Stands self.old row t → OnOk result (AreStacked self.new rows.new.items (carried ts t)) }
-        ensures grows { OnOk result (Grows self.old self.new) }
+        ensures grows { OnOk result (Extends self.old self.new) }
     {
         let mut row = row;
         while let Some(before) = self.twin(rows, row) {
@@ -253,7 +253,7 @@ impl<'a> Table<'a> {
     // One row of some and of a last one.
     fn hung(&mut self, rows: Vec<usize>, last: usize) -> Result<usize, NoMemory>
         ensures hung { (ts : List Row) (t : Row) → AreStacked self.old rows.items ts → Stands self.old last t → IfOk result (λ i. Stands self.new i (hung ts t)) }
-        ensures grows { OnOk result (Grows self.old self.new) }
+        ensures grows { OnOk result (Extends self.old self.new) }
     {
         let mut rows = rows;
         let mut row = last;
@@ -306,7 +306,7 @@ impl<'a> Table<'a> {
     // Both of two lists, the one before the other.
     fn both(&mut self, left: usize, right: usize) -> Result<usize, NoMemory>
         ensures made { (t u : Row) → Stands self.old left t → Stands self.old right u → IfOk result (λ i. Stands self.new i (both t u)) }
-        ensures grows { OnOk result (Grows self.old self.new) }
+        ensures grows { OnOk result (Extends self.old self.new) }
     {
         let left = self.part_number(left);
         let right = self.part_number(right);

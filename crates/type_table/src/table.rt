@@ -3,7 +3,7 @@
 ghost use Rattle.std.specs.Prelude.{◌≡◌, ◌<◌, ◌∷◌, [], ℕ, true, Some, is_none, IfSome, IfOk, OnOk, length, slice_get};
 ghost use Rattle.nv_ast.specs.Types.{Ty, TupleTy, RecordTy, Tys, ty_and, NamedTys, Form, RecordForm, ChoiceForm, Forms, words_ty, word_parts, same_type, is_too_large};
 ghost use Rattle.nv_ast.specs.Faults.{can_store};
-ghost use Rattle.type_table.specs.inner.Store.{Grows, IsType, IsParts, IsFields, IsForm, IsForms, IsStore, tuple_of, record_in, part_of, AreTypes};
+ghost use Rattle.type_table.specs.inner.Store.{Extends, IsType, IsParts, IsFields, IsForm, IsForms, IsStore, tuple_of, record_in, part_of, AreTypes};
 ghost use Rattle.type_table.specs.inner.Knowing.{IsKnown, AreKnown};
 ghost use Rattle.type_table.specs.inner.Cells.{AreBelow, over, lone, with_front, fact_at as fact_in, cell_facts as facts_of_cell};
 
@@ -118,7 +118,7 @@ impl<'a> Table<'a> {
     pub fn number(&mut self, cell: Cell) -> Result<usize, NoMemory>
         requires below { AreBelow (length self.old.cells) cell }
         ensures there { IfOk result (λ i. slice_get self.new.cells i ≡ Some cell) }
-        ensures grows { OnOk result (Grows self.old self.new) }
+        ensures grows { OnOk result (Extends self.old self.new) }
     {
         if let Some(i) = self.cells.get_index_of(&cell) {
             return Ok(i);
@@ -160,7 +160,7 @@ impl<'a> Table<'a> {
     /// The tuple of some types.
     pub fn tuple(&mut self, parts: usize) -> Result<usize, NoMemory>
         ensures made { (ts : Tys) → IsParts self.old parts ts → IfOk result (λ i. IsType self.new i (TupleTy ts)) }
-        ensures grows { OnOk result (Grows self.old self.new) }
+        ensures grows { OnOk result (Extends self.old self.new) }
     {
         let parts = self.part_number(parts);
         self.number(Cell::Tuple(parts))
@@ -170,7 +170,7 @@ impl<'a> Table<'a> {
     pub fn record_of(&mut self, fields: usize) -> Result<usize, NoMemory>
         ensures made { (ts : NamedTys) → IsFields self.old fields ts → IfOk result (λ i. IsType self.new i (RecordTy ts)) }
         ensures form { (fs : Forms) → IsForms self.old fields fs → IfOk result (λ i. IsForm self.new i (RecordForm fs)) }
-        ensures grows { OnOk result (Grows self.old self.new) }
+        ensures grows { OnOk result (Extends self.old self.new) }
     {
         let fields = self.part_number(fields);
         self.number(Cell::Record(fields))
@@ -179,7 +179,7 @@ impl<'a> Table<'a> {
     /// The choice of some named forms.
     pub fn choice(&mut self, alternatives: usize) -> Result<usize, NoMemory>
         ensures form { (fs : Forms) → IsForms self.old alternatives fs → IfOk result (λ i. IsForm self.new i (ChoiceForm fs)) }
-        ensures grows { OnOk result (Grows self.old self.new) }
+        ensures grows { OnOk result (Extends self.old self.new) }
     {
         let alternatives = self.part_number(alternatives);
         self.number(Cell::Choice(alternatives))
@@ -188,7 +188,7 @@ impl<'a> Table<'a> {
     /// The list of types with one more in front.
     pub fn part(&mut self, t: usize, rest: usize) -> Result<usize, NoMemory>
         ensures made { (u : Ty) (us : Tys) → IsType self.old t u → IsParts self.old rest us → IfOk result (λ i. IsParts self.new i (ty_and u us)) }
-        ensures grows { OnOk result (Grows self.old self.new) }
+        ensures grows { OnOk result (Extends self.old self.new) }
     {
         let t = self.part_number(t);
         let rest = self.part_number(rest);
@@ -198,7 +198,7 @@ impl<'a> Table<'a> {
     /// The list of some types.
     pub fn parts_of(&mut self, types: &[usize]) -> Result<usize, NoMemory>
         ensures made { (ts : Tys) → AreTypes self.old types.now ts → IfOk result (λ i. IsParts self.new i ts) }
-        ensures grows { OnOk result (Grows self.old self.new) }
+        ensures grows { OnOk result (Extends self.old self.new) }
     {
         let mut list = NO_PARTS;
         let mut left = types.len();
@@ -212,16 +212,16 @@ impl<'a> Table<'a> {
     /// The number of a field's name.
     pub fn name_number(&mut self, name: &'a Name) -> Result<usize, NoMemory>
         ensures there { IfOk result (λ i. slice_get self.new.names i ≡ Some name.now) }
-        ensures grows { OnOk result (Grows self.old self.new) }
+        ensures grows { OnOk result (Extends self.old self.new) }
     {
         let (i, _) = self.names.insert_full(name)?;
         Ok(i)
     }
 
-    /// The type of so many words.
+    /// The type of N words.
     pub fn words(&mut self, n: u32) -> Result<usize, NoMemory>
         ensures made { IfOk result (λ i. IsType self.new i (words_ty n)) }
-        ensures grows { OnOk result (Grows self.old self.new) }
+        ensures grows { OnOk result (Extends self.old self.new) }
     {
         if n == 1 {
             return Ok(WORD);
@@ -230,10 +230,10 @@ impl<'a> Table<'a> {
         self.tuple(list)
     }
 
-    // The list of so many words.
+    // The list of N words.
     fn word_list(&mut self, n: u32) -> Result<usize, NoMemory>
         ensures made { IfOk result (λ i. IsParts self.new i (word_parts n)) }
-        ensures grows { OnOk result (Grows self.old self.new) }
+        ensures grows { OnOk result (Extends self.old self.new) }
     {
         let mut list = NO_PARTS;
         for i in 0..n {
@@ -250,7 +250,7 @@ impl<'a> Table<'a> {
         t == u
     }
 
-    /// Whether a type is that of so many words.
+    /// Whether a type is that of N words.
     pub fn is_words(&self, t: usize, n: u32) -> bool
         ensures { (u : Ty) → IsType self.now t u → result ≡ same_type (words_ty n) u }
     {

@@ -5,7 +5,7 @@ use Rattle.uc_isa.specs.Code.{CodeView}
 use Rattle.uc_isa.specs.Lawful.{IsLawful, IsFirstBroken}
 use Rattle.uc_isa.specs.declared.instruction.Instr.{Instr}
 use Rattle.uc_isa.proofs.FirstBroken.{first-one, first-unlawful}
-use Rattle.asm_items.specs.Items.{Item, count}
+use Rattle.uc_asm.specs.Items.{Item, count}
 use Rattle.uc_asm.specs.Text.{Reads, IsSyntaxError}
 use Rattle.uc_asm.specs.Labels.{AreNamed, AreResolved, Says, IsCodeOf, IsLabelError, IsUnlawfulError, FirstMisnamed}
 use Rattle.uc_asm.specs.inner.Resolving.{IsNameError, IsLineOf}
@@ -13,9 +13,9 @@ use Rattle.uc_asm.specs.Answer.{IsTrueError, Answers}
 use Rattle.uc_asm.specs.declared.error.AsmError.{AsmError}
 use Rattle.uc_asm.specs.declared.error.AsmError.TheVariants.{NoMemory, Syntax, Label, Unlawful}
 use Rattle.uc_asm.proofs.OneReading.{reads-one, reads-no-syntax, syntax-one}
-use Rattle.asm_items.specs.inner.Seen.{all_seen}
-use Rattle.asm_items.specs.declared.item.Item.{Item as ReadItem}
-use Rattle.asm_items.proofs.StandLemmas.{count-small, length-seen}
+use Rattle.uc_asm.specs.inner.Seen.{all_seen}
+use Rattle.uc_asm.specs.declared.item.Item.{Item as ReadItem}
+use Rattle.uc_asm.proofs.StandLemmas.{count-small, length-seen}
 use Rattle.uc_asm.proofs.MeaningLemmas.{resolved-one, resolved-length, misnamed-one, misnamed-not, line-one}
 
 -- a text says one thing

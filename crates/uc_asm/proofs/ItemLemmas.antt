@@ -4,11 +4,11 @@ use Rattle.line_text.specs.Line.{parts}
 use Rattle.uc_isa.specs.declared.instruction.Cond.{Cond}
 use Rattle.uc_isa.specs.declared.instruction.Instr.{Instr}
 use Rattle.uc_isa.specs.declared.instruction.Instr.TheVariants.{Br}
-use Rattle.asm_parts.specs.Words.{operands, words, condition_name, InRange}
-use Rattle.asm_items.specs.Items.{Item as TheItem, IsName, IsItem, item_line}
-use Rattle.asm_items.specs.inner.Seen.{seen, IsBranch}
-use Rattle.asm_items.specs.declared.item.Item.{Item}
-use Rattle.asm_items.specs.declared.item.Item.TheVariants.{Label, Plain, Jump}
+use Rattle.uc_asm.specs.Words.{operands, words, condition_name, InRange}
+use Rattle.uc_asm.specs.Items.{Item as TheItem, IsName, IsItem, item_line}
+use Rattle.uc_asm.specs.inner.Seen.{seen, IsBranch}
+use Rattle.uc_asm.specs.declared.item.Item.{Item}
+use Rattle.uc_asm.specs.declared.item.Item.TheVariants.{Label, Plain, Jump}
 use Rattle.uc_asm.proofs.LineLemmas.{from_parts, only-branch, no-item}
 
 pub branch-some : (r : Option Item) (line : List ℕ) (ps : List (List ℕ)) → parts line ≡ codes "br" ∷ ps → IfSome r (λ item. IsBranch (codes "br" ∷ ps) (seen item))

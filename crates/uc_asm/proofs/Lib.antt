@@ -1,3 +1,9 @@
+pub mod WordLemmas
+pub mod WordFeeds
+pub mod Undo
+pub mod StandLemmas
+pub mod LabelLemmas
+pub mod FirstLemmas
 pub mod LineLemmas
 pub mod ItemLemmas
 pub mod LineFeeds

@@ -3,9 +3,9 @@ use Rattle.std.proofs.Common.{ℕ, ◌≤◌, List, [], ◌∷◌, map, refl, ar
 use Rattle.line_text.specs.Line.{Lacks, AllLack}
 use Rattle.line_text.proofs.SplitLaws.{Lacks-test, Lacks-append}
 use Rattle.uc_asm.proofs.LineLemmas.{name-lacks}
-use Rattle.asm_parts.proofs.WordFeeds.{parted-lacks, instruction-lacks, condition-lacks, number-lacks}
-use Rattle.asm_parts.specs.Words.{condition_name}
-use Rattle.asm_items.specs.Items.{Item, label, plain, jump, IsItem, IsNameByte, item_line, params_line}
+use Rattle.uc_asm.proofs.WordFeeds.{parted-lacks, instruction-lacks, condition-lacks, number-lacks}
+use Rattle.uc_asm.specs.Words.{condition_name}
+use Rattle.uc_asm.specs.Items.{Item, label, plain, jump, IsItem, IsNameByte, item_line, params_line}
 use Rattle.uc_asm.specs.Text.{AreItems}
 
 no-feed : ¬ IsNameByte 10

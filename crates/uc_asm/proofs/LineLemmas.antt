@@ -5,9 +5,9 @@ use Rattle.line_text.proofs.SplitLaws.{parts-parted, parted-parts, Lacks-test, l
 use Rattle.uc_isa.specs.declared.instruction.Cond.{Cond}
 use Rattle.uc_isa.specs.declared.instruction.Instr.{Instr}
 use Rattle.uc_isa.specs.declared.instruction.Instr.TheVariants.{Br}
-use Rattle.asm_parts.proofs.WordLemmas.{instruction-parts, branch-only, condition-lacks, number-lacks}
-use Rattle.asm_parts.specs.Words.{condition_name, operands, words, InRange}
-use Rattle.asm_items.specs.Items.{Item, label, plain, jump, IsName, IsItem, IsNameByte, item_line, params_line}
+use Rattle.uc_asm.proofs.WordLemmas.{instruction-parts, branch-only, condition-lacks, number-lacks}
+use Rattle.uc_asm.specs.Words.{condition_name, operands, words, InRange}
+use Rattle.uc_asm.specs.Items.{Item, label, plain, jump, IsName, IsItem, IsNameByte, item_line, params_line}
 
 -- a name has none of the bytes that aren't letters, digits or `_`
 name-lacks-all : (c : ℕ) (name : List ℕ) → ¬ IsNameByte c → ((k : ℕ) → k < length name → IsNameByte (get_or name k 0)) → Lacks c name

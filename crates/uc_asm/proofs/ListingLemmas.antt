@@ -9,11 +9,11 @@ use Rattle.line_text.specs.Line.{text_of}
 use Rattle.uc_isa.specs.Code.{CodeView, IsCode}
 use Rattle.uc_isa.specs.Lawful.{IsLawful}
 use Rattle.uc_isa.specs.declared.instruction.Instr.{Instr}
-use Rattle.asm_parts.specs.Words.{InRange}
-use Rattle.asm_items.specs.Items.{Item, plain, count, item_line, instruction_line, params_line, Stands, Misnames}
+use Rattle.uc_asm.specs.Words.{InRange}
+use Rattle.uc_asm.specs.Items.{Item, plain, count, item_line, instruction_line, params_line, Stands, Misnames}
 use Rattle.uc_asm.specs.Text.{AreItems, Reads, listing}
 use Rattle.uc_asm.specs.Labels.{AreNamed, AreResolved, IsCodeOf}
-use Rattle.asm_items.proofs.StandLemmas.{none-stands}
+use Rattle.uc_asm.proofs.StandLemmas.{none-stands}
 
 plain-lines : (list : List Instr) → map item_line (map plain list) ≡ map instruction_line list
 plain-lines [] = refl

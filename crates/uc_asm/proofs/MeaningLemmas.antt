@@ -3,14 +3,14 @@ use Rattle.std.proofs.Common.{◌≡◌, ℕ, ◌+◌, ◌<◌, ◌≤◌, ◌�
 use Rattle.uc_isa.proofs.FirstBroken.{not-before}
 use Rattle.uc_isa.specs.declared.instruction.Instr.{Instr}
 use Rattle.uc_isa.specs.declared.instruction.Instr.TheVariants.{Br}
-use Rattle.asm_items.specs.Items.{Item, label, plain, jump, count, Stands, IsAt, Misnames, IsInstruction}
+use Rattle.uc_asm.specs.Items.{Item, label, plain, jump, count, Stands, IsAt, Misnames, IsInstruction}
 use Rattle.uc_asm.specs.Labels.{AreNamed, FirstMisnamed, AreResolved}
-use Rattle.asm_items.specs.inner.Gives.{Gives}
+use Rattle.uc_asm.specs.inner.Gives.{Gives}
 use Rattle.uc_asm.specs.inner.Resolving.{IsLineOf}
-use Rattle.asm_items.specs.declared.given.Resolved.TheVariants.{Instruction, Nothing}
-use Rattle.asm_items.specs.inner.Seen.{seen, all_seen}
-use Rattle.asm_items.specs.declared.item.Item.{Item as ReadItem}
-use Rattle.asm_items.proofs.StandLemmas.{stands-alike, stands-before, declared-here, count-append, count-instruction, stands-at, length-front, take-more-seen}
+use Rattle.uc_asm.specs.declared.given.Resolved.TheVariants.{Instruction, Nothing}
+use Rattle.uc_asm.specs.inner.Seen.{seen, all_seen}
+use Rattle.uc_asm.specs.declared.item.Item.{Item as ReadItem}
+use Rattle.uc_asm.proofs.StandLemmas.{stands-alike, stands-before, declared-here, count-append, count-instruction, stands-at, length-front, take-more-seen}
 
 -- where no name is declared twice, each has one place
 declared-twice : (items front back front' back' : List Item) (name : List ℕ) → AreNamed items → Stands items front (label name) back → Stands items front' (label name) back' → length front < length front' → ⊥

@@ -10,8 +10,8 @@ use Rattle.uc_isa.specs.Code.{IsCode}
 use Rattle.uc_isa.specs.Lawful.{IsLawful}
 use Rattle.uc_isa.specs.declared.instruction.Instr.{Instr}
 use Rattle.uc_object.specs.Tagged.{TaggedView, IsTagged}
-use Rattle.asm_items.specs.Items.{plain, item_line, instruction_line, params_line}
-use Rattle.asm_parts.specs.Words.{InRange}
+use Rattle.uc_asm.specs.Items.{plain, item_line, instruction_line, params_line}
+use Rattle.uc_asm.specs.Words.{InRange}
 use Rattle.uc_asm.specs.Labels.{IsCodeOf}
 use Rattle.uc_asm.specs.Starts.{labels_at, start_label, labelled, tagged_listing}
 use Rattle.uc_asm.specs.inner.Numbered.{AreNumbered}

@@ -7,20 +7,20 @@ use Rattle.line_text.proofs.NumberLemmas.{decimal_one}
 use Rattle.line_text.proofs.FormatLaws.{begins_format, no_text, one_fault}
 use Rattle.uc_isa.specs.declared.instruction.Cond.{Cond}
 use Rattle.uc_isa.specs.declared.instruction.Instr.{Instr}
-use Rattle.asm_parts.specs.Words.{words, place_name, InRange, condition_name}
-use Rattle.asm_items.specs.Items.{Item, label, plain, jump, IsName, IsNameByte, BeginsWithLetter, IsItem, item_line, params_line}
+use Rattle.uc_asm.specs.Words.{words, register_name, InRange, condition_name}
+use Rattle.uc_asm.specs.Items.{Item, label, plain, jump, IsName, IsNameByte, BeginsWithLetter, IsItem, item_line, params_line}
 use Rattle.uc_asm.specs.Text.{AreItems, IsAssembly, IsWhole, IsSyntaxError, Reads}
 use Rattle.uc_asm.proofs.LineLemmas.{name-lacks, jump-parts, params_parts}
-use Rattle.asm_parts.proofs.WordLemmas.{instruction-parts}
+use Rattle.uc_asm.proofs.WordLemmas.{instruction-parts}
 use Rattle.uc_asm.proofs.LineFeeds.{items-lack, params-lacks}
 use Rattle.uc_asm.proofs.TextLemmas.{label-plain, label-jump}
-use Rattle.asm_parts.proofs.Undo.{words_one, condition_one, no_jump}
+use Rattle.uc_asm.proofs.Undo.{words_one, condition_one, no_jump}
 
 no-colon : ¬ IsNameByte 58
 no-colon h = grind arith
 
 -- a place is no name
-no-place : (place : ℕ) → ¬ BeginsWithLetter (place_name place)
+no-place : (place : ℕ) → ¬ BeginsWithLetter (register_name place)
 no-place place h = grind arith
 
 plain-jump : (i : Instr) (cond : Cond) (name : List ℕ) → InRange i → IsName name → parted (words i) ≢ parted (codes "br" ∷ condition_name cond ∷ name ∷ [])

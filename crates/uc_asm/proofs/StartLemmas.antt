@@ -9,8 +9,8 @@ use Rattle.uc_isa.specs.Code.{CodeView, IsCode}
 use Rattle.uc_isa.specs.Lawful.{IsLawful}
 use Rattle.uc_isa.specs.declared.instruction.Instr.{Instr}
 use Rattle.uc_isa.specs.declared.instruction.Cond.{Cond}
-use Rattle.asm_parts.specs.Words.{InRange}
-use Rattle.asm_items.specs.Items.{Item, label, plain, jump, count, item_line, params_line, IsName, IsNameByte, Stands, Misnames}
+use Rattle.uc_asm.specs.Words.{InRange}
+use Rattle.uc_asm.specs.Items.{Item, label, plain, jump, count, item_line, params_line, IsName, IsNameByte, Stands, Misnames}
 use Rattle.uc_asm.specs.Text.{AreItems}
 use Rattle.uc_asm.specs.Labels.{AreResolved, IsCodeOf}
 use Rattle.uc_asm.specs.Starts.{labels_at, start_label, labelled}
@@ -228,7 +228,7 @@ start-distinct starts p (i ∷ list) few =
     let both : get_or starts one.k 0 ≡ get_or starts other.k 0 = ap (λ n. get_or starts n 0) same in
     omega arith)
 
--- a label that stands behind itself
+-- a label that stands after itself
 twice : (name : List ℕ) (front mid back : List Item) → ¬ Distinct (front ++ label name ∷ (mid ++ label name ∷ back))
 twice name [] mid back h = h.0 (in-here name mid back)
 twice name (label n ∷ front) mid back h = twice name front mid back h.1

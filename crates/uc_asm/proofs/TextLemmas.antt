@@ -8,14 +8,14 @@ use Rattle.line_text.proofs.SplitLaws.{text_of-append, lacks_not, lines_one, Lac
 use Rattle.uc_isa.specs.declared.instruction.Cond.{Cond}
 use Rattle.uc_isa.specs.declared.instruction.Instr.{Instr}
 use Rattle.uc_isa.specs.declared.instruction.Instr.TheVariants.{Alu, Un, Immed, Br, Read, Write, Halt}
-use Rattle.asm_parts.specs.Words.{words, InRange, condition_name}
-use Rattle.asm_items.specs.Items.{Item, label, plain, jump, IsName, IsItem, item_line, params_line, count}
+use Rattle.uc_asm.specs.Words.{words, InRange, condition_name}
+use Rattle.uc_asm.specs.Items.{Item, label, plain, jump, IsName, IsItem, item_line, params_line, count}
 use Rattle.uc_asm.specs.Text.{AreItems, IsWhole, IsSyntaxError, Reads}
 use Rattle.uc_asm.specs.inner.Reading.{HasItems}
-use Rattle.asm_items.specs.inner.Seen.{seen, all_seen}
-use Rattle.asm_items.specs.declared.item.Item.{Item as ReadItem}
+use Rattle.uc_asm.specs.inner.Seen.{seen, all_seen}
+use Rattle.uc_asm.specs.declared.item.Item.{Item as ReadItem}
 use Rattle.uc_asm.proofs.LineLemmas.{name-lacks, no-space, jump-parts}
-use Rattle.asm_parts.proofs.WordLemmas.{instruction-parts}
+use Rattle.uc_asm.proofs.WordLemmas.{instruction-parts}
 use Rattle.uc_asm.proofs.LineFeeds.{items-lack, params-lacks}
 
 -- lines that are those of items begin a text
@@ -76,7 +76,7 @@ no-text bytes l t =
 pub first-short : (bytes : List ℕ) → Lacks 10 bytes → IsSyntaxError bytes 1
 first-short bytes l = short [] bytes refl l nothing-begins (no-text bytes l)
 
--- a line behind the first that is no item's
+-- a line after the first that is no item's
 pub line-wrong : (text : List ℕ) (params : ℕ) (items : List Item) (before line rest : List ℕ) → HasItems text params items before → before ≡ line ++ 10 ∷ rest → Lacks 10 line
     → ((item : Item) → IsItem item → line ≢ item_line item) → IsSyntaxError text (length items + 2)
 line-wrong text params items before line rest h e l none =

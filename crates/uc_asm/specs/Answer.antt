@@ -1,4 +1,4 @@
--- What the assembler may answer, want of memory apart.
+-- What the assembler may answer, memory exhaustion apart.
 use Rattle.std.specs.Prelude.{◌≡◌, ℕ, ◌⊎◌, List, Result, Err}
 use Rattle.uc_isa.specs.Code.{CodeView}
 use Rattle.uc_asm.specs.Text.{IsSyntaxError}
@@ -13,6 +13,6 @@ IsTrueError bytes (Syntax n) = IsSyntaxError bytes n
 IsTrueError bytes (Label n) = IsLabelError bytes n
 IsTrueError bytes (Unlawful n rule) = IsUnlawfulError bytes n rule
 
--- this answer, or want of memory
+-- this answer, or memory exhaustion
 abbrev pub Answers : Result CodeView AsmError → Result CodeView AsmError → Type 0
 Answers result answer = (result ≡ answer) ⊎ (result ≡ Err NoMemory)

@@ -4,7 +4,7 @@ use Rattle.uc_isa.specs.Code.{CodeView}
 use Rattle.uc_isa.specs.Lawful.{IsLawful, IsFirstBroken}
 use Rattle.uc_isa.specs.declared.instruction.Instr.{Instr}
 use Rattle.uc_isa.specs.declared.instruction.Instr.TheVariants.{Br}
-use Rattle.asm_items.specs.Items.{Item, label, plain, jump, count, Stands, IsAt, Misnames, IsInstruction}
+use Rattle.uc_asm.specs.Items.{Item, label, plain, jump, count, Stands, IsAt, Misnames, IsInstruction}
 use Rattle.uc_asm.specs.Text.{Reads}
 
 -- no name is declared twice, and each target is declared

@@ -1,3 +1,5 @@
+pub mod Words
+pub mod Items
 pub mod Text
 pub mod Labels
 pub mod Starts

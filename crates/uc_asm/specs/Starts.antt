@@ -5,7 +5,7 @@ use Rattle.uc_isa.specs.declared.instruction.Instr.{Instr}
 use Rattle.uc_object.specs.Tagged.{TaggedView}
 use Rattle.uc_object.specs.declared.object.Object.{Object}
 use Rattle.uc_object.specs.declared.object.Object.TheVariants.{One, Two}
-use Rattle.asm_items.specs.Items.{Item, label, plain, item_line, params_line}
+use Rattle.uc_asm.specs.Items.{Item, label, plain, item_line, params_line}
 use Rattle.uc_asm.specs.Text.{listing}
 
 -- the numbers of the starts at a place, the first of them counted as k
@@ -17,7 +17,7 @@ labels_at k (start ∷ starts) place = if start == place then k ∷ labels_at (k
 abbrev pub start_label : ℕ → Item
 start_label k = label (codes "L" ++ decimal k)
 
--- the instructions from a place on, each behind the labels that start at its place
+-- the instructions from a place on, each after the labels that start at its place
 abbrev pub labelled : List ℕ → ℕ → List Instr → List Item
 labelled starts place [] = []
 labelled starts place (i ∷ list) = map start_label (labels_at 0 starts place) ++ plain i ∷ labelled starts (place + 1) list

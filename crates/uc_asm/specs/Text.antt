@@ -3,7 +3,7 @@ use Rattle.std.specs.Prelude.{◌≡◌, ℕ, ◌≤◌, List, [], ◌∷◌, ma
 use Rattle.line_text.specs.Line.{text_of}
 use Rattle.line_text.specs.Format.{Begins, FirstFault}
 use Rattle.uc_isa.specs.Code.{CodeView}
-use Rattle.asm_items.specs.Items.{Item, IsItem, count, item_line, instruction_line, params_line}
+use Rattle.uc_asm.specs.Items.{Item, IsItem, count, item_line, instruction_line, params_line}
 
 -- names have their form, and numbers fit their fields
 abbrev pub AreItems : List Item → Type 0

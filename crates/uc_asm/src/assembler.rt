@@ -5,14 +5,14 @@ ghost use Rattle.uc_asm.specs.Answer.{Answers, IsTrueError};
 ghost use Rattle.uc_asm.specs.Labels.{AreNamed, AreResolved, IsCodeOf, IsLabelError, IsUnlawfulError};
 ghost use Rattle.uc_asm.specs.inner.Reading.{HasItems};
 ghost use Rattle.uc_asm.specs.inner.Resolving.{IsNameError};
-ghost use Rattle.asm_items.specs.inner.Seen.{all_seen};
+ghost use Rattle.uc_asm.specs.inner.Seen.{all_seen};
 ghost use Rattle.uc_asm.specs.Text.{IsSyntaxError, Reads};
 
 use crate::AsmError;
+use crate::item::{Item, has_instruction};
 use crate::labels::declarations;
 use crate::line::{item_of, params_of};
 use crate::resolve::{instructions, line_at, line_of};
-use asm_items::{Item, has_instruction};
 use line_text::Lines;
 use std::alloc::Global;
 use uc_isa::{Code, Dst, Gpr, Instr, Src, lint};

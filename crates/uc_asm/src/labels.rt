@@ -1,10 +1,11 @@
 //! Where the labels of a text are declared.
 ghost use Rattle.std.specs.Prelude.{◌≡◌, ◌<◌, ◌^◌, ℕ, List, length, nat_eq, IfOk, OnOk, None, Some, if◌then◌else◌};
 ghost use Rattle.std.specs.Cmp.Lexicographic.{pointwise};
-ghost use Rattle.asm_items.specs.inner.First.{NotesFirst, noted, or_else};
-ghost use Rattle.asm_items.specs.inner.Seen.{all_seen};
+ghost use Rattle.uc_asm.specs.inner.First.{NotesFirst, noted, or_else};
+ghost use Rattle.uc_asm.specs.inner.Seen.{all_seen};
 
-use asm_items::{Declared, Item, Labels};
+use crate::given::{Declared, Labels};
+use crate::item::Item;
 use indexmap::IndexMap;
 use nv_base::NoMemory;
 use std::alloc::Global;

@@ -5,7 +5,7 @@ ghost use Rattle.uc_isa.specs.Lawful.{IsLawful};
 ghost use Rattle.uc_asm.specs.Answer.{Answers, IsTrueError};
 ghost use Rattle.uc_asm.specs.Labels.{IsCodeOf};
 ghost use Rattle.uc_asm.specs.Text.{listing};
-ghost use Rattle.asm_parts.specs.Words.{InRange};
+ghost use Rattle.uc_asm.specs.Words.{InRange};
 ghost use Rattle.uc_asm.specs.Worked.{MovingListing, RaisingListing, SumListing};
 ghost use Rattle.uc_asm.specs.declared.error.AsmError.{AsmError};
 
@@ -13,7 +13,7 @@ use crate::{AsmError, assemble, print};
 use std::alloc::Global;
 use uc_isa::Code;
 
-/// A text has one answer, want of memory apart: one code, or one error.
+/// A text has one answer, memory exhaustion apart: one code, or one error.
 pub fn one_answer()
     ensures code { (bytes : List ℕ) (c d : CodeView) → IsCodeOf bytes c → IsCodeOf bytes d → c ≡ d }
     ensures no_error { (bytes : List ℕ) (c : CodeView) (e : AsmError) → IsCodeOf bytes c → IsTrueError bytes e → e ≡ AsmError.NoMemory }

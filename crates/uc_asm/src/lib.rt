@@ -1,16 +1,33 @@
-//! Assembly text: the listings of a code and of an object, and the assembler.
+//! Assembly text: the assembler, and the listings of code and objects.
 #![tactic(auto)]
 
 mod assembler;
+mod condition;
 mod error;
+mod given;
+mod item;
 mod labels;
 pub mod laws;
 mod line;
 mod listing;
+mod name;
+mod part;
+mod reading;
 mod resolve;
 mod starts;
+mod words;
+mod writing;
 
 pub use assembler::assemble;
+pub use condition::condition_of;
 pub use error::AsmError;
+pub use given::{Declared, Labels, Resolved, find, resolved_item};
+pub use item::{Item, has_instruction, is_instruction};
 pub use listing::print;
+pub use name::is_name;
+pub use reading::read_instruction;
 pub use starts::print_object;
+pub use words::push_words;
+pub use writing::{
+    push_access, push_alu, push_branch, push_halt, push_immed, push_number, push_un,
+};

@@ -1,13 +1,15 @@
 //! The lines of an assembly text, each by itself.
 ghost use Rattle.std.specs.Prelude.{◌≡◌, ◌≢◌, ◌<◌, ◌≤◌, ◌^◌, ℕ, List, [], ◌∷◌, ◌++◌, codes, IfSome, IfNone, MatchOption};
-ghost use Rattle.asm_parts.specs.Words.{condition_name, operands};
-ghost use Rattle.asm_items.specs.Items.{IsItem, IsName, item_line, params_line, Item as TheItem};
-ghost use Rattle.asm_items.specs.inner.Seen.{IsBranch, seen};
+ghost use Rattle.uc_asm.specs.Words.{condition_name, operands};
+ghost use Rattle.uc_asm.specs.Items.{IsItem, IsName, item_line, params_line, Item as TheItem};
+ghost use Rattle.uc_asm.specs.inner.Seen.{IsBranch, seen};
 ghost use Rattle.uc_isa.specs.declared.instruction.Cond.{Cond};
 ghost use Rattle.uc_isa.specs.declared.instruction.Instr.{Instr};
 
-use asm_items::{Item, condition_of, is_name};
-use asm_parts::read_instruction;
+use crate::condition::condition_of;
+use crate::item::Item;
+use crate::name::is_name;
+use crate::reading::read_instruction;
 use line_text::{Parts, read_decimal, split_once, strip};
 use uc_isa::{Cond, Instr};
 
@@ -27,7 +29,7 @@ pub fn params_of(line: &[u8]) -> Option<u8>
     Some(params as u8)
 }
 
-/// What a line behind the first is.
+/// What a line after the first is.
 pub fn item_of(line: &[u8]) -> Option<Item<'_>>
     ensures some { IfSome result (λ item. IsItem (seen item) × (line.now ≡ item_line (seen item))) }
     ensures none { IfNone result ((item : TheItem) → IsItem item → line.now ≢ item_line item) }

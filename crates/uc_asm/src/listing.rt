@@ -2,12 +2,12 @@
 ghost use Rattle.std.specs.Prelude.{◌≡◌, ◌++◌, ◌∷◌, [], IfOk, OnOk};
 ghost use Rattle.uc_isa.specs.Lawful.{IsLawful};
 ghost use Rattle.uc_asm.specs.Labels.{IsCodeOf};
-ghost use Rattle.asm_parts.specs.Words.{InRange};
-ghost use Rattle.asm_items.specs.Items.{instruction_line, params_line};
+ghost use Rattle.uc_asm.specs.Words.{InRange};
+ghost use Rattle.uc_asm.specs.Items.{instruction_line, params_line};
 ghost use Rattle.uc_asm.specs.Text.{listing};
 
-use asm_items::push_words;
-use asm_parts::push_number;
+use crate::words::push_words;
+use crate::writing::push_number;
 use nv_base::NoMemory;
 use std::alloc::{AllocError, Global};
 use uc_isa::{Code, Instr};

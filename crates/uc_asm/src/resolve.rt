@@ -1,13 +1,14 @@
 //! The instructions of items, each label in its place.
 ghost use Rattle.std.specs.Prelude.{◌≡◌, ◌+◌, ◌<◌, ◌^◌, length, IfOk, IfErr};
-ghost use Rattle.asm_items.specs.inner.First.{NotesFirst};
-ghost use Rattle.asm_items.specs.Items.{count};
+ghost use Rattle.uc_asm.specs.inner.First.{NotesFirst};
+ghost use Rattle.uc_asm.specs.Items.{count};
 ghost use Rattle.uc_asm.specs.Labels.{AreNamed, AreResolved};
 ghost use Rattle.uc_asm.specs.inner.Resolving.{IsNameError, IsLineOf};
-ghost use Rattle.asm_items.specs.inner.Seen.{all_seen};
+ghost use Rattle.uc_asm.specs.inner.Seen.{all_seen};
 
 use crate::AsmError;
-use asm_items::{Item, Labels, Resolved, is_instruction, resolved_item};
+use crate::given::{Labels, Resolved, resolved_item};
+use crate::item::{Item, is_instruction};
 use std::alloc::Global;
 use uc_isa::{Dst, Gpr, Instr, Src};
 

@@ -3,7 +3,7 @@ ghost use Rattle.std.specs.Prelude.{◌≡◌, ◌<◌, ◌≤◌, ◌^◌, ◌+
 ghost use Rattle.line_text.specs.Line.{text_of};
 ghost use Rattle.uc_isa.specs.Lawful.{IsLawful};
 ghost use Rattle.uc_object.specs.Object.{code_of};
-ghost use Rattle.asm_items.specs.Items.{item_line};
+ghost use Rattle.uc_asm.specs.Items.{item_line};
 ghost use Rattle.uc_asm.specs.Labels.{IsCodeOf};
 ghost use Rattle.uc_asm.specs.Starts.{start_label, object_listing, tagged_listing};
 ghost use Rattle.uc_asm.specs.inner.Numbered.{AreNumbered};

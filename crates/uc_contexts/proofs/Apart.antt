@@ -8,7 +8,7 @@ use Rattle.nv_base.specs.declared.outcome.Write.{Write as WriteEvent}
 use Rattle.nv_base.specs.Memories.{Memories, AreApart, fetched, stored, words_at}
 use Rattle.nv_base.specs.Meanings.{applied, left_by}
 use Rattle.nv_base.proofs.Frames.{fetched-elsewhere, applied-order, applied-size}
-use Rattle.uc_contexts.specs.Feet.{Touches}
+use Rattle.uc_contexts.specs.Footprints.{Touches}
 
 -- the first of some, and the others
 pub all-first : (P : WriteEvent → Type 0) (w : WriteEvent) (ws : List WriteEvent) → All P (w ∷ ws) → P w

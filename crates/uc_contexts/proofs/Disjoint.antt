@@ -7,27 +7,27 @@ use Rattle.nv_base.specs.Memories.{Memories}
 use Rattle.uc_isa.specs.Code.{CodeView}
 use Rattle.uc_contexts.specs.declared.alone.Marks.{Marks}
 use Rattle.uc_contexts.specs.Alone.{AreDisjoint, IsCommon}
-use Rattle.uc_contexts.specs.Feet.{Lone}
-use Rattle.uc_contexts.specs.Marked.{AreFeet, IsFoot, IsShared, IsFirstShared, IsFirstCommon, Precedes, rank}
+use Rattle.uc_contexts.specs.Footprints.{Isolated}
+use Rattle.uc_contexts.specs.Marked.{AreFootprints, IsFootprint, IsShared, IsFirstShared, IsFirstCommon, Precedes, rank}
 
 -- each run has its marks
-foot-of : (c : CodeView) (p : Memories) (runs : List Lone) (feet : List Marks) (i : ℕ) (x : Lone) → AreFeet c p runs feet → slice_get runs i ≡ Some x → (f : Marks) × (slice_get feet i ≡ Some f) × IsFoot c p x f
-foot-of c p [] feet i x h is = cc
-foot-of c p (y ∷ runs) [] i x h is = absurd h
-foot-of c p (y ∷ runs) (f ∷ feet) zero x h is = let same : y ≡ x = cc in (f, refl, subst (λ z. IsFoot c p z f) same h.0)
-foot-of c p (y ∷ runs) (f ∷ feet) (suc i) x h is = foot-of c p runs feet i x h.1 is
+footprint-of : (c : CodeView) (p : Memories) (runs : List Isolated) (footprints : List Marks) (i : ℕ) (x : Isolated) → AreFootprints c p runs footprints → slice_get runs i ≡ Some x → (f : Marks) × (slice_get footprints i ≡ Some f) × IsFootprint c p x f
+footprint-of c p [] footprints i x h is = cc
+footprint-of c p (y ∷ runs) [] i x h is = absurd h
+footprint-of c p (y ∷ runs) (f ∷ footprints) zero x h is = let same : y ≡ x = cc in (f, refl, subst (λ z. IsFootprint c p z f) same h.0)
+footprint-of c p (y ∷ runs) (f ∷ footprints) (suc i) x h is = footprint-of c p runs footprints i x h.1 is
 
 -- and all marks are of a run
-run-of : (c : CodeView) (p : Memories) (runs : List Lone) (feet : List Marks) (i : ℕ) (f : Marks) → AreFeet c p runs feet → slice_get feet i ≡ Some f → (x : Lone) × (slice_get runs i ≡ Some x) × IsFoot c p x f
+run-of : (c : CodeView) (p : Memories) (runs : List Isolated) (footprints : List Marks) (i : ℕ) (f : Marks) → AreFootprints c p runs footprints → slice_get footprints i ≡ Some f → (x : Isolated) × (slice_get runs i ≡ Some x) × IsFootprint c p x f
 run-of c p runs [] i f h is = cc
-run-of c p [] (g ∷ feet) i f h is = absurd h
-run-of c p (y ∷ runs) (g ∷ feet) zero f h is = let same : g ≡ f = cc in (y, refl, subst (IsFoot c p y) same h.0)
-run-of c p (y ∷ runs) (g ∷ feet) (suc i) f h is = run-of c p runs feet i f h.1 is
+run-of c p [] (g ∷ footprints) i f h is = absurd h
+run-of c p (y ∷ runs) (g ∷ footprints) zero f h is = let same : g ≡ f = cc in (y, refl, subst (IsFootprint c p y) same h.0)
+run-of c p (y ∷ runs) (g ∷ footprints) (suc i) f h is = run-of c p runs footprints i f h.1 is
 
-pub disjoint-unshared : (c : CodeView) (p : Memories) (runs : List Lone) (feet : List Marks) → AreFeet c p runs feet → ((m : Mem) (a : ℕ) → ¬ IsShared feet m a) → AreDisjoint c p runs
-disjoint-unshared c p runs feet h none = λ i j x y ne is is' m a w t.
-    let f = foot-of c p runs feet i x h is in
-    let g = foot-of c p runs feet j y h is' in
+pub disjoint-unshared : (c : CodeView) (p : Memories) (runs : List Isolated) (footprints : List Marks) → AreFootprints c p runs footprints → ((m : Mem) (a : ℕ) → ¬ IsShared footprints m a) → AreDisjoint c p runs
+disjoint-unshared c p runs footprints h none = λ i j x y ne is is' m a w t.
+    let f = footprint-of c p runs footprints i x h is in
+    let g = footprint-of c p runs footprints j y h is' in
     none m a (
       i,
       f.0,
@@ -45,11 +45,11 @@ disjoint-unshared c p runs feet h none = λ i j x y ne is is' m a w t.
       ),
     )
 
-pub shared-not_disjoint : (c : CodeView) (p : Memories) (runs : List Lone) (feet : List Marks) (m : Mem) (a : ℕ) → AreFeet c p runs feet → IsShared feet m a → ¬ AreDisjoint c p runs
-shared-not_disjoint c p runs feet m a h s = λ d.
+pub shared-not_disjoint : (c : CodeView) (p : Memories) (runs : List Isolated) (footprints : List Marks) (m : Mem) (a : ℕ) → AreFootprints c p runs footprints → IsShared footprints m a → ¬ AreDisjoint c p runs
+shared-not_disjoint c p runs footprints m a h s = λ d.
     let o = s.4 in
-    let x = run-of c p runs feet s.0 s.1 h s.2 in
-    let y = run-of c p runs feet o.0 o.1 h o.3 in
+    let x = run-of c p runs footprints s.0 s.1 h s.2 in
+    let y = run-of c p runs footprints o.0 o.1 h o.3 in
     d s.0 o.0 x.0 y.0 o.2 x.1 y.1 m a ((x.2.written m a).0 s.3) (elim o.4 [
       | inl r ↦ inl ((y.2.read m a).0 r)
       | inr v ↦ inr ((y.2.written m a).0 v)
@@ -57,11 +57,11 @@ shared-not_disjoint c p runs feet m a h s = λ d.
 
 -- ---- what is shared is common to the runs
 
-shared-common : (c : CodeView) (p : Memories) (runs : List Lone) (feet : List Marks) (m : Mem) (a : ℕ) → AreFeet c p runs feet → IsShared feet m a → IsCommon c p runs m a
-shared-common c p runs feet m a h s =
+shared-common : (c : CodeView) (p : Memories) (runs : List Isolated) (footprints : List Marks) (m : Mem) (a : ℕ) → AreFootprints c p runs footprints → IsShared footprints m a → IsCommon c p runs m a
+shared-common c p runs footprints m a h s =
     let o = s.4 in
-    let x = run-of c p runs feet s.0 s.1 h s.2 in
-    let y = run-of c p runs feet o.0 o.1 h o.3 in
+    let x = run-of c p runs footprints s.0 s.1 h s.2 in
+    let y = run-of c p runs footprints o.0 o.1 h o.3 in
     record {
       writer = s.0;
       other = o.0;
@@ -77,10 +77,10 @@ shared-common c p runs feet m a h s =
       ];
     }
 
-common-shared : (c : CodeView) (p : Memories) (runs : List Lone) (feet : List Marks) (m : Mem) (a : ℕ) → AreFeet c p runs feet → IsCommon c p runs m a → IsShared feet m a
-common-shared c p runs feet m a h s =
-    let f = foot-of c p runs feet s.writer s.first h s.first_is in
-    let g = foot-of c p runs feet s.other s.second h s.second_is in (
+common-shared : (c : CodeView) (p : Memories) (runs : List Isolated) (footprints : List Marks) (m : Mem) (a : ℕ) → AreFootprints c p runs footprints → IsCommon c p runs m a → IsShared footprints m a
+common-shared c p runs footprints m a h s =
+    let f = footprint-of c p runs footprints s.writer s.first h s.first_is in
+    let g = footprint-of c p runs footprints s.other s.second h s.second_is in (
       s.writer,
       f.0,
       f.1,
@@ -97,14 +97,14 @@ common-shared c p runs feet m a h s =
       ),
     )
 
-pub first-common : (c : CodeView) (p : Memories) (runs : List Lone) (feet : List Marks) (m : Mem) (a : ℕ) → AreFeet c p runs feet → IsFirstShared feet m a → IsFirstCommon c p runs m a
-first-common c p runs feet m a h f = record {
-  common = shared-common c p runs feet m a h f.shared;
-  first = λ k b before common. f.first k b before (common-shared c p runs feet k b h common);
+pub first-common : (c : CodeView) (p : Memories) (runs : List Isolated) (footprints : List Marks) (m : Mem) (a : ℕ) → AreFootprints c p runs footprints → IsFirstShared footprints m a → IsFirstCommon c p runs m a
+first-common c p runs footprints m a h f = record {
+  common = shared-common c p runs footprints m a h f.shared;
+  first = λ k b before common. f.first k b before (common-shared c p runs footprints k b h common);
 }
 
 -- where an address is common, the runs aren't disjoint
-pub common-not_disjoint : (c : CodeView) (p : Memories) (runs : List Lone) (m : Mem) (a : ℕ) → IsCommon c p runs m a → ¬ AreDisjoint c p runs
+pub common-not_disjoint : (c : CodeView) (p : Memories) (runs : List Isolated) (m : Mem) (a : ℕ) → IsCommon c p runs m a → ¬ AreDisjoint c p runs
 common-not_disjoint c p runs m a s = λ d. d s.writer s.other s.first s.second s.apart s.first_is s.second_is m a s.written s.touched
 
 -- ---- there is one first address
@@ -150,7 +150,7 @@ order m a k b = elim (compare (rank m) (rank k)) [
   ]
 ]
 
-pub first-one : (c : CodeView) (p : Memories) (runs : List Lone) (m : Mem) (a : ℕ) (k : Mem) (b : ℕ) → IsFirstCommon c p runs m a → IsFirstCommon c p runs k b → (m ≡ k) × (a ≡ b)
+pub first-one : (c : CodeView) (p : Memories) (runs : List Isolated) (m : Mem) (a : ℕ) (k : Mem) (b : ℕ) → IsFirstCommon c p runs m a → IsFirstCommon c p runs k b → (m ≡ k) × (a ≡ b)
 first-one c p runs m a k b f g = elim (order m a k b) [
   | inl l ↦ absurd (g.first m a l f.common)
   | inr r ↦ elim r [

@@ -8,7 +8,7 @@ use Rattle.nv_base.specs.Meanings.{left_by}
 use Rattle.uc_isa.specs.Code.{CodeView}
 use Rattle.uc_isa.specs.Lawful.{IsLawful}
 use Rattle.uc_contexts.specs.Turns.{base_of, scheduled, enter, started, started_from, starting}
-use Rattle.uc_contexts.specs.Feet.{Lone}
+use Rattle.uc_contexts.specs.Footprints.{Isolated}
 use Rattle.uc_contexts.specs.Alone.{AreDisjoint, all_alone, all_writes, left_alone, lone_runs, own_entries, runs_from}
 use Rattle.uc_contexts.proofs.Isolation.{OthersSeparate, longer}
 use Rattle.uc_contexts.proofs.OneTurn.{enter-alone, enter-none}
@@ -17,11 +17,11 @@ use Rattle.uc_contexts.proofs.Scheduling.{get-of_set}
 -- ---- runs after some entries
 
 -- the runs where the one at a place, if there is one, is a step longer
-abbrev taken : Option Lone → ℕ → List Lone → List Lone
+abbrev taken : Option Isolated → ℕ → List Isolated → List Isolated
 taken (Some x) i runs = slice_set runs i (longer x)
 taken None i runs = runs
 
-abbrev advanced : List ℕ → List Lone → List Lone
+abbrev advanced : List ℕ → List Isolated → List Isolated
 advanced [] runs = runs
 advanced (i ∷ rest) runs = advanced rest (taken (slice_get runs i) i runs)
 
@@ -44,7 +44,7 @@ runs-later k j (a ∷ args) done lt =
     ap (λ n. record { args = a; base = base_of k; steps = n } ∷ runs_from (done ++ j ∷ []) (suc k) args) (own-other k j done (λ e. omega arith))
     ∙ ap (λ l. record { args = a; base = base_of k; steps = own_entries k done } ∷ l) (runs-later (suc k) j args done (omega arith))
 
-taken-behind : (o : Option Lone) (i : ℕ) (x : Lone) (runs : List Lone) → taken o (suc i) (x ∷ runs) ≡ x ∷ taken o i runs
+taken-behind : (o : Option Isolated) (i : ℕ) (x : Isolated) (runs : List Isolated) → taken o (suc i) (x ∷ runs) ≡ x ∷ taken o i runs
 taken-behind (Some y) i x runs = refl
 taken-behind None i x runs = refl
 
@@ -57,8 +57,8 @@ runs-next zero k (a ∷ args) done =
     ∙ ap (λ l. record { args = a; base = base_of k; steps = own_entries k (done ++ k ∷ []) } ∷ l) (sym (runs-later (suc k) k args done (omega arith)))
     ∙ ap (λ j. runs_from (done ++ j ∷ []) k (a ∷ args)) (sym here)
 runs-next (suc i) k (a ∷ args) done =
-    let first : Lone = record { args = a; base = base_of k; steps = own_entries k done } in
-    let rest : List Lone = runs_from done (suc k) args in
+    let first : Isolated = record { args = a; base = base_of k; steps = own_entries k done } in
+    let rest : List Isolated = runs_from done (suc k) args in
     let there : suc k + i ≡ k + suc i = omega arith in
     taken-behind (slice_get rest i) i first rest
     ∙ ap (λ l. first ∷ l) (runs-next i (suc k) args done)
@@ -83,10 +83,10 @@ get-of_other (x ∷ xs) (suc i) zero y ne = refl
 get-of_other (x ∷ xs) (suc i) (suc j) y ne = get-of_other xs i j y (λ e. ne (ap suc e))
 
 -- each run stands in the second list too, at least as long
-abbrev Within : List Lone → List Lone → Type 0
-Within runs more = (i : ℕ) (x : Lone) → slice_get runs i ≡ Some x → (n : ℕ) × (x.steps ≤ n) × (slice_get more i ≡ Some (record { args = x.args; base = x.base; steps = n }))
+abbrev Within : List Isolated → List Isolated → Type 0
+Within runs more = (i : ℕ) (x : Isolated) → slice_get runs i ≡ Some x → (n : ℕ) × (x.steps ≤ n) × (slice_get more i ≡ Some (record { args = x.args; base = x.base; steps = n }))
 
-within-taken : (o : Option Lone) (k : ℕ) (runs : List Lone) → slice_get runs k ≡ o → Within runs (taken o k runs)
+within-taken : (o : Option Isolated) (k : ℕ) (runs : List Isolated) → slice_get runs k ≡ o → Within runs (taken o k runs)
 within-taken None k runs e = λ i x is. let same : x.steps ≤ x.steps = omega arith in (x.steps, same, is)
 within-taken (Some y) k runs e = λ i x is. elim (cases_eq k i) [
   | inl same ↦ (
@@ -100,18 +100,18 @@ within-taken (Some y) k runs e = λ i x is. elim (cases_eq k i) [
   | inr ne ↦ (let less : x.steps ≤ x.steps = omega arith in (x.steps, less, get-of_other runs k i (longer y) ne ∙ is))
 ]
 
-within-advanced : (rest : List ℕ) (runs : List Lone) → Within runs (advanced rest runs)
+within-advanced : (rest : List ℕ) (runs : List Isolated) → Within runs (advanced rest runs)
 within-advanced [] runs = λ i x is. let same : x.steps ≤ x.steps = omega arith in (x.steps, same, is)
 within-advanced (k ∷ rest) runs = λ i x is.
     let one = within-taken (slice_get runs k) k runs refl i x is in
-    let y : Lone = record { args = x.args; base = x.base; steps = one.0 } in
+    let y : Isolated = record { args = x.args; base = x.base; steps = one.0 } in
     let all = within-advanced rest (taken (slice_get runs k) k runs) i y one.2 in
     let first : x.steps ≤ one.0 = one.1 in
     let second : one.0 ≤ all.0 = all.1 in
     let less : x.steps ≤ all.0 = omega arith in
     (all.0, less, all.2)
 
-disjoint-within : (c : CodeView) (p : Memories) (runs more : List Lone) → Within runs more → AreDisjoint c p more → AreDisjoint c p runs
+disjoint-within : (c : CodeView) (p : Memories) (runs more : List Isolated) → Within runs more → AreDisjoint c p more → AreDisjoint c p runs
 disjoint-within c p runs more within d = λ i j x y ne is is' m a w h.
     let wx = within i x is in
     let wy = within j y is' in
@@ -126,20 +126,20 @@ disjoint-within c p runs more within d = λ i j x y ne is is' m a w h.
 
 -- ---- entry by entry
 
-others-separate : (c : CodeView) (p : Memories) (runs : List Lone) (i : ℕ) (x : Lone) → slice_get runs i ≡ Some x → AreDisjoint c p (slice_set runs i (longer x)) → OthersSeparate c p runs i x
+others-separate : (c : CodeView) (p : Memories) (runs : List Isolated) (i : ℕ) (x : Isolated) → slice_get runs i ≡ Some x → AreDisjoint c p (slice_set runs i (longer x)) → OthersSeparate c p runs i x
 others-separate c p runs i x is d = λ j y ne is'.
     let here : slice_get (slice_set runs i (longer x)) i ≡ Some (longer x) = get-of_set runs i x (longer x) is in
     let there : slice_get (slice_set runs i (longer x)) j ≡ Some y = get-of_other runs i j (longer x) ne ∙ is' in
     (λ m a. d i j (longer x) y ne here there m a, λ m a. d j i y (longer x) (λ e. ne (sym e)) there here m a)
 
-enter-taken : (o : Option Lone) (c : CodeView) (p : Memories) (runs : List Lone) (i : ℕ) → IsLawful c.list → slice_get runs i ≡ o → AreDisjoint c p (taken o i runs) → enter c.list i (all_alone c p runs) ≡ all_alone c p (taken o i runs)
+enter-taken : (o : Option Isolated) (c : CodeView) (p : Memories) (runs : List Isolated) (i : ℕ) → IsLawful c.list → slice_get runs i ≡ o → AreDisjoint c p (taken o i runs) → enter c.list i (all_alone c p runs) ≡ all_alone c p (taken o i runs)
 enter-taken (Some x) c p runs i lawful is d = enter-alone c p runs i x lawful is (others-separate c p runs i x is d)
 enter-taken None c p runs i lawful is d = enter-none c p runs i is
 
-all-entered : (c : CodeView) (p : Memories) (rest : List ℕ) (runs : List Lone) → IsLawful c.list → AreDisjoint c p (advanced rest runs) → scheduled c.list rest (all_alone c p runs) ≡ all_alone c p (advanced rest runs)
+all-entered : (c : CodeView) (p : Memories) (rest : List ℕ) (runs : List Isolated) → IsLawful c.list → AreDisjoint c p (advanced rest runs) → scheduled c.list rest (all_alone c p runs) ≡ all_alone c p (advanced rest runs)
 all-entered c p [] runs lawful d = refl
 all-entered c p (i ∷ rest) runs lawful d =
-    let next : List Lone = taken (slice_get runs i) i runs in
+    let next : List Isolated = taken (slice_get runs i) i runs in
     ap (scheduled c.list rest) (enter-taken (slice_get runs i) c p runs i lawful refl (disjoint-within c p next (advanced rest next) (within-advanced rest next) d))
     ∙ all-entered c p rest next lawful d
 

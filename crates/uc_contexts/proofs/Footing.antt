@@ -17,8 +17,8 @@ use Rattle.uc_isa.proofs.Follows.{StepLeaves, step-leaves}
 use Rattle.uc_isa.proofs.Steps.{step-rests}
 use Rattle.uc_contexts.specs.declared.addresses.Stretch.{Stretch}
 use Rattle.uc_contexts.specs.declared.alone.Marks.{Marks}
-use Rattle.uc_contexts.specs.Feet.{Lone, IsTouched, Reads, Writes, moment, to_read, was_read, was_written}
-use Rattle.uc_contexts.specs.Marked.{Fit, IsFoot, IsMarkedRead, IsMarkedWritten}
+use Rattle.uc_contexts.specs.Footprints.{Isolated, IsTouched, Reads, Writes, moment, to_read, was_read, was_written}
+use Rattle.uc_contexts.specs.Marked.{Fit, IsFootprint, IsMarkedRead, IsMarkedWritten}
 use Rattle.uc_contexts.specs.Sets.{Adds, has, within}
 use Rattle.uc_contexts.proofs.OneMore.{after-last}
 
@@ -46,7 +46,7 @@ words-of_size Sdram p h =
     omega arith
 words-of_size Scratch p h = refl
 
--- ---- behind the end of a run
+-- ---- after the end of a run
 
 -- the engine and the memories stay
 stays : (code : List Instr) (n : ℕ) (e : Engine) (p : Memories) (d : ℕ) → EndsRun (stepped_at code n e p)
@@ -85,7 +85,7 @@ ended-writes (Fault k at) m a ends h = h
 
 -- ---- marks so far
 
-abbrev pub lone : List ℕ → ℕ → ℕ → Lone
+abbrev pub lone : List ℕ → ℕ → ℕ → Isolated
 lone args base n = record { args = args; base = base; steps = n }
 
 -- after n steps of the run alone this is the engine, these are the memories, and these are the marks
@@ -153,7 +153,7 @@ footed-next c first args base n e p f e' p' f' h engine packet inside read writt
 
 -- what a run leaves, with its marks
 pub record FootOf (c : CodeView) (first : Memories) (args : List ℕ) (base n : ℕ) (p : Memories) (f : Marks) : Type 0 where
-  pub foot : IsFoot c first (lone args base n) f
+  pub footprint : IsFootprint c first (lone args base n) f
   pub packet : p ≡ (moment c first (lone args base n) n).packet
 
 fit-first : (c : CodeView) (first : Memories) (args : List ℕ) (base n : ℕ) (e : Engine) (p : Memories) (f : Marks) → Footed c first args base n e p f → Fit f first
@@ -163,10 +163,10 @@ fit-first c first args base n e p f h = λ m.
 
 pub footed-all : (c : CodeView) (first : Memories) (args : List ℕ) (base i n : ℕ) (e : Engine) (p : Memories) (f : Marks) → i ≡ n → Footed c first args base i e p f → FootOf c first args base n p f
 footed-all c first args base i n e p f all h =
-    let there : FootOf c first args base i p f = record { foot = record { read = h.read; written = h.written; fit = fit-first c first args base i e p f h }; packet = h.packet } in
+    let there : FootOf c first args base i p f = record { footprint = record { read = h.read; written = h.written; fit = fit-first c first args base i e p f h }; packet = h.packet } in
     subst (λ k. FootOf c first args base k p f) all there
 
--- steps behind the one that ended the run touch nothing
+-- steps after the one that ended the run touch nothing
 no-more : (P : ℕ → Type 0) (i n : ℕ) (marked : Type 0) → i < n → (marked ↔ ((k : ℕ) × (k < i + 1) × P k)) → ((d : ℕ) → P (i + d) → ⊥) → marked ↔ ((k : ℕ) × (k < n) × P k)
 no-more P i n marked less before none = (
   λ h. let b = before.0 h in let lt : b.0 < i + 1 = b.1 in let further : b.0 < n = omega arith in (b.0, further, b.2),
@@ -185,7 +185,7 @@ footed-over c first args base i n e p f less ends h =
     let further : (d : ℕ) → EndsRun (stepped_at c.list (i + d) s first) = λ d. subst EndsRun (sym (same-step c.list i s first d ends)) ends in
     let last : n ≡ i + (n - i) = omega arith in
     record {
-      foot = record {
+      footprint = record {
         read = λ m x. no-more (ReadAt m x) i n (IsMarkedRead f m x) less (h.read m x) (λ d t. ended-reads _ (stepped_at c.list (i + d) s first) m x (further d) t);
         written = λ m x. no-more (WrittenAt m x) i n (IsMarkedWritten f m x) less (h.written m x) (λ d t. ended-writes (stepped_at c.list (i + d) s first) m x (further d) t);
         fit = fit-first c first args base (i + 1) e p f h;

@@ -14,7 +14,7 @@ use Rattle.uc_isa.specs.declared.engine.Stepped.TheVariants.{Went, Wrote, Halted
 use Rattle.uc_isa.proofs.Steps.{step-rests, after-rests, run-add, run-over}
 use Rattle.uc_contexts.specs.Turns.{outcome_of, written}
 
--- the engine and the memories are those of the step behind the first n
+-- the engine and the memories are those of the step after the first n
 pub after-last : (code : List Instr) (n : ℕ) (e : Engine) (p : Memories) → let a = after code n e p in
     ((after code (suc n) e p).engine ≡ (step code a.engine a.packet).engine) × ((after code (suc n) e p).packet ≡ (step code a.engine a.packet).packet)
 after-last code zero e p = (refl, refl)
@@ -49,7 +49,7 @@ going-packet code n (Wrote w) e p ws h next = next (ws ++ w ∷ []) h
 going-packet code n (Halted k words) e p ws h next = absurd (halted-on k words h)
 going-packet code n (Fault m at) e p ws h next = cc
 
--- the memories of a run that is going are those behind its steps
+-- the memories of a run that is going are those after its steps
 pub run-packet : (code : List Instr) (n : ℕ) (e : Engine) (p : Memories) (ws : List WriteEvent) → (run code n e p ws).outcome ≡ outcome.Going → (run code n e p ws).packet ≡ (after code n e p).packet
 run-packet code zero e p ws h = refl
 run-packet code (suc n) e p ws h = let s : Next = step code e p in going-packet code n s.stepped s.engine s.packet ws h (λ vs h'. run-packet code n s.engine s.packet vs h')

@@ -22,7 +22,7 @@ use Rattle.uc_isa.specs.declared.engine.Stepped.TheVariants.{Went, Wrote, Halted
 use Rattle.uc_isa.proofs.Follows.{StepLeaves, step-leaves}
 use Rattle.uc_contexts.specs.declared.state.Context.{Context}
 use Rattle.uc_contexts.specs.Turns.{Turn, System, turn_at, moved, entered, enter, outcome_of, written, kept_writes}
-use Rattle.uc_contexts.specs.Feet.{Lone, moment, lone_outcome}
+use Rattle.uc_contexts.specs.Footprints.{Isolated, moment, lone_outcome}
 use Rattle.uc_contexts.specs.Alone.{all_writes, all_alone, left_alone}
 use Rattle.uc_contexts.proofs.Apart.{WriteApart}
 use Rattle.uc_contexts.proofs.Depends.{StepAlike, step-alike}
@@ -53,7 +53,7 @@ logged-more ws vs = sym (noted-append (source_writes ws) (source_writes vs) (emp
 
 -- ---- a run that is over
 
-over-alone : (c : CodeView) (p : Memories) (x : Lone) → IsOver (lone_outcome c p x).outcome → (left_alone c p (longer x) ≡ left_alone c p x) × (lone_writes c p (longer x) ≡ lone_writes c p x ++ [])
+over-alone : (c : CodeView) (p : Memories) (x : Isolated) → IsOver (lone_outcome c p x).outcome → (left_alone c p (longer x) ≡ left_alone c p x) × (lone_writes c p (longer x) ≡ lone_writes c p x ++ [])
 over-alone c p x over =
     let e : Engine = start x.args x.base in
     let same : lone_outcome c p (longer x) ≡ lone_outcome c p x = run-same c.list x.steps e p over in
@@ -62,7 +62,7 @@ over-alone c p x over =
       ap (λ (f : FullOutcome). f.writes) same ∙ sym (append-nil (lone_writes c p x)),
     )
 
-turn-rests : (c : CodeView) (p : Memories) (runs : List Lone) (i : ℕ) (x : Lone) → slice_get runs i ≡ Some x → IsOver (lone_outcome c p x).outcome
+turn-rests : (c : CodeView) (p : Memories) (runs : List Isolated) (i : ℕ) (x : Isolated) → slice_get runs i ≡ Some x → IsOver (lone_outcome c p x).outcome
     → turn_at (lone_outcome c p x).outcome c.list (left_alone c p x) (left_by (all_writes c p runs) p) ≡ record { context = left_alone c p (longer x); packet = left_by (all_writes c p (slice_set runs i (longer x))) p }
 turn-rests c p runs i x is over =
     let now : Memories = left_by (all_writes c p runs) p in
@@ -74,7 +74,7 @@ turn-rests c p runs i x is over =
 
 -- ---- a run that is going
 
-turn-goes : (c : CodeView) (p : Memories) (runs : List Lone) (i : ℕ) (x : Lone) → IsLawful c.list → slice_get runs i ≡ Some x → OthersSeparate c p runs i x → (lone_outcome c p x).outcome ≡ outcome.Going
+turn-goes : (c : CodeView) (p : Memories) (runs : List Isolated) (i : ℕ) (x : Isolated) → IsLawful c.list → slice_get runs i ≡ Some x → OthersSeparate c p runs i x → (lone_outcome c p x).outcome ≡ outcome.Going
     → moved (step c.list (moment c p x x.steps).engine (left_by (all_writes c p runs) p)) (left_alone c p x) ≡ record { context = left_alone c p (longer x); packet = left_by (all_writes c p (slice_set runs i (longer x))) p }
 turn-goes c p runs i x lawful is d going =
     let now : Memories = left_by (all_writes c p runs) p in
@@ -99,7 +99,7 @@ turn-goes c p runs i x lawful is d going =
 
 -- ---- either
 
-turn-alone : (o : Outcome) (c : CodeView) (p : Memories) (runs : List Lone) (i : ℕ) (x : Lone) → IsLawful c.list → slice_get runs i ≡ Some x → OthersSeparate c p runs i x → (lone_outcome c p x).outcome ≡ o
+turn-alone : (o : Outcome) (c : CodeView) (p : Memories) (runs : List Isolated) (i : ℕ) (x : Isolated) → IsLawful c.list → slice_get runs i ≡ Some x → OthersSeparate c p runs i x → (lone_outcome c p x).outcome ≡ o
     → turn_at o c.list (left_alone c p x) (left_by (all_writes c p runs) p) ≡ record { context = left_alone c p (longer x); packet = left_by (all_writes c p (slice_set runs i (longer x))) p }
 turn-alone outcome.Going c p runs i x lawful is d e = turn-goes c p runs i x lawful is d e
 turn-alone (outcome.Ended ws) c p runs i x lawful is d e =
@@ -110,7 +110,7 @@ turn-alone (outcome.Fault m at) c p runs i x lawful is d e =
     ap (λ o. turn_at o c.list (left_alone c p x) (left_by (all_writes c p runs) p)) (sym e) ∙ turn-rests c p runs i x is (subst IsOver (sym e) tt)
 
 -- an entry of a context takes its run alone one step further
-pub enter-alone : (c : CodeView) (p : Memories) (runs : List Lone) (i : ℕ) (x : Lone) → IsLawful c.list → slice_get runs i ≡ Some x → OthersSeparate c p runs i x
+pub enter-alone : (c : CodeView) (p : Memories) (runs : List Isolated) (i : ℕ) (x : Isolated) → IsLawful c.list → slice_get runs i ≡ Some x → OthersSeparate c p runs i x
     → enter c.list i (all_alone c p runs) ≡ all_alone c p (slice_set runs i (longer x))
 enter-alone c p runs i x lawful is d =
     let s : System = all_alone c p runs in
@@ -121,7 +121,7 @@ enter-alone c p runs i x lawful is d =
     ∙ ap (λ l. record { contexts = l; packet = left_by (all_writes c p (slice_set runs i (longer x))) p }) (sym (map-set (left_alone c p) runs i (longer x)))
 
 -- an entry of no context does nothing
-pub enter-none : (c : CodeView) (p : Memories) (runs : List Lone) (i : ℕ) → slice_get runs i ≡ None → enter c.list i (all_alone c p runs) ≡ all_alone c p runs
+pub enter-none : (c : CodeView) (p : Memories) (runs : List Isolated) (i : ℕ) → slice_get runs i ≡ None → enter c.list i (all_alone c p runs) ≡ all_alone c p runs
 enter-none c p runs i is =
     let s : System = all_alone c p runs in
     let there : slice_get s.contexts i ≡ None = slice_get-map (left_alone c p) runs i ∙ ap (option_map (left_alone c p)) is in

@@ -7,12 +7,12 @@ use Rattle.nv_base.specs.Memories.{Memories, fetched}
 use Rattle.nv_base.specs.Meanings.{left_by}
 use Rattle.nv_base.proofs.MemoryLemmas.{left-append}
 use Rattle.uc_isa.specs.Code.{CodeView}
-use Rattle.uc_contexts.specs.Feet.{Lone, lone_outcome}
+use Rattle.uc_contexts.specs.Footprints.{Isolated, lone_outcome}
 use Rattle.uc_contexts.specs.Alone.{all_writes}
 use Rattle.uc_contexts.proofs.Apart.{ApartFrom, ListsApart, left-elsewhere, left-behind}
 
 -- the writes of one run
-abbrev pub lone_writes : CodeView → Memories → Lone → List WriteEvent
+abbrev pub lone_writes : CodeView → Memories → Isolated → List WriteEvent
 lone_writes c p run = (lone_outcome c p run).writes
 
 not-zero : (i : ℕ) → suc i ≡ 0 → ⊥
@@ -25,7 +25,7 @@ not-suc : (i j : ℕ) → ¬ (i ≡ j) → suc i ≡ suc j → ⊥
 not-suc i j h e = h (omega arith)
 
 -- an access from which the writes of all runs are apart
-others-leave : (c : CodeView) (p : Memories) (runs : List Lone) (q : Memories) (m : Mem) (at n : ℕ) → ((j : ℕ) (y : Lone) → slice_get runs j ≡ Some y → ApartFrom m at n (lone_writes c p y))
+others-leave : (c : CodeView) (p : Memories) (runs : List Isolated) (q : Memories) (m : Mem) (at n : ℕ) → ((j : ℕ) (y : Isolated) → slice_get runs j ≡ Some y → ApartFrom m at n (lone_writes c p y))
     → fetched m at n (left_by (all_writes c p runs) q) ≡ fetched m at n q
 others-leave c p [] q m at n h = refl
 others-leave c p (x ∷ runs) q m at n h =
@@ -33,10 +33,10 @@ others-leave c p (x ∷ runs) q m at n h =
     ∙ others-leave c p runs (left_by (lone_writes c p x) q) m at n (λ j y g. h (suc j) y g)
     ∙ left-elsewhere m at n (lone_writes c p x) q (h 0 x refl)
 
--- where the other runs' writes are apart from an access, and from the writes of this run, it finds what it finds behind this run alone
-pub own-found : (c : CodeView) (p : Memories) (runs : List Lone) (i : ℕ) (x : Lone) (q : Memories) (m : Mem) (at n : ℕ) → slice_get runs i ≡ Some x
-    → ((j : ℕ) (y : Lone) → ¬ (i ≡ j) → slice_get runs j ≡ Some y → ApartFrom m at n (lone_writes c p y))
-    → ((j : ℕ) (y : Lone) → ¬ (i ≡ j) → slice_get runs j ≡ Some y → ListsApart (lone_writes c p y) (lone_writes c p x))
+-- where the other runs' writes are apart from an access, and from the writes of this run, it finds what it finds after this run alone
+pub own-found : (c : CodeView) (p : Memories) (runs : List Isolated) (i : ℕ) (x : Isolated) (q : Memories) (m : Mem) (at n : ℕ) → slice_get runs i ≡ Some x
+    → ((j : ℕ) (y : Isolated) → ¬ (i ≡ j) → slice_get runs j ≡ Some y → ApartFrom m at n (lone_writes c p y))
+    → ((j : ℕ) (y : Isolated) → ¬ (i ≡ j) → slice_get runs j ≡ Some y → ListsApart (lone_writes c p y) (lone_writes c p x))
     → fetched m at n (left_by (all_writes c p runs) q) ≡ fetched m at n (left_by (lone_writes c p x) q)
 own-found c p [] i x q m at n is h k = cc
 own-found c p (y ∷ runs) zero x q m at n is h k =
@@ -50,8 +50,8 @@ own-found c p (y ∷ runs) (suc i) x q m at n is h k =
     ∙ ap (fetched m at n) (left-behind (lone_writes c p y) (lone_writes c p x) q (k 0 y (not-zero i) refl))
     ∙ left-elsewhere m at n (lone_writes c p y) (left_by (lone_writes c p x) q) (h 0 y (not-zero i) refl)
 
--- writes that are apart from those of all runs may come behind them
-others-behind : (c : CodeView) (p : Memories) (runs : List Lone) (ws : List WriteEvent) (q : Memories) → ((j : ℕ) (y : Lone) → slice_get runs j ≡ Some y → ListsApart ws (lone_writes c p y))
+-- writes that are apart from those of all runs may come after them
+others-behind : (c : CodeView) (p : Memories) (runs : List Isolated) (ws : List WriteEvent) (q : Memories) → ((j : ℕ) (y : Isolated) → slice_get runs j ≡ Some y → ListsApart ws (lone_writes c p y))
     → left_by (all_writes c p runs) (left_by ws q) ≡ left_by ws (left_by (all_writes c p runs) q)
 others-behind c p [] ws q h = refl
 others-behind c p (x ∷ runs) ws q h =
@@ -61,8 +61,8 @@ others-behind c p (x ∷ runs) ws q h =
     ∙ ap (left_by ws) (sym (left-append (lone_writes c p x) (all_writes c p runs) q))
 
 -- one run has some writes more, which are apart from those of the others
-pub more-writes : (c : CodeView) (p : Memories) (runs : List Lone) (i : ℕ) (x x' : Lone) (ws : List WriteEvent) (q : Memories) → slice_get runs i ≡ Some x → lone_writes c p x' ≡ lone_writes c p x ++ ws
-    → ((j : ℕ) (y : Lone) → ¬ (i ≡ j) → slice_get runs j ≡ Some y → ListsApart ws (lone_writes c p y))
+pub more-writes : (c : CodeView) (p : Memories) (runs : List Isolated) (i : ℕ) (x x' : Isolated) (ws : List WriteEvent) (q : Memories) → slice_get runs i ≡ Some x → lone_writes c p x' ≡ lone_writes c p x ++ ws
+    → ((j : ℕ) (y : Isolated) → ¬ (i ≡ j) → slice_get runs j ≡ Some y → ListsApart ws (lone_writes c p y))
     → left_by (all_writes c p (slice_set runs i x')) q ≡ left_by ws (left_by (all_writes c p runs) q)
 more-writes c p [] i x x' ws q is more h = cc
 more-writes c p (y ∷ runs) zero x x' ws q is more h =

@@ -12,7 +12,7 @@ use Rattle.uc_contexts.specs.declared.state.Context.{Context}
 use Rattle.uc_contexts.specs.Turns.{Turn, System, turn, turns, enter, entered, scheduled, entries, started}
 use Rattle.uc_contexts.proofs.Starting.{started-all}
 
--- one part behind the other
+-- one part after the other
 pub scheduled-append : (code : List Instr) (a b : List ℕ) (s : System) → scheduled code (a ++ b) s ≡ scheduled code b (scheduled code a s)
 scheduled-append code [] b s = refl
 scheduled-append code (i ∷ a) b s = scheduled-append code a b (enter code i s)
@@ -99,7 +99,7 @@ remains-first code limit pairs args xs p made some few = record {
   number = refl;
 }
 
--- behind the pair at a place
+-- after the pair at a place
 pub remains-on : (code : List Instr) (names limit : ℕ) (pairs : List (ℕ × ℕ)) (k : ℕ) (now next last : System) → k < length pairs → Remains code names limit (drop k pairs) now last
     → let pair = get_or pairs k (0, 0) in next ≡ scheduled code (replicate pair.1 pair.0) now → All (λ x. x.engine.place < length code) next.contexts
     → ((most : ℕ) → All (λ x. x.log.count + pair.1 ≤ most) now.contexts → All (λ x. x.log.count ≤ most) next.contexts) → length next.contexts ≡ length now.contexts
@@ -110,6 +110,6 @@ remains-on code names limit pairs k now next last there h turned inside counted 
     let first : Remains code names limit (pair ∷ drop (suc k) pairs) now last = subst (λ l. Remains code names limit l now last) (drop-cons pairs k (0, 0) there) h in
     subst (λ n. Remains code names limit (drop n pairs) next last) (sym more) (remains-next code names limit pair (drop (suc k) pairs) now next last first turned inside counted number)
 
--- behind the last pair
+-- after the last pair
 pub remains-last : (code : List Instr) (names limit : ℕ) (pairs : List (ℕ × ℕ)) (k : ℕ) (now last : System) → length pairs ≤ k → Remains code names limit (drop k pairs) now last → now ≡ last
 remains-last code names limit pairs k now last past h = ap (λ l. scheduled code (entries l) now) (sym (drop_all k pairs past)) ∙ h.leads

@@ -1,4 +1,4 @@
--- Turns of one context, one behind the other, are the steps of a run.
+-- Turns of one context, one after the other, are the steps of a run.
 use Rattle.std.proofs.Common.{◌≡◌, ℕ, zero, suc, ◌+◌, ◌≤◌, List, [], ◌∷◌, ◌++◌, refl, ap, sym, subst, ◌∙◌, arith}
 use Rattle.nv_base.specs.declared.outcome.Write.{Write as WriteEvent}
 use Rattle.nv_base.specs.declared.outcome.Outcome.{Outcome}

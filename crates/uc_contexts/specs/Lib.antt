@@ -1,5 +1,5 @@
 pub mod Turns
-pub mod Feet
+pub mod Footprints
 pub mod Alone
 pub mod Sets
 pub mod Marked

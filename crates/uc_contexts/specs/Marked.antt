@@ -6,7 +6,7 @@ use Rattle.nv_base.specs.Memories.{Memories, first_word, words_at}
 use Rattle.uc_isa.specs.Code.{CodeView}
 use Rattle.uc_contexts.specs.declared.alone.Marks.{Marks}
 use Rattle.uc_contexts.specs.Alone.{IsCommon}
-use Rattle.uc_contexts.specs.Feet.{Lone, Reads, Writes}
+use Rattle.uc_contexts.specs.Footprints.{Isolated, Reads, Writes}
 use Rattle.uc_contexts.specs.Sets.{has, within}
 
 -- the address is marked as read, and as written
@@ -21,7 +21,7 @@ abbrev pub Fit : Marks → Memories → Type 0
 Fit f p = (m : Mem) → (length (words_at m p) ≡ first_word m (within m f.read).size) × (length (words_at m p) ≡ first_word m (within m f.written).size)
 
 -- what the run reads and writes is marked, and nothing else
-pub record IsFoot (c : CodeView) (p : Memories) (run : Lone) (f : Marks) : Type 0 where
+pub record IsFootprint (c : CodeView) (p : Memories) (run : Isolated) (f : Marks) : Type 0 where
   pub read : (m : Mem) (a : ℕ) → IsMarkedRead f m a ↔ Reads c p run m a
   pub written : (m : Mem) (a : ℕ) → IsMarkedWritten f m a ↔ Writes c p run m a
   pub fit : Fit f p
@@ -32,11 +32,11 @@ IsMarked f m a = IsMarkedRead f m a ⊎ IsMarkedWritten f m a
 
 -- some run with another number than this one reads or writes the address
 abbrev pub IsMarkedByOther : List Marks → ℕ → Mem → ℕ → Type 0
-IsMarkedByOther feet writer m a = (j : ℕ) × (f : Marks) × ¬ (writer ≡ j) × (slice_get feet j ≡ Some f) × IsMarked f m a
+IsMarkedByOther footprints writer m a = (j : ℕ) × (f : Marks) × ¬ (writer ≡ j) × (slice_get footprints j ≡ Some f) × IsMarked f m a
 
 -- one run's marks say that it writes the address, and another's that it reads or writes it
 abbrev pub IsShared : List Marks → Mem → ℕ → Type 0
-IsShared feet m a = (i : ℕ) × (f : Marks) × (slice_get feet i ≡ Some f) × IsMarkedWritten f m a × IsMarkedByOther feet i m a
+IsShared footprints m a = (i : ℕ) × (f : Marks) × (slice_get footprints i ≡ Some f) × IsMarkedWritten f m a × IsMarkedByOther footprints i m a
 
 -- memories come in this order
 abbrev pub rank : Mem → ℕ
@@ -49,18 +49,18 @@ abbrev pub Precedes : Mem → ℕ → Mem → ℕ → Type 0
 Precedes m a k b = (rank m < rank k) ⊎ ((m ≡ k) × (a < b))
 
 -- the first address that is shared
-pub record IsFirstShared (feet : List Marks) (m : Mem) (a : ℕ) : Type 0 where
-  pub shared : IsShared feet m a
-  pub first : (k : Mem) (b : ℕ) → Precedes k b m a → ¬ IsShared feet k b
+pub record IsFirstShared (footprints : List Marks) (m : Mem) (a : ℕ) : Type 0 where
+  pub shared : IsShared footprints m a
+  pub first : (k : Mem) (b : ℕ) → Precedes k b m a → ¬ IsShared footprints k b
 
 -- the first address that one run writes and another reads or writes
-pub record IsFirstCommon (c : CodeView) (p : Memories) (runs : List Lone) (m : Mem) (a : ℕ) : Type 0 where
+pub record IsFirstCommon (c : CodeView) (p : Memories) (runs : List Isolated) (m : Mem) (a : ℕ) : Type 0 where
   pub common : IsCommon c p runs m a
   pub first : (k : Mem) (b : ℕ) → Precedes k b m a → ¬ IsCommon c p runs k b
 
 -- the marks of each run, in order
-abbrev pub AreFeet : CodeView → Memories → List Lone → List Marks → Type 0
-AreFeet c p [] [] = ⊤
-AreFeet c p [] (f ∷ feet) = ⊥
-AreFeet c p (run ∷ runs) [] = ⊥
-AreFeet c p (run ∷ runs) (f ∷ feet) = IsFoot c p run f × AreFeet c p runs feet
+abbrev pub AreFootprints : CodeView → Memories → List Isolated → List Marks → Type 0
+AreFootprints c p [] [] = ⊤
+AreFootprints c p [] (f ∷ footprints) = ⊥
+AreFootprints c p (run ∷ runs) [] = ⊥
+AreFootprints c p (run ∷ runs) (f ∷ footprints) = IsFootprint c p run f × AreFootprints c p runs footprints

@@ -100,7 +100,7 @@ abbrev pub entries : List (ℕ × ℕ) → List ℕ
 entries [] = []
 entries (pair ∷ rest) = replicate pair.1 pair.0 ++ entries rest
 
--- n turns of one context, one behind the other
+-- n turns of one context, one after the other
 abbrev pub turns : List Instr → ℕ → Context → Memories → Turn
 turns code zero x p = record { context = x; packet = p }
 turns code (suc n) x p = let t = turn code x p in turns code n t.context t.packet

@@ -2,7 +2,7 @@
 ghost use Rattle.std.specs.Prelude.{◌≡◌, ◌+◌, ◌<◌, ◌≤◌, ℕ, false, IfOk, Some};
 ghost use Rattle.nv_base.specs.Memories.{HasSizes, first_word, size_at};
 ghost use Rattle.nv_base.specs.declared.term.Mem.{Mem};
-ghost use Rattle.uc_contexts.specs.Feet.{IsTouched};
+ghost use Rattle.uc_contexts.specs.Footprints.{IsTouched};
 ghost use Rattle.uc_contexts.specs.Sets.{Adds, has, within};
 
 use crate::bits::Bits;
@@ -10,7 +10,7 @@ use nv_base::{Mem, NoMemory, Packet};
 use std::alloc::Global;
 use std::marker::Model;
 
-/// So many words of a memory, from an address on.
+/// N words of a memory, from an address on.
 #[derive(Clone, Copy)]
 pub struct Stretch {
     pub mem: Mem,

@@ -4,8 +4,8 @@ ghost use Rattle.nv_base.specs.Memories.{HasSizes, first_word, words_at};
 ghost use Rattle.nv_base.specs.declared.term.Mem.{Mem};
 ghost use Rattle.uc_isa.specs.Lawful.{IsLawful};
 ghost use Rattle.uc_isa.specs.Step.{EndsRun, address, step};
-ghost use Rattle.uc_contexts.specs.Feet.{IsTouched, Lone, moment, to_read, was_read, was_written};
-ghost use Rattle.uc_contexts.specs.Marked.{Fit, IsFoot};
+ghost use Rattle.uc_contexts.specs.Footprints.{IsTouched, Isolated, moment, to_read, was_read, was_written};
+ghost use Rattle.uc_contexts.specs.Marked.{Fit, IsFootprint};
 ghost use Rattle.uc_contexts.specs.Sets.{Adds, within};
 
 use crate::addresses::{AddressSet, Stretch};
@@ -80,7 +80,7 @@ fn take_step(c: &Code, e: &mut Engine, p: &mut Packet, marks: &mut Marks) -> boo
 
 /// The addresses that code reads and writes in its first `m` steps, when it runs alone on these arguments with this
 /// spill base. The packet is left as by these steps; where there is no memory, it is unchanged.
-pub fn foot(
+pub fn footprint(
     alloc: Global,
     c: &Code,
     args: &[u32],
@@ -92,7 +92,7 @@ pub fn foot(
     requires arguments { length args.now ≡ c.now.params }
     requires base { (512 ≤ base) × (base ≤ 896) }
     requires few { m ≤ 100000000 }
-    ensures foot { IfOk result (IsFoot c.now p.old (record { args = args.now; base = base; steps = m })) }
+    ensures footprint { IfOk result (IsFootprint c.now p.old (record { args = args.now; base = base; steps = m })) }
     ensures packet { IfOk result (λ _. p.new ≡ (moment c.now p.old (record { args = args.now; base = base; steps = m }) m).packet) }
     ensures unchanged { IfErr result (λ _. p.new ≡ p.old) }
 {

@@ -15,10 +15,10 @@ fn is_marked(f: &Marks, m: Mem, a: u32) -> bool
 }
 
 // Whether a run with another number reads or writes the address.
-fn is_marked_by_other(feet: &[Marks], writer: usize, m: Mem, a: u32) -> bool
-    ensures { IsTrue result ↔ IsMarkedByOther feet.now writer m a }
+fn is_marked_by_other(footprints: &[Marks], writer: usize, m: Mem, a: u32) -> bool
+    ensures { IsTrue result ↔ IsMarkedByOther footprints.now writer m a }
 {
-    for (number, f) in feet.iter().enumerate() {
+    for (number, f) in footprints.iter().enumerate() {
         if number != writer && is_marked(f, m, a) {
             return true;
         }
@@ -27,11 +27,11 @@ fn is_marked_by_other(feet: &[Marks], writer: usize, m: Mem, a: u32) -> bool
 }
 
 // Whether one run writes the address, and another reads or writes it.
-fn is_shared(feet: &[Marks], m: Mem, a: u32) -> bool
-    ensures { IsTrue result ↔ IsShared feet.now m a }
+fn is_shared(footprints: &[Marks], m: Mem, a: u32) -> bool
+    ensures { IsTrue result ↔ IsShared footprints.now m a }
 {
-    for (number, f) in feet.iter().enumerate() {
-        if f.written.contains(m, a) && is_marked_by_other(feet, number, m, a) {
+    for (number, f) in footprints.iter().enumerate() {
+        if f.written.contains(m, a) && is_marked_by_other(footprints, number, m, a) {
             return true;
         }
     }
@@ -39,24 +39,24 @@ fn is_shared(feet: &[Marks], m: Mem, a: u32) -> bool
 }
 
 // A number from which on no run writes an address of a memory.
-fn end_of_writes(feet: &[Marks], m: Mem) -> u32
-    ensures { (i : ℕ) (f : Marks) → slice_get feet.now i ≡ Some f → (a : ℕ) → result ≤ a → ¬ IsMarkedWritten f m a }
+fn end_of_writes(footprints: &[Marks], m: Mem) -> u32
+    ensures { (i : ℕ) (f : Marks) → slice_get footprints.now i ≡ Some f → (a : ℕ) → result ≤ a → ¬ IsMarkedWritten f m a }
 {
     let mut end = 0;
-    for f in feet {
+    for f in footprints {
         end = f.written.size(m).max(end);
     }
     end
 }
 
 // The first address of a memory that is shared.
-fn first_shared(feet: &[Marks], m: Mem) -> Option<u32>
-    ensures none { IfNone result ((a : ℕ) → ¬ IsShared feet.now m a) }
-    ensures shared { IfSome result (λ a. IsShared feet.now m a) }
-    ensures first { IfSome result (λ a. (b : ℕ) → b < a → ¬ IsShared feet.now m b) }
+fn first_shared(footprints: &[Marks], m: Mem) -> Option<u32>
+    ensures none { IfNone result ((a : ℕ) → ¬ IsShared footprints.now m a) }
+    ensures shared { IfSome result (λ a. IsShared footprints.now m a) }
+    ensures first { IfSome result (λ a. (b : ℕ) → b < a → ¬ IsShared footprints.now m b) }
 {
-    for a in 0..end_of_writes(feet, m) {
-        if is_shared(feet, m, a) {
+    for a in 0..end_of_writes(footprints, m) {
+        if is_shared(footprints, m, a) {
             return Some(a);
         }
     }
@@ -64,18 +64,18 @@ fn first_shared(feet: &[Marks], m: Mem) -> Option<u32>
 }
 
 /// The first address, SRAM before SDRAM before scratch, that one run writes and another reads or writes.
-pub fn shared(feet: &[Marks]) -> Option<(Mem, u32)>
-    ensures none { IfNone result ((m : Mem) (a : ℕ) → ¬ IsShared feet.now m a) }
-    ensures none_only { ((m : Mem) (a : ℕ) → ¬ IsShared feet.now m a) → IsNone result }
-    ensures first { IfSome result (λ found. IsFirstShared feet.now found.0 found.1) }
+pub fn shared(footprints: &[Marks]) -> Option<(Mem, u32)>
+    ensures none { IfNone result ((m : Mem) (a : ℕ) → ¬ IsShared footprints.now m a) }
+    ensures none_only { ((m : Mem) (a : ℕ) → ¬ IsShared footprints.now m a) → IsNone result }
+    ensures first { IfSome result (λ found. IsFirstShared footprints.now found.0 found.1) }
 {
-    if let Some(a) = first_shared(feet, Mem::Sram) {
+    if let Some(a) = first_shared(footprints, Mem::Sram) {
         return Some((Mem::Sram, a));
     }
-    if let Some(a) = first_shared(feet, Mem::Sdram) {
+    if let Some(a) = first_shared(footprints, Mem::Sdram) {
         return Some((Mem::Sdram, a));
     }
-    if let Some(a) = first_shared(feet, Mem::Scratch) {
+    if let Some(a) = first_shared(footprints, Mem::Scratch) {
         return Some((Mem::Scratch, a));
     }
     None

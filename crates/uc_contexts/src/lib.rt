@@ -10,7 +10,7 @@ mod schedule;
 mod state;
 
 pub use addresses::AddressSet;
-pub use alone::{Marks, foot};
+pub use alone::{Marks, footprint};
 pub use compare::shared;
 pub use schedule::run_schedule;
 pub use state::{Context, Contexts};

@@ -11,7 +11,7 @@ use uc_isa::Code;
 use uc_sim::simulate;
 
 impl Context {
-    // Takes n turns, one behind the other.
+    // Takes n turns, one after the other.
     fn run(&mut self, c: &Code, p: &mut Packet, n: u64)
         requires lawful { IsLawful c.now.list }
         requires inside { self.old.engine.place < length c.now.list }

@@ -50,7 +50,7 @@ leads-none code base a = record {
   keeps = λ k lt. absurd (omega arith);
 }
 
--- one piece behind another
+-- one piece after another
 after-add : (code : List Instr) (n m : ℕ) (e : Engine) (p : Memories) → after code (n + m) e p ≡ after code m (after code n e p).engine (after code n e p).packet
 after-add code zero m e p = ap (λ k. after code k e p) (zero-add m)
 after-add code (suc n) m e p =
@@ -63,7 +63,7 @@ after-later code n m a b h = after-add code n m a.engine a.packet ∙ ap (λ (t 
 later-keeps : (code : List Instr) (base n m : ℕ) (a b : Moment) → after code n a.engine a.packet ≡ went b.engine b.packet → KeepsAfter code base m b → KeepsAfter code base (n + m) a
 later-keeps code base n m a b h keeps = subst (λ (t : Next). KeepsAt code base t.engine) (sym (after-later code n m a b h)) keeps
 
--- inside the first piece, or so many steps behind it
+-- inside the first piece, or N steps after it
 joined-keeps : (code : List Instr) (base n k : ℕ) (a b : Moment) → Leads code base n a b → ((m : ℕ) → n + m ≡ k → KeepsAfter code base m b) → KeepsAfter code base k a
 joined-keeps code base n k a b x later =
     ⊎_elim

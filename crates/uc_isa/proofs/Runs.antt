@@ -6,7 +6,7 @@ use Rattle.nv_base.specs.Memories.{Memories}
 use Rattle.nv_base.specs.Meanings.{FullOutcome}
 use Rattle.uc_isa.specs.Step.{step, step_at, effect}
 use Rattle.uc_isa.specs.Engine.{run, continue_run, halted}
-use Rattle.uc_isa.specs.Straight.{RunsTo, Reaches, went, going}
+use Rattle.uc_isa.specs.Straight.{RunsTo, StepsTo, went, going}
 use Rattle.uc_isa.specs.declared.instruction.Instr.{Instr}
 use Rattle.uc_isa.specs.declared.engine.Engine.{Engine}
 use Rattle.uc_isa.specs.declared.engine.Stepped.TheVariants.{Halted}
@@ -27,7 +27,7 @@ went-since code k zero e e' p ws f h r le = absurd (omega arith)
 went-since code k (suc j) e e' p ws f h r le = run-went code j e e' p ws h ∙ r.since j (omega arith)
 
 -- one step
-pub reaches-one : (code : List Instr) (p : Memories) (e e' : Engine) → step code e p ≡ went e' p → Reaches code p 1 e e'
+pub reaches-one : (code : List Instr) (p : Memories) (e e' : Engine) → step code e p ≡ went e' p → StepsTo code p 1 e e'
 reaches-one code p e e' h = record {
   runs = λ k ws f r. let more : suc k ≡ 1 + k = omega arith in
       subst (λ m. RunsTo code m e p ws f) more (record {
@@ -37,7 +37,7 @@ reaches-one code p e e' h = record {
 }
 
 -- one after the other
-pub reaches-then : (code : List Instr) (p : Memories) (n m : ℕ) (e e' e'' : Engine) → Reaches code p n e e' → Reaches code p m e' e'' → Reaches code p (n + m) e e''
+pub reaches-then : (code : List Instr) (p : Memories) (n m : ℕ) (e e' e'' : Engine) → StepsTo code p n e e' → StepsTo code p m e' e'' → StepsTo code p (n + m) e e''
 reaches-then code p n m e e' e'' a b = record {
   runs = λ k ws f r. subst (λ t. RunsTo code t e p ws f) (sym (add_assoc n m k)) (a.runs (m + k) ws f (b.runs k ws f r));
 }

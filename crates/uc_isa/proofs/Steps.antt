@@ -8,7 +8,7 @@ use Rattle.nv_base.specs.declared.outcome.Write.{Write as WriteEvent}
 use Rattle.nv_base.specs.declared.outcome.Outcome.TheVariants as outcome
 use Rattle.nv_base.specs.Memories.{Memories}
 use Rattle.nv_base.specs.Meanings.{FullOutcome, IsOver, IsPrefix, seen, source_writes, is_source_write}
-use Rattle.nv_base.specs.Progress.{Before, Grows, OneMore, IsStepwise}
+use Rattle.nv_base.specs.Progress.{Before, IsMonotone, OneMore, IsStepwise}
 use Rattle.uc_isa.specs.Code.{CodeView}
 use Rattle.uc_isa.specs.Step.{Next, EndsRun, step, step_at, effect, after_read, after_write}
 use Rattle.uc_isa.specs.Engine.{run, continue_run, engine, start, halted, after, stepped_at}
@@ -148,7 +148,7 @@ seen-extends f g (inl same) = inl (ap seen same)
 seen-extends f g (inr more) = inr (more.0, (source_writes more.1.0, ap source_writes more.1.1 ∙ filter-append (λ w. is_source_write w.mem w.at) f.writes more.1.0))
 
 -- with more steps the engine gets at least as far
-pub engine-grows : (c : CodeView) (args : List ℕ) (base : ℕ) (p : Memories) → Grows (engine c args base p)
+pub engine-grows : (c : CodeView) (args : List ℕ) (base : ℕ) (p : Memories) → IsMonotone (engine c args base p)
 engine-grows c args base p = λ i j le.
     let all : i + (j - i) ≡ j = omega arith in
     subst (λ k. Before (engine c args base p i) (engine c args base p k)) all (seen-extends _ _ (run-extends c.list i (j - i) (start args base) p []))

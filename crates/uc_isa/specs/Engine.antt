@@ -66,6 +66,6 @@ abbrev pub after : List Instr → ℕ → Engine → Memories → Next
 after code zero e p = record { stepped = Went; engine = e; packet = p }
 after code (suc m) e p = let n = step code e p in after code m n.engine n.packet
 
--- what the step behind the first m was
+-- what the step after the first m was
 abbrev pub stepped_at : List Instr → ℕ → Engine → Memories → Stepped
 stepped_at code m e p = let n = after code m e p in (step code n.engine n.packet).stepped

@@ -73,7 +73,7 @@ abbrev pub Rule6 : Instr → Type 0
 Rule6 (Halt k n) = n ≤ 8
 Rule6 _ = ⊤
 
--- the engine never goes on to the instruction behind this one
+-- the engine never goes on to the instruction after this one
 abbrev pub IsLast : Instr → Type 0
 IsLast (Halt k n) = ⊤
 IsLast (Br Always target) = ⊤

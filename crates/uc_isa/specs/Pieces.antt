@@ -24,7 +24,7 @@ run_from code m a = run code m a.engine a.packet a.writes
 abbrev pub KeepsAt : List Instr → ℕ → Engine → Type 0
 KeepsAt code base e = KeepsToItsWords base (scratch_access (slice_get code e.place) e)
 
--- so does the access behind the first m steps
+-- so does the access after the first m steps
 abbrev pub KeepsAfter : List Instr → ℕ → ℕ → Moment → Type 0
 KeepsAfter code base m a = KeepsAt code base (after code m a.engine a.packet).engine
 

@@ -31,5 +31,5 @@ pub record RunsTo (code : List Instr) (k : ℕ) (e : Engine) (p : Memories) (ws 
   pub since : (j : ℕ) → k ≤ j → run code j e p ws ≡ f
 
 -- n steps lead from the first engine to the second, and nothing is written
-pub record Reaches (code : List Instr) (p : Memories) (n : ℕ) (e e' : Engine) : Type 0 where
+pub record StepsTo (code : List Instr) (p : Memories) (n : ℕ) (e e' : Engine) : Type 0 where
   pub runs : (k : ℕ) (ws : List WriteEvent) (f : FullOutcome) → RunsTo code k e' p ws f → RunsTo code (n + k) e p ws f

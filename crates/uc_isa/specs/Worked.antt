@@ -37,7 +37,7 @@ moving_code =
     ∷ []
 
 -- one label of weight 1 costs 0 + 1 + 1 + 16 + 16 + 1 + 0, and where the last four stand in a label of weight 10,
--- behind one of weight 2, it is 2 * 18 + 10 * 17; a label without a weight counts once
+-- after one of weight 2, it is 2 * 18 + 10 * 17; a label without a weight counts once
 pub record MovesCost : Type 0 where
   pub plain : moves moving_code [] [] ≡ 35
   pub weighted : moves moving_code (0 ∷ 4 ∷ []) (2 ∷ 10 ∷ []) ≡ 206

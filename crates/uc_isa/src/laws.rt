@@ -3,7 +3,7 @@ ghost use Rattle.std.specs.Prelude.{◌≡◌, ◌+◌, ◌<◌, ◌≤◌, ◌�
 ghost use Rattle.nv_base.specs.Meanings.{AreArguments, IsOver, KeepsOutcomes, Same};
 ghost use Rattle.nv_base.specs.Memories.{HasSizes, Memories};
 ghost use Rattle.nv_base.specs.Words.{IsWord};
-ghost use Rattle.nv_base.specs.Progress.{FollowsAll, FollowsWrites, Grows, IsStepwise};
+ghost use Rattle.nv_base.specs.Progress.{FollowsAll, FollowsWrites, IsMonotone, IsStepwise};
 ghost use Rattle.nv_base.specs.declared.outcome.Outcome.{Outcome};
 ghost use Rattle.nv_base.specs.declared.outcome.Write.{Write};
 ghost use Rattle.uc_isa.specs.Agrees.{Agrees, IsStart, KeepsToItsWords, SourceMeaning, scratch_access};
@@ -11,7 +11,7 @@ ghost use Rattle.uc_isa.specs.Code.{CodeView};
 ghost use Rattle.uc_isa.specs.Engine.{IsEngine, after, engine, halted, run, start, stepped_at};
 ghost use Rattle.uc_isa.specs.Lawful.{IsFirstBroken, IsLawful};
 ghost use Rattle.uc_isa.specs.Step.{EndsRun, step};
-ghost use Rattle.uc_isa.specs.Straight.{Stands, Reaches, RunsTo, went};
+ghost use Rattle.uc_isa.specs.Straight.{Stands, StepsTo, RunsTo, went};
 ghost use Rattle.uc_isa.specs.Worked.{MovesCost, SumRuns};
 ghost use Rattle.uc_isa.specs.declared.engine.Engine.{Engine};
 ghost use Rattle.uc_isa.specs.declared.engine.Stepped.{Stepped};
@@ -33,7 +33,7 @@ pub fn going_where_no_step_ends()
 /// after its writes.
 pub fn engine_follows_its_writes()
     ensures stepwise { (c : CodeView) (args : List ℕ) (base : ℕ) (p : Memories) → IsStepwise (engine c args base p) }
-    ensures grows { (c : CodeView) (args : List ℕ) (base : ℕ) (p : Memories) → Grows (engine c args base p) }
+    ensures grows { (c : CodeView) (args : List ℕ) (base : ℕ) (p : Memories) → IsMonotone (engine c args base p) }
     ensures follows { (c : CodeView) (args : List ℕ) (base : ℕ) (p : Memories) → FollowsAll p (engine c args base p) }
 {}
 
@@ -64,8 +64,8 @@ pub fn parts_of_code()
 
 /// Steps that write nothing follow one another, and a halt is the last one.
 pub fn straight_runs()
-    ensures one { (code : List Instr) (p : Memories) (e e' : Engine) → step code e p ≡ went e' p → Reaches code p 1 e e' }
-    ensures more { (code : List Instr) (p : Memories) (n m : ℕ) (e e' e'' : Engine) → Reaches code p n e e' → Reaches code p m e' e'' → Reaches code p (n + m) e e'' }
+    ensures one { (code : List Instr) (p : Memories) (e e' : Engine) → step code e p ≡ went e' p → StepsTo code p 1 e e' }
+    ensures more { (code : List Instr) (p : Memories) (n m : ℕ) (e e' e'' : Engine) → StepsTo code p n e e' → StepsTo code p m e' e'' → StepsTo code p (n + m) e e'' }
     ensures halt { (code : List Instr) (k : ℕ) (words : List ℕ) (e : Engine) (p : Memories) (ws : List Write) → step code e p ≡ record { stepped = Stepped.Halted k words; engine = e; packet = p } → RunsTo code 1 e p ws (record { outcome = halted k words; packet = p; writes = ws }) }
 {}
 

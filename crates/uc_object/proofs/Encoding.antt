@@ -2,7 +2,7 @@
 use Rattle.std.proofs.Common.{◌≡◌, ℕ, List, ◌++◌, ap, ◌∙◌, append_assoc, length}
 use Rattle.std.specs.Int.{to_le_bytes, w32}
 use Rattle.uc_isa.specs.Code.{IsCode}
-use Rattle.object_bytes.specs.Rows.{IsRow}
+use Rattle.uc_object.specs.Rows.{IsRow}
 use Rattle.uc_object.specs.Tagged.{TaggedView, IsTagged}
 use Rattle.uc_object.specs.Object.{IsException, IsNumber, IsTaggedObject, header_of}
 use Rattle.uc_object.specs.inner.Parts.{Adds}

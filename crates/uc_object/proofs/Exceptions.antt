@@ -5,9 +5,9 @@ use Rattle.std.proofs.lemmas.Bool.Decides.{nat_tests}
 use Rattle.std.proofs.lemmas.List.{take_at, drop_at, get_or_append_left, take-replicate, length-take-le}
 use Rattle.std.proofs.Math.Seq.{take-append-add}
 use Rattle.nv_ast.specs.Name.{Letters, IsWord, IsName}
-use Rattle.object_bytes.specs.declared.column.Column.{Column}
-use Rattle.object_bytes.specs.declared.column.Column.TheVariants.{Between, First, Further}
-use Rattle.object_bytes.specs.Columns.{Allows, Fit, IsFault, IsExceptionFault, exception_columns, name_columns, any}
+use Rattle.uc_object.specs.declared.byte_set.Column.{Column}
+use Rattle.uc_object.specs.declared.byte_set.Column.TheVariants.{Between, First, Further}
+use Rattle.uc_object.specs.Columns.{Allows, Fit, IsFault, IsExceptionFault, exception_columns, name_columns, any}
 use Rattle.uc_object.specs.Object.{IsException}
 use Rattle.uc_object.specs.inner.Parts.{Spells, IsFaultOf}
 use Rattle.uc_object.proofs.Faults.{AllowFillers, fillers, fault-filled, filled-length, fault-within, fault-refuses, fault-misfits, fault-front, fit-front, fit-more, fit-length, fit-take}

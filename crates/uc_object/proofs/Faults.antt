@@ -2,9 +2,9 @@
 use Rattle.std.proofs.Common.{◌≡◌, ℕ, zero, suc, ◌+◌, ◌<◌, ◌≤◌, List, [], ◌∷◌, ◌++◌, length, take, drop, get_or, refl, ap, subst, arith}
 use Rattle.std.proofs.lemmas.List.{drop_more, drop_all}
 use Rattle.std.proofs.lemmas.Bool.Decides.{nat_tests}
-use Rattle.object_bytes.specs.declared.column.Column.{Column}
-use Rattle.object_bytes.specs.declared.column.Column.TheVariants.{Between, Source, Target, First, Further}
-use Rattle.object_bytes.specs.Columns.{Allows, Fit, IsFault, row_columns}
+use Rattle.uc_object.specs.declared.byte_set.Column.{Column}
+use Rattle.uc_object.specs.declared.byte_set.Column.TheVariants.{Between, Source, Target, First, Further}
+use Rattle.uc_object.specs.Columns.{Allows, Fit, IsFault, row_columns}
 
 -- a byte that may not stand in its place is a fault of the rest
 pub fault_here : (cs : List Column) (bs : List ℕ) (i b : ℕ) (d : Column) → i < length cs → i < length bs → get_or bs i 0 ≡ b
@@ -51,7 +51,7 @@ fault-misfits (c ∷ cs) [] at f g = g
 fault-misfits (c ∷ cs) (b ∷ bs) zero f g = f g.0
 fault-misfits (c ∷ cs) (b ∷ bs) (suc at) f g = fault-misfits cs bs at f.1 g.1
 
--- the front of the columns
+-- the prefix of the columns
 pub fit-front : (cs ds : List Column) (bs : List ℕ) → Fit (cs ++ ds) bs → Fit cs bs
 fit-front [] ds bs f = tt
 fit-front (c ∷ cs) ds [] f = absurd f
@@ -132,7 +132,7 @@ pub take-eight : (bs : List ℕ) → 8 ≤ length bs
 take-eight (a ∷ b ∷ c ∷ d ∷ e ∷ f ∷ g ∷ h ∷ bs) l = refl
 take-eight _ l = absurd (omega arith)
 
--- the bytes of a row that fits, at the front of others
+-- the bytes of a row that fits, at the prefix of others
 pub fit-eight : (bs : List ℕ) → Fit (row_columns (get_or bs 0 0) (get_or bs 1 0)) bs
     → Fit (row_columns (get_or bs 0 0) (get_or bs 1 0)) (get_or bs 0 0 ∷ get_or bs 1 0 ∷ get_or bs 2 0 ∷ get_or bs 3 0 ∷ get_or bs 4 0 ∷ get_or bs 5 0 ∷ get_or bs 6 0 ∷ get_or bs 7 0 ∷ [])
 fit-eight bs f =

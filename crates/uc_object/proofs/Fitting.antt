@@ -17,9 +17,9 @@ use Rattle.uc_isa.specs.declared.instruction.Cond.{Cond}
 use Rattle.uc_isa.specs.declared.instruction.Cond.TheVariants.{Always, Z, NZ, C, NC}
 use Rattle.uc_isa.specs.declared.instruction.Instr.{Instr}
 use Rattle.uc_isa.specs.declared.instruction.Instr.TheVariants.{Alu, Un, Immed, Br, Read, Write, Halt}
-use Rattle.object_bytes.specs.Rows.{IsRow, IsSource, IsTarget, IsAddress, IsByte, shift_count, number_of_unary, number_of_binary, number_of_condition, number_of_memory}
-use Rattle.object_bytes.specs.Columns.{Fit, row_columns, Allows, only, any}
-use Rattle.object_bytes.specs.declared.column.Column.TheVariants.{Source, Target}
+use Rattle.uc_object.specs.Rows.{IsRow, IsSource, IsTarget, IsAddress, IsByte, shift_count, number_of_unary, number_of_binary, number_of_condition, number_of_memory}
+use Rattle.uc_object.specs.Columns.{Fit, row_columns, Allows, only, any}
+use Rattle.uc_object.specs.declared.byte_set.Column.TheVariants.{Source, Target}
 use Rattle.uc_object.proofs.Reader.{source_of-is, target_of-is, address_of-is, binary_of-is, unary_of, unary_of-is, condition_of-is, memory_of-is}
 use Rattle.uc_object.proofs.Reading.{alu-row, un-row, immed-row, br-row, read-row, write-row, halt-row}
 use Rattle.uc_object.proofs.Single.{instruction_of}

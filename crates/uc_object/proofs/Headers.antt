@@ -5,8 +5,8 @@ use Rattle.std.proofs.lemmas.Bool.Decides.{nat_tests}
 use Rattle.std.proofs.lemmas.Bool.{cases_lt}
 use Rattle.uc_object.specs.Object.{header_of}
 use Rattle.uc_object.specs.inner.Header.{HasHeader}
-use Rattle.object_bytes.specs.Columns.{Fit, header_columns}
-use Rattle.object_bytes.specs.declared.column.Column.{Column}
+use Rattle.uc_object.specs.Columns.{Fit, header_columns}
+use Rattle.uc_object.specs.declared.byte_set.Column.{Column}
 use Rattle.uc_object.proofs.Faults.{fit-length}
 use Rattle.uc_object.proofs.Numbers.{number-same}
 use Rattle.uc_object.proofs.Reading.{four_bytes}

@@ -1,11 +1,11 @@
--- What is left of an object behind each of its parts, and where bytes leave it.
+-- What is left of an object after each of its parts, and where bytes leave it.
 use Rattle.std.proofs.Common.{◌≡◌, ℕ, ◌+◌, ◌<◌, ◌≤◌, ◌^◌, List, [], ◌∷◌, ◌++◌, refl, ap, sym, ◌∙◌, subst, drop, length, arith, length-append, length-drop}
 use Rattle.std.specs.Int.{to_le_bytes, w32}
 use Rattle.std.specs.List.{All}
 use Rattle.std.proofs.lemmas.List.Elements.{All-nil, All-cons}
 use Rattle.std.proofs.lemmas.List.{append-nil}
 use Rattle.uc_isa.specs.declared.instruction.Instr.{Instr}
-use Rattle.object_bytes.specs.Rows.{IsRow}
+use Rattle.uc_object.specs.Rows.{IsRow}
 use Rattle.uc_object.specs.Object.{AreEach, IsNumber, IsException, IsCodeObject, IsTaggedObject, IsSomeObject, IsBadPlace, header_of}
 use Rattle.uc_object.specs.declared.object.Object.TheVariants.{One, Two}
 use Rattle.uc_object.specs.inner.Header.{HasHeader}
@@ -75,7 +75,7 @@ counts-some n x some =
     let rest = rows-some n x 0 some in
     (to_le_bytes w32 0 ++ rest.0, (0, to_le_bytes w32 0, rest.0, refl, (omega arith, refl), rest.1))
 
--- behind a header of version 1
+-- after a header of version 1
 code-on : (p n : ℕ) (s : List ℕ) → n < 2 ^ 31 → IsSomeObject (header_of 49 p n ++ s) → CodeLeft n s
 code-on p n s few (One c, o) =
     let less = o.code.few in
@@ -100,7 +100,7 @@ code-back : (p n : ℕ) (s : List ℕ) → p ≤ 8 → 1 ≤ n → n < 2 ^ 31 �
 code-back p n s hp some few w =
     (One (record { params = p; list = w.0 }), code-object p n s w.0 w.1 hp some few w.4 (w.3 ∙ ap (λ x. w.1 ++ x) w.5 ∙ append-nil w.1))
 
--- behind a header of version 2
+-- after a header of version 2
 tagged-on : (p n : ℕ) (s : List ℕ) → n < 2 ^ 31 → IsSomeObject (header_of 50 p n ++ s) → TaggedLeft n s
 tagged-on p n s few (One c, o) =
     let less = o.code.few in
@@ -218,7 +218,7 @@ decides-tagged p n bytes h k bad =
     (subst (λ x. IsBadIn IsSomeObject x (12 + k)) (sym h.layout)
     (behind IsSomeObject (TaggedLeft n) (header_of 50 p n) (drop 12 bytes) k (λ s. tagged-on p n s h.few) (λ s. tagged-back p n s h.arguments h.some h.few) bad))
 
--- behind a number
+-- after a number
 pub decides-number : (bound v start : ℕ) (After : ℕ → List ℕ → Type 0) (bytes : List ℕ) → bound ≤ 2 ^ 32 → v < bound → drop start bytes ≡ to_le_bytes w32 v ++ drop (start + 4) bytes
     → Decides (Then (IsNumber bound) After) bytes start → Decides (After v) bytes (start + 4)
 decides-number bound v start After bytes few less e h k bad =
@@ -244,7 +244,7 @@ pub decides-fault : {T : Type 0} (Is After : T → List ℕ → Type 0) (start a
     → at ≡ start + k → IsFaultOf (Spells Is) (drop start bytes) k → IsBadPlace bytes at
 decides-fault Is After start at k bytes h goes e f = subst (IsBadPlace bytes) (sym e) (h k (part-bad Is After (drop start bytes) k goes f))
 
--- bytes behind the end
+-- bytes after the end
 pub decides-end : (end : ℕ) (bytes : List ℕ) → Decides IsEnd bytes end → end < length bytes → IsBadPlace bytes end
 decides-end end bytes h more =
     let some : 0 < length (drop end bytes) = omega (arith, length-drop end bytes) in

@@ -17,7 +17,7 @@ pub record IsBadIn (Form : List ℕ → Type 0) (bytes : List ℕ) (at : ℕ) : 
   pub here : at < length bytes → ¬ Begins Form (take (at + 1) bytes)
   pub short : at ≡ length bytes → ¬ Form bytes
 
--- a part, and behind it what depends on it
+-- a part, and after it what depends on it
 abbrev pub Then : {T : Type 0} → (T → List ℕ → Type 0) → (T → List ℕ → Type 0) → List ℕ → Type 0
 Then {T} Is After bytes = (x : T) × (a : List ℕ) × (b : List ℕ) × (bytes ≡ a ++ b) × Is x a × After x b
 
@@ -61,7 +61,7 @@ behind Form Left front rest k on back h =
       short = λ ends b. h.short (omega (arith, size)) (on rest b);
     }
 
--- behind the part
+-- after the part
 pub rest-bad : {T : Type 0} (Is After : T → List ℕ → Type 0) (x : T) (a rest : List ℕ) (k : ℕ) → IsPrefixCode Is → Is x a
     → IsBadIn (After x) rest k → IsBadIn (Then Is After) (a ++ rest) (length a + k)
 rest-bad Is After x a rest k code i h = behind (Then Is After) (After x) a rest k
@@ -71,7 +71,7 @@ rest-bad Is After x a rest k code i h = behind (Then Is After) (After x) a rest 
     (λ s w. (x, a, s, refl, i, w))
     h
 
--- bytes behind the end
+-- bytes after the end
 pub end-bad : (bytes : List ℕ) → 0 < length bytes → IsBadIn IsEnd bytes 0
 end-bad [] h = absurd (omega arith)
 end-bad (b ∷ bytes) h = record {

@@ -5,14 +5,14 @@ use Rattle.std.proofs.lemmas.Bool.Decides.{nat_tests}
 use Rattle.std.proofs.lemmas.Bool.{cases_lt}
 use Rattle.std.proofs.lemmas.List.Elements.{All-nil}
 use Rattle.std.proofs.lemmas.List.{drop_at, append-nil}
-use Rattle.object_bytes.specs.declared.column.Column.{Column}
-use Rattle.object_bytes.specs.declared.column.Column.TheVariants.{Between}
-use Rattle.object_bytes.specs.Rows.{IsRow}
+use Rattle.uc_object.specs.declared.byte_set.Column.{Column}
+use Rattle.uc_object.specs.declared.byte_set.Column.TheVariants.{Between}
+use Rattle.uc_object.specs.Rows.{IsRow}
 use Rattle.uc_object.specs.Object.{IsObject, BeginsObject, IsBadPlace, header_of}
 use Rattle.uc_object.specs.declared.object.Object.{Object}
 use Rattle.uc_object.specs.declared.object.Object.TheVariants.{One, Two}
 use Rattle.uc_object.specs.inner.Header.{HasHeader}
-use Rattle.object_bytes.specs.Columns.{Fit, IsHeaderFault, header_columns, only, any}
+use Rattle.uc_object.specs.Columns.{Fit, IsHeaderFault, header_columns, only, any}
 use Rattle.uc_object.proofs.Faults.{AllowFillers, fillers, fault-filled, filled-length, fault-within, fault-refuses, fault-misfits, fault-front, fit-front, fit-append}
 use Rattle.uc_object.proofs.Headers.{FitsHeader, fits-header, has-fits}
 use Rattle.uc_object.proofs.Rows.{zero_instruction, zeros, zeros-row}
@@ -62,7 +62,7 @@ header-goes v p n (inr two) hp some few =
           },
     )
 
--- bytes that are the front of a header begin an object
+-- bytes that are the prefix of a header begin an object
 header-begins : (front fill : List ℕ) → length (front ++ fill) ≡ 12 → FitsHeader (front ++ fill) → BeginsObject front
 header-begins front fill l f =
     let whole = front ++ fill in

@@ -1,14 +1,14 @@
--- What was read of an object, and where the bytes behind it go wrong.
+-- What was read of an object, and where the bytes after it go wrong.
 use Rattle.std.proofs.Common.{◌≡◌, ℕ, ◌+◌, ◌<◌, ◌≤◌, ◌^◌, List, [], ◌++◌, refl, ap, sym, ◌∙◌, subst, take, drop, length, arith, Result, Err}
 use Rattle.std.specs.Int.{to_le_bytes, w32}
 use Rattle.std.proofs.lemmas.List.{append-nil, drop-drop, drop_at, take-append-drop, drop_all}
 use Rattle.uc_isa.specs.declared.instruction.Instr.{Instr}
-use Rattle.object_bytes.specs.Rows.{IsRow}
+use Rattle.uc_object.specs.Rows.{IsRow}
 use Rattle.uc_object.specs.Object.{IsNumber, IsException, IsCodeObject, IsTaggedObject, IsBadPlace}
 use Rattle.uc_object.specs.declared.error.ObjectError.{ObjectError}
 use Rattle.uc_object.specs.declared.error.ObjectError.TheVariants.{Bad}
 use Rattle.uc_object.specs.inner.Header.{HasHeader, HasCounts}
-use Rattle.uc_object.specs.inner.Parts.{Spells, Many, Has, IsFaultOf, IsFaultBehind}
+use Rattle.uc_object.specs.inner.Parts.{Spells, Many, Has, IsFaultOf, IsFaultAfter}
 use Rattle.uc_object.proofs.Leaving.{IsEnd}
 use Rattle.uc_object.proofs.Exceptions.{exception-code}
 use Rattle.uc_object.proofs.Numbers.{number-code}
@@ -29,7 +29,7 @@ pub exceptions-count-bad : (p n at k : ℕ) (bytes : List ℕ) → HasHeader byt
 exceptions-count-bad p n at k bytes h e f =
     decides-fault (IsNumber 65536) (λ x. StartCountLeft n x) 12 at k bytes (decides-tagged p n bytes h) (λ x a is. counts-some n x h.some) e f
 
--- what is left behind it
+-- what is left after it
 starts-decide : (p n x : ℕ) (bytes : List ℕ) → HasHeader bytes 50 p n (drop 12 bytes) → x < 65536 → drop 12 bytes ≡ to_le_bytes w32 x ++ drop 16 bytes → Decides (StartCountLeft n x) bytes 16
 starts-decide p n x bytes h less e = decides-number 65536 x 12 (λ y. StartCountLeft n y) bytes (omega arith) less e (decides-tagged p n bytes h)
 
@@ -54,35 +54,35 @@ rows-decide p n x k bytes h counts =
     let first : drop 12 bytes ≡ to_le_bytes w32 x ++ drop 16 bytes = counts.layout ∙ ap (λ y. to_le_bytes w32 x ++ y) (sym second) in
     decides-number 1048577 k 16 (λ y. RowsLeft n x y) bytes (omega arith) counts.few_starts second (starts-decide p n x bytes h counts.few_exceptions first)
 
-pub rows-bad : (p n x k at : ℕ) (bytes : List ℕ) → HasHeader bytes 50 p n (drop 12 bytes) → HasCounts bytes x k → IsFaultBehind IsRow n bytes 20 at → IsBadPlace bytes at
+pub rows-bad : (p n x k at : ℕ) (bytes : List ℕ) → HasHeader bytes 50 p n (drop 12 bytes) → HasCounts bytes x k → IsFaultAfter IsRow n bytes 20 at → IsBadPlace bytes at
 rows-bad p n x k at bytes h counts f =
     decides-fault (Many IsRow n) (λ rows. ExceptionsLeft n x k) 20 at f.0 bytes (rows-decide p n x k bytes h counts) (λ rows a is. exceptions-some n x k h.some) f.1 f.2
 
--- behind the instructions
+-- after the instructions
 pub exceptions-decide : (p n x k end : ℕ) (list : List Instr) (bytes : List ℕ) → HasHeader bytes 50 p n (drop 12 bytes) → HasCounts bytes x k → end ≤ length bytes → Has IsRow n list (drop 20 bytes) (drop end bytes)
     → Decides (ExceptionsLeft n x k) bytes end
 exceptions-decide p n x k end list bytes h counts inside has =
     decides-many IsRow (ExceptionsLeft n x k) n 20 end list bytes row-code counts.long inside has (rows-decide p n x k bytes h counts)
 
-pub exceptions-bad : (n x k end at : ℕ) (bytes : List ℕ) → 1 ≤ n → Decides (ExceptionsLeft n x k) bytes end → IsFaultBehind IsException x bytes end at → IsBadPlace bytes at
+pub exceptions-bad : (n x k end at : ℕ) (bytes : List ℕ) → 1 ≤ n → Decides (ExceptionsLeft n x k) bytes end → IsFaultAfter IsException x bytes end at → IsBadPlace bytes at
 exceptions-bad n x k end at bytes some decide f =
     decides-fault (Many IsException x) (λ exceptions. StartsLeft n k) end at f.0 bytes decide (λ exceptions a is. starts-some n k some) f.1 f.2
 
--- behind the exceptions
+-- after the exceptions
 pub starts-left : (n x k start end : ℕ) (exceptions : List (ℕ × List ℕ)) (bytes : List ℕ) → start ≤ length bytes → end ≤ length bytes → Has IsException x exceptions (drop start bytes) (drop end bytes)
     → Decides (ExceptionsLeft n x k) bytes start → Decides (StartsLeft n k) bytes end
 starts-left n x k start end exceptions bytes in_start in_end has decide = decides-many IsException (StartsLeft n k) x start end exceptions bytes exception-code in_start in_end has decide
 
-pub starts-bad : (n k end at : ℕ) (bytes : List ℕ) → Decides (StartsLeft n k) bytes end → IsFaultBehind (IsNumber n) k bytes end at → IsBadPlace bytes at
+pub starts-bad : (n k end at : ℕ) (bytes : List ℕ) → Decides (StartsLeft n k) bytes end → IsFaultAfter (IsNumber n) k bytes end at → IsBadPlace bytes at
 starts-bad n k end at bytes decide f = decides-fault (Many (IsNumber n) k) (λ starts. IsEnd) end at f.0 bytes decide (λ starts a is. ([], refl)) f.1 f.2
 
--- behind the starts
+-- after the starts
 pub end-left : (n k start end : ℕ) (starts bytes : List ℕ) → n < 2 ^ 31 → start ≤ length bytes → end ≤ length bytes → Has (IsNumber n) k starts (drop start bytes) (drop end bytes)
     → Decides (StartsLeft n k) bytes start → Decides IsEnd bytes end
 end-left n k start end starts bytes few in_start in_end has decide = decides-many (IsNumber n) IsEnd k start end starts bytes (number-code n (omega arith)) in_start in_end has decide
 
 -- all of version 1
-pub code-rows-bad : (p n at : ℕ) (bytes : List ℕ) → HasHeader bytes 49 p n (drop 12 bytes) → IsFaultBehind IsRow n bytes 12 at → IsBadPlace bytes at
+pub code-rows-bad : (p n at : ℕ) (bytes : List ℕ) → HasHeader bytes 49 p n (drop 12 bytes) → IsFaultAfter IsRow n bytes 12 at → IsBadPlace bytes at
 code-rows-bad p n at bytes h f = decides-fault (Many IsRow n) (λ rows. IsEnd) 12 at f.0 bytes (decides-code p n bytes h) (λ rows a is. ([], refl)) f.1 f.2
 
 pub code-end-bad : (p n end : ℕ) (list : List Instr) (bytes : List ℕ) → HasHeader bytes 49 p n (drop 12 bytes) → 12 ≤ length bytes → end < length bytes → Has IsRow n list (drop 12 bytes) (drop end bytes) → IsBadPlace bytes end

@@ -15,9 +15,9 @@ use Rattle.uc_isa.specs.declared.instruction.UnOp.{UnOp}
 use Rattle.uc_isa.specs.declared.instruction.UnOp.TheVariants.{Copy, Not, Shl, Shr, Rol}
 use Rattle.uc_isa.specs.declared.instruction.Cond.{Cond}
 use Rattle.uc_isa.specs.declared.instruction.Cond.TheVariants.{Always, Z, NZ, C, NC}
-use Rattle.object_bytes.specs.Rows.{IsSource, IsTarget, IsAddress, number_of_binary, number_of_unary, number_of_condition, number_of_memory, shift_count}
-use Rattle.object_bytes.specs.Columns.{Allows}
-use Rattle.object_bytes.specs.declared.column.Column.TheVariants.{Source, Target}
+use Rattle.uc_object.specs.Rows.{IsSource, IsTarget, IsAddress, number_of_binary, number_of_unary, number_of_condition, number_of_memory, shift_count}
+use Rattle.uc_object.specs.Columns.{Allows}
+use Rattle.uc_object.specs.declared.byte_set.Column.TheVariants.{Source, Target}
 
 -- the operand of a byte
 abbrev pub source_of : ℕ → Src

@@ -11,8 +11,8 @@ use Rattle.uc_isa.specs.declared.instruction.UnOp.{UnOp}
 use Rattle.uc_isa.specs.declared.instruction.Cond.{Cond}
 use Rattle.uc_isa.specs.declared.instruction.Instr.{Instr}
 use Rattle.uc_isa.specs.declared.instruction.Instr.TheVariants.{Alu, Un, Immed, Br, Read, Write, Halt}
-use Rattle.object_bytes.specs.Rows.{IsSource, IsTarget, IsAddress, IsRow, number_of_binary, number_of_unary, number_of_condition, number_of_memory, shift_count}
-use Rattle.object_bytes.specs.Columns.{Fit, row_columns}
+use Rattle.uc_object.specs.Rows.{IsSource, IsTarget, IsAddress, IsRow, number_of_binary, number_of_unary, number_of_condition, number_of_memory, shift_count}
+use Rattle.uc_object.specs.Columns.{Fit, row_columns}
 
 each_of_two : (a b : ℕ) → a < 256 → b < 256 → (i : ℕ) → get_or (a ∷ b ∷ []) i 0 < 256
 each_of_two a b ha hb zero = ha

@@ -2,9 +2,9 @@
 use Rattle.std.proofs.Common.{◌≡◌, ℕ, zero, suc, ◌<◌, ◌≤◌, List, [], ◌∷◌, ◌++◌, Bool, true, false, refl, ap, sym, ◌∙◌, subst, add-one, length-append, take, drop, length, get_or, arith, if◌then◌else◌}
 use Rattle.std.proofs.lemmas.List.{take-append-drop, take_at}
 use Rattle.uc_isa.specs.declared.instruction.Instr.{Instr}
-use Rattle.object_bytes.specs.declared.column.Column.{Column}
-use Rattle.object_bytes.specs.Rows.{IsRow}
-use Rattle.object_bytes.specs.Columns.{Fit, IsRowFault, row_columns}
+use Rattle.uc_object.specs.declared.byte_set.Column.{Column}
+use Rattle.uc_object.specs.Rows.{IsRow}
+use Rattle.uc_object.specs.Columns.{Fit, IsRowFault, row_columns}
 use Rattle.uc_object.specs.inner.Parts.{Spells, IsFaultOf}
 use Rattle.uc_object.proofs.Faults.{AllowFillers, fillers, fault-filled, filled-length, fault-within, fault-refuses, fit-more, row_columns-length}
 use Rattle.uc_object.proofs.Fitting.{FitsRow, row-fits, fit-row}
@@ -15,7 +15,7 @@ either : (P : List Column → Type 0) (b : Bool) (xs ys : List Column) → P xs 
 either P true xs ys h k = h
 either P false xs ys h k = k
 
--- any row goes on with zeros behind its kind
+-- any row goes on with zeros after its kind
 abbrev seven : List ℕ
 seven = 0 ∷ 0 ∷ 0 ∷ 0 ∷ 0 ∷ 0 ∷ 0 ∷ []
 
@@ -26,7 +26,7 @@ zeros-fit kind h = grind (arith)
 row-fillers : (kind operation : ℕ) → AllowFillers (row_columns kind operation)
 row-fillers kind operation = grind (arith)
 
--- a row that goes on as far as a fault and otherwise behind it
+-- a row that goes on as far as a fault and otherwise after it
 abbrev pub Completes : List ℕ → Type 0
 Completes front = (rest : List ℕ) × FitsRow (front ++ rest)
 

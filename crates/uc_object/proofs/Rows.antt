@@ -6,7 +6,7 @@ use Rattle.uc_isa.specs.declared.instruction.Instr.TheVariants.{Alu}
 use Rattle.uc_isa.specs.declared.instruction.Src.TheVariants as src
 use Rattle.uc_isa.specs.declared.instruction.Dst.TheVariants as dst
 use Rattle.nv_base.specs.declared.term.Bin.TheVariants.{Add}
-use Rattle.object_bytes.specs.Rows.{IsRow}
+use Rattle.uc_object.specs.Rows.{IsRow}
 use Rattle.uc_object.proofs.Fitting.{row-fits}
 use Rattle.uc_object.proofs.Single.{row-one}
 use Rattle.uc_object.proofs.Together.{IsPrefixCode}

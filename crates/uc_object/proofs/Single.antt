@@ -4,7 +4,7 @@ use Rattle.std.specs.Int.{from_le_bytes, w16, w32}
 use Rattle.std.proofs.lemmas.Nat.{from_le_bytes-to_le_bytes_2, from_le_bytes-to_le_bytes_4}
 use Rattle.uc_isa.specs.declared.instruction.Instr.{Instr}
 use Rattle.uc_isa.specs.declared.instruction.Instr.TheVariants.{Alu, Un, Immed, Br, Read, Write, Halt}
-use Rattle.object_bytes.specs.Rows.{IsRow}
+use Rattle.uc_object.specs.Rows.{IsRow}
 use Rattle.uc_object.proofs.Reader.{source_of, source_of-one, target_of, target_of-one, address_of, address_of-one, binary_of, binary_of-one, unary_of, unary_of-one, condition_of, condition_of-one, memory_of, memory_of-one}
 
 -- the instruction of a row

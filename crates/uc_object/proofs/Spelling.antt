@@ -9,7 +9,7 @@ use Rattle.uc_isa.specs.declared.instruction.Gpr.{Gpr}
 use Rattle.uc_isa.specs.declared.instruction.Gpr.TheVariants as gpr
 use Rattle.uc_isa.specs.declared.instruction.Instr.{Instr}
 use Rattle.uc_isa.specs.declared.instruction.Instr.TheVariants.{Alu, Un, Immed, Br, Read, Write, Halt}
-use Rattle.object_bytes.specs.Rows.{IsSource, IsTarget, IsAddress, IsRow}
+use Rattle.uc_object.specs.Rows.{IsSource, IsTarget, IsAddress, IsRow}
 use Rattle.uc_object.specs.Tagged.{TaggedView}
 use Rattle.uc_object.specs.Object.{AreEach, IsNumber, IsException, IsObject, header_of}
 use Rattle.uc_object.specs.declared.object.Object.{Object}

@@ -1,9 +1,9 @@
--- Forms of bytes, one behind another, and where bytes leave them.
+-- Forms of bytes, one after another, and where bytes leave them.
 use Rattle.std.proofs.Common.{◌≡◌, ℕ, zero, suc, ◌+◌, ◌-◌, ◌<◌, ◌≤◌, List, [], ◌∷◌, ◌++◌, refl, ap, sym, ◌∙◌, subst, append_assoc, take, drop, length, arith, length-append, length-drop}
 use Rattle.std.proofs.Math.Seq.{take-append-add}
 use Rattle.std.proofs.lemmas.List.{append-nil, take-append-drop, drop-drop}
 use Rattle.uc_object.specs.Object.{AreEach}
-use Rattle.uc_object.specs.inner.Parts.{Spells, Many, Has, Adds, IsFaultOf, IsFaultBehind}
+use Rattle.uc_object.specs.inner.Parts.{Spells, Many, Has, Adds, IsFaultOf, IsFaultAfter}
 
 -- bytes that begin with a thing begin with no other, and go on in one way
 abbrev pub IsPrefixCode : {T : Type 0} → (T → List ℕ → Type 0) → Type 0
@@ -72,7 +72,7 @@ module _ {T : Type 0} (Is : T → List ℕ → Type 0) where
       let s = each-split i xs h.1 (omega arith) h.4 in
       (x ∷ s.0, s.1, h.0 ++ s.2, s.3, s.4, ap suc s.5, (h.0, s.2, refl, h.3, s.6), s.7, h.2 ∙ ap (λ z. h.0 ++ z) s.8 ∙ sym (append_assoc h.0 s.2 (s.3 ++ s.4)))
 
-  -- so many things behind which one has a fault
+  -- so many things after which one has a fault
   pub many-fault : IsPrefixCode Is → (z : T) (zb : List ℕ) → Is z zb → (n i k : ℕ) (xs : List T) (bytes rest : List ℕ) → i < n → Has Is i xs bytes rest → IsFaultOf (Spells Is) rest k
       → (m : ℕ) × (m + length rest ≡ length bytes) × IsFaultOf (Spells (Many Is n)) bytes (m + k)
   many-fault code z zb hz n i k xs bytes rest less h f =
@@ -128,7 +128,7 @@ module _ {T : Type 0} (Is : T → List ℕ → Type 0) where
   pub adds-append : (xs ys : List T) (old mid new : List ℕ) → Adds Is xs old mid → Adds Is ys mid new → Adds Is (xs ++ ys) old new
   adds-append xs ys old mid new h k = (h.0 ++ k.0, k.1 ∙ ap (λ s. s ++ k.0) h.1 ∙ append_assoc old h.0 k.0, each-append xs ys h.0 k.0 h.2 k.2)
 
-  -- one thing more, of so many bytes
+  -- one thing more, of N bytes
   pub has-step : (n start end size : ℕ) (xs : List T) (x : T) (bytes : List ℕ) → Has Is n xs (drop start bytes) (drop end bytes) → Is x (take size (drop end bytes))
       → Has Is (n + 1) (xs ++ x ∷ []) (drop start bytes) (drop (end + size) bytes)
   has-step n start end size xs x bytes h i =
@@ -136,7 +136,7 @@ module _ {T : Type 0} (Is : T → List ℕ → Type 0) where
       (sym (take-append-drop size (drop end bytes)) ∙ ap (λ s. take size (drop end bytes) ++ s) (drop-drop size end bytes))
 
   pub fault-behind : IsPrefixCode Is → (z : T) (zb : List ℕ) → Is z zb → (n i k start end at : ℕ) (xs : List T) (bytes : List ℕ) → start ≤ length bytes → end ≤ length bytes → i < n
-      → Has Is i xs (drop start bytes) (drop end bytes) → IsFaultOf (Spells Is) (drop end bytes) k → at ≡ end + k → IsFaultBehind Is n bytes start at
+      → Has Is i xs (drop start bytes) (drop end bytes) → IsFaultOf (Spells Is) (drop end bytes) k → at ≡ end + k → IsFaultAfter Is n bytes start at
   fault-behind code z zb hz n i k start end at xs bytes in_start in_end less h f e =
       let many = many-fault code z zb hz n i k xs (drop start bytes) (drop end bytes) less h f in
       (many.0 + k, omega (arith, many.1, length-drop start bytes, length-drop end bytes, e), many.2)

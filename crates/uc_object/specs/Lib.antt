@@ -1,3 +1,5 @@
+pub mod Rows
+pub mod Columns
 pub mod Tagged
 pub mod Object
 pub mod Worked

@@ -3,12 +3,12 @@ use Rattle.std.specs.Prelude.{◌≡◌, ℕ, zero, suc, ◌+◌, ◌<◌, ◌�
 use Rattle.std.specs.Int.{to_le_bytes, w32}
 use Rattle.nv_ast.specs.Name.{IsName}
 use Rattle.uc_isa.specs.Code.{CodeView, IsCode}
-use Rattle.object_bytes.specs.Rows.{IsRow}
+use Rattle.uc_object.specs.Rows.{IsRow}
 use Rattle.uc_object.specs.Tagged.{TaggedView, IsTagged}
 use Rattle.uc_object.specs.declared.object.Object.{Object}
 use Rattle.uc_object.specs.declared.object.Object.TheVariants.{One, Two}
 
--- the bytes of things, one behind another
+-- the bytes of things, one after another
 abbrev pub AreEach : {T : Type 0} → (T → List ℕ → Type 0) → List T → List ℕ → Type 0
 AreEach Is [] bytes = bytes ≡ []
 AreEach Is (x ∷ xs) bytes = (part : List ℕ) × (rest : List ℕ) × (bytes ≡ part ++ rest) × Is x part × AreEach Is xs rest

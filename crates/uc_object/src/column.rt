@@ -1,8 +1,8 @@
 // Where bytes first don't fit their places.
 ghost use Rattle.std.specs.Prelude.{◌≡◌, slice_index, IfSome, IfNone};
-ghost use Rattle.object_bytes.specs.Columns.{Fit, IsFault};
+ghost use Rattle.uc_object.specs.Columns.{Fit, IsFault};
 
-use object_bytes::Column;
+use crate::byte_set::Column;
 
 // The first place whose byte isn't there or may not stand there.
 pub fn first_fault(columns: &[Column], bytes: &[u8]) -> Option<usize>

@@ -4,11 +4,11 @@ ghost use Rattle.uc_object.specs.Object.{IsObject, IsBadPlace};
 ghost use Rattle.uc_object.specs.declared.object.Object.{Object as AnObject};
 ghost use Rattle.uc_object.specs.inner.Header.{HasHeader, HasCounts};
 
+use crate::byte_set::header_columns;
 use crate::column::{byte_at, first_fault};
 use crate::number::number_below;
 use crate::parts::{exceptions, instructions, starts};
 use crate::{Object, ObjectError, Tagged};
-use object_bytes::header_columns;
 use std::alloc::Global;
 use uc_isa::{Code, Dst, Gpr, Src};
 
@@ -28,7 +28,7 @@ struct Header {
     count: u32,
 }
 
-// The numbers behind the header of version 2.
+// The numbers after the header of version 2.
 #[derive(Clone, Copy)]
 struct Counts {
     exceptions: u32,
@@ -103,7 +103,7 @@ fn read_counts(header: Header, bytes: &[u8]) -> Result<Counts, ObjectError>
     }
 }
 
-// The code behind a header of version 1.
+// The code after a header of version 1.
 fn read_code(alloc: Global, header: Header, bytes: &[u8]) -> Result<Object, ObjectError>
     requires size { length bytes.now < 2 ^ 32 }
     requires length { 12 ≤ length bytes.now }
@@ -119,7 +119,7 @@ fn read_code(alloc: Global, header: Header, bytes: &[u8]) -> Result<Object, Obje
     Ok(Object::One(Code::new(header.params, list)))
 }
 
-// The code, the exceptions and the starts behind the numbers of version 2.
+// The code, the exceptions and the starts after the numbers of version 2.
 fn read_tagged(
     alloc: Global,
     header: Header,
@@ -142,7 +142,7 @@ fn read_tagged(
     Ok(Object::Two(Tagged::new(code, exceptions, starts)))
 }
 
-// Refuses bytes behind the end.
+// Refuses bytes after the end.
 fn check_end(bytes: &[u8], end: usize) -> Result<(), ObjectError>
     requires size { length bytes.now < 2 ^ 32 }
     requires inside { end ≤ length bytes.now }

@@ -1,12 +1,12 @@
 // Objects as bytes.
 ghost use Rattle.std.specs.Prelude.{◌≡◌, ◌<◌, ◌∷◌, [], ℕ, All, IfOk, OnOk};
-ghost use Rattle.object_bytes.specs.Rows.{IsRow, IsSource, IsAddress, number_of_binary, number_of_unary, shift_count, number_of_condition, number_of_memory};
+ghost use Rattle.uc_object.specs.Rows.{IsRow, IsSource, IsAddress, number_of_binary, number_of_unary, shift_count, number_of_condition, number_of_memory};
 ghost use Rattle.uc_object.specs.Object.{IsObject, IsCodeObject, IsTaggedObject, IsException, IsNumber, header_of};
 ghost use Rattle.uc_object.specs.inner.Parts.{Adds};
 
+use crate::bytes::{halt_row, target_byte};
 use crate::{Object, Tag, Tagged};
 use nv_base::{Bin, Mem, NoMemory};
-use object_bytes::{halt_row, target_byte};
 use std::alloc::{AllocError, Global};
 use uc_isa::{Code, Cond, Dst, Gpr, Instr, Src, UnOp};
 

@@ -1,8 +1,8 @@
 // The parts of an instruction, from bytes that may stand in their places.
 ghost use Rattle.std.specs.Prelude.{◌≡◌, ◌<◌, ◌≤◌, slice_index};
-ghost use Rattle.object_bytes.specs.Rows.{IsRow, IsSource, IsTarget, IsAddress, number_of_binary, number_of_unary, number_of_condition, number_of_memory, shift_count};
-ghost use Rattle.object_bytes.specs.Columns.{Allows, Fit, row_columns};
-ghost use Rattle.object_bytes.specs.declared.column.Column.{Column};
+ghost use Rattle.uc_object.specs.Rows.{IsRow, IsSource, IsTarget, IsAddress, number_of_binary, number_of_unary, number_of_condition, number_of_memory, shift_count};
+ghost use Rattle.uc_object.specs.Columns.{Allows, Fit, row_columns};
+ghost use Rattle.uc_object.specs.declared.byte_set.Column.{Column};
 
 use nv_base::{Bin, Mem};
 use uc_isa::{Cond, Dst, Gpr, Instr, RegA, RegB, RegL, RegLD, RegS, RegSD, Src, UnOp};

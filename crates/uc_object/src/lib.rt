@@ -1,7 +1,9 @@
-//! Objects: code as bytes. An object is a header and eight bytes for each instruction; of version 2 also the names of the
-//! exceptions and the starts of the labels. What it holds has one spelling, and it decodes whether the code is lawful or not.
+//! Objects: code as bytes. An object is a header and eight bytes for each instruction; in version 2 also the names of the
+//! exceptions and the starts of the labels. Each object has one spelling. It decodes whether its code is lawful or not.
 #![tactic(auto)]
 
+mod byte_set;
+mod bytes;
 mod column;
 mod decoder;
 mod encoder;
@@ -12,6 +14,8 @@ mod number;
 mod object;
 mod parts;
 
+pub use byte_set::{Column, exception_columns, header_columns, row_columns};
+pub use bytes::{halt_row, target_byte};
 pub use decoder::decode;
 pub use encoder::{encode, encode_code};
 pub use error::ObjectError;

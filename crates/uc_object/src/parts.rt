@@ -1,16 +1,16 @@
-// The parts of an object behind its numbers: instructions, exceptions and starts.
+// The parts of an object after its numbers: instructions, exceptions and starts.
 ghost use Rattle.std.specs.Prelude.{◌≡◌, ◌<◌, ◌≤◌, ◌+◌, ◌^◌, ℕ, length, take, drop, IfOk, IfErr, Err};
-ghost use Rattle.object_bytes.specs.Rows.{IsRow};
-ghost use Rattle.object_bytes.specs.Columns.{IsRowFault, IsExceptionFault};
+ghost use Rattle.uc_object.specs.Rows.{IsRow};
+ghost use Rattle.uc_object.specs.Columns.{IsRowFault, IsExceptionFault};
 ghost use Rattle.uc_object.specs.Object.{IsException, IsNumber};
-ghost use Rattle.uc_object.specs.inner.Parts.{Has, IsFaultBehind, Spells};
+ghost use Rattle.uc_object.specs.inner.Parts.{Has, IsFaultAfter, Spells};
 
+use crate::byte_set::{exception_columns, row_columns};
 use crate::column::{byte_at, first_fault};
 use crate::field::instruction;
 use crate::number::number_below;
 use crate::{ObjectError, Tag};
 use nv_base::NoMemory;
-use object_bytes::{exception_columns, row_columns};
 use std::alloc::Global;
 use uc_isa::{Dst, Gpr, Instr, Src};
 
@@ -25,7 +25,7 @@ pub fn instructions(
     requires start { start ≤ length bytes.now }
     ensures end { IfOk result (λ read. read.1 ≤ length bytes.now) }
     ensures each { IfOk result (λ read. Has IsRow count read.0.items (drop start bytes.now) (drop read.1 bytes.now)) }
-    ensures bad { (at : ℕ) → result ≡ Err (ObjectError.Bad at) → IsFaultBehind IsRow count bytes.now start at }
+    ensures bad { (at : ℕ) → result ≡ Err (ObjectError.Bad at) → IsFaultAfter IsRow count bytes.now start at }
 {
     // The check wants the parts of an instruction named where a list of them is dropped.
     let _named: Option<(Dst, Gpr, Src)> = None;
@@ -71,7 +71,7 @@ pub fn exceptions(
     requires start { start ≤ length bytes.now }
     ensures end { IfOk result (λ read. read.1 ≤ length bytes.now) }
     ensures each { IfOk result (λ read. Has IsException count read.0.items (drop start bytes.now) (drop read.1 bytes.now)) }
-    ensures bad { (at : ℕ) → result ≡ Err (ObjectError.Bad at) → IsFaultBehind IsException count bytes.now start at }
+    ensures bad { (at : ℕ) → result ≡ Err (ObjectError.Bad at) → IsFaultAfter IsException count bytes.now start at }
 {
     let mut list = Vec::new(alloc);
     let mut end = start;
@@ -126,7 +126,7 @@ pub fn starts(
     requires start { start ≤ length bytes.now }
     ensures end { IfOk result (λ read. read.1 ≤ length bytes.now) }
     ensures each { IfOk result (λ read. Has (IsNumber places) count read.0.items (drop start bytes.now) (drop read.1 bytes.now)) }
-    ensures bad { (at : ℕ) → result ≡ Err (ObjectError.Bad at) → IsFaultBehind (IsNumber places) count bytes.now start at }
+    ensures bad { (at : ℕ) → result ≡ Err (ObjectError.Bad at) → IsFaultAfter (IsNumber places) count bytes.now start at }
 {
     let mut list = Vec::new(alloc);
     let mut end = start;

@@ -9,8 +9,8 @@ use Rattle.std.proofs.lemmas.Nat.Bits.{bit_at_or, bit_at_and, bit_at_not, bit_at
 use Rattle.uc_isa.specs.Registers.{IsRegister, Register}
 use Rattle.uc_isa.specs.Registers.Register.{InA, InB, InL, InLD, InS, InSD}
 use Rattle.uc_peep.specs.Sets.{has}
-use Rattle.uc_runs.specs.Spots.{IsSpot, Spot, is_carry, is_flag, is_register, is_run_of_a, is_run_of_l, is_run_of_ld, is_run_of_s, is_run_of_sd, is_within, is_zero, number}
-use Rattle.uc_runs.specs.Spots.Spot.{Carry, In, Zero}
+use Rattle.uc_executions.specs.Resources.{IsResource, Resource, is_carry, is_flag, is_register, is_run_of_a, is_run_of_l, is_run_of_ld, is_run_of_s, is_run_of_sd, is_within, is_zero, number}
+use Rattle.uc_executions.specs.Resources.Resource.{Carry, In, Zero}
 
 below-two : (x : ℕ) → x < 2 → (x ≡ 0) ⊎ (x ≡ 1)
 below-two zero h = inl refl
@@ -37,13 +37,13 @@ module _ (a b : ℕ) where
   two : (i : ℕ) (n : ℕ) → (bit_at n i ≡ 0) ⊎ (bit_at n i ≡ 1)
   two i n = below-two (bit_at n i) (bit_at-lt n i)
 
-  pub has-or : (s : Spot) → has (bit_or a b) s ≡ (has a s || has b s)
+  pub has-or : (s : Resource) → has (bit_or a b) s ≡ (has a s || has b s)
   has-or s = ap (λ n. nat_eq n 1) (bit_at_or a b (number s)) ∙ max-test _ _ (two (number s) a) (two (number s) b)
 
-  pub has-and : (s : Spot) → has (bit_and a b) s ≡ (has a s && has b s)
+  pub has-and : (s : Resource) → has (bit_and a b) s ≡ (has a s && has b s)
   has-and s = ap (λ n. nat_eq n 1) (bit_at_and a b (number s)) ∙ min-test _ _ (two (number s) a) (two (number s) b)
 
-pub number-below : (s : Spot) → IsSpot s → number s < 66
+pub number-below : (s : Resource) → IsResource s → number s < 66
 number-below (In (InA k)) h = omega arith
 number-below (In (InB k)) h = omega arith
 number-below (In (InL k)) h = omega arith
@@ -53,10 +53,10 @@ number-below (In (InSD k)) h = omega arith
 number-below Zero h = lit< tt
 number-below Carry h = lit< tt
 
-pub has-not : (a : ℕ) → a < 2 ^ 128 → (s : Spot) → IsSpot s → has (bit_not w128 a) s ≡ not (has a s)
+pub has-not : (a : ℕ) → a < 2 ^ 128 → (s : Resource) → IsResource s → has (bit_not w128 a) s ≡ not (has a s)
 has-not a fits s h = not-test (bit_at a (number s)) _ (below-two (bit_at a (number s)) (bit_at-lt a (number s))) (bit_at_not w128 a (number s) fits (let lt = number-below s h in omega arith))
 
-pub has-pow : (k : ℕ) (s : Spot) → has (2 ^ k) s ≡ nat_eq (number s) k
+pub has-pow : (k : ℕ) (s : Resource) → has (2 ^ k) s ≡ nat_eq (number s) k
 has-pow k s = by (nat_eq (number s) k) refl
   where
     by : (t : Bool) → nat_eq (number s) k ≡ t → has (2 ^ k) s ≡ nat_eq (number s) k
@@ -71,7 +71,7 @@ and-second true b h = h
 and-second false true h = refl
 and-second false false h = h
 
-pub within-and : (a b : ℕ) → nat_eq (bit_and a b) a ≡ true → (s : Spot) → IsSpot s → has a s ≡ true → has b s ≡ true
+pub within-and : (a b : ℕ) → nat_eq (bit_and a b) a ≡ true → (s : Resource) → IsResource s → has a s ≡ true → has b s ≡ true
 within-and a b same s h in_a = and-second (has a s) (has b s) (sym (has-and a b s) ∙ ap (λ n. has n s) (eqb-true (bit_and a b) a same) ∙ in_a)
 
 -- ---- registers by their numbers
@@ -83,7 +83,7 @@ shifted-eq : (n k j : ℕ) → nat_eq (n + k) (n + j) ≡ nat_eq k j
 shifted-eq n k j = ⊎_elim (λ (e : k ≡ j). eq-eqb (n + k) (n + j) (omega arith) ∙ sym (eq-eqb k j e)) (λ (far : ¬ (k ≡ j)). ne_eqb (n + k) (n + j) (λ e. far (omega arith)) ∙ sym (ne_eqb k j far)) (cases_eq k j)
 
 -- a register that is there is known by its number
-pub register-number : (r : Register) (s : Spot) → IsRegister r → IsSpot s → is_register r s ≡ nat_eq (number s) (number (In r))
+pub register-number : (r : Register) (s : Resource) → IsRegister r → IsResource s → is_register r s ≡ nat_eq (number s) (number (In r))
 register-number (InA k) (In (InA j)) h g = refl
 register-number (InA k) (In (InB j)) h g = sym (apart-numbers _ _ (λ e. omega arith))
 register-number (InA k) (In (InL j)) h g = sym (apart-numbers _ _ (λ e. omega arith))
@@ -133,7 +133,7 @@ register-number (InSD k) (In (InSD j)) h g = sym (shifted-eq 56 j k)
 register-number (InSD k) Zero h g = sym (apart-numbers _ _ (λ e. omega arith))
 register-number (InSD k) Carry h g = sym (apart-numbers _ _ (λ e. omega arith))
 
-pub zero-number : (s : Spot) → IsSpot s → is_zero s ≡ nat_eq (number s) 64
+pub zero-number : (s : Resource) → IsResource s → is_zero s ≡ nat_eq (number s) 64
 zero-number (In (InA k)) h = sym (apart-numbers _ _ (λ e. omega arith))
 zero-number (In (InB k)) h = sym (apart-numbers _ _ (λ e. omega arith))
 zero-number (In (InL k)) h = sym (apart-numbers _ _ (λ e. omega arith))
@@ -143,7 +143,7 @@ zero-number (In (InSD k)) h = sym (apart-numbers _ _ (λ e. omega arith))
 zero-number Zero h = refl
 zero-number Carry h = refl
 
-pub carry-number : (s : Spot) → IsSpot s → is_carry s ≡ nat_eq (number s) 65
+pub carry-number : (s : Resource) → IsResource s → is_carry s ≡ nat_eq (number s) 65
 carry-number (In (InA k)) h = sym (apart-numbers _ _ (λ e. omega arith))
 carry-number (In (InB k)) h = sym (apart-numbers _ _ (λ e. omega arith))
 carry-number (In (InL k)) h = sym (apart-numbers _ _ (λ e. omega arith))
@@ -153,7 +153,7 @@ carry-number (In (InSD k)) h = sym (apart-numbers _ _ (λ e. omega arith))
 carry-number Zero h = refl
 carry-number Carry h = refl
 
-pub flag-either : (s : Spot) → is_flag s ≡ (is_zero s || is_carry s)
+pub flag-either : (s : Resource) → is_flag s ≡ (is_zero s || is_carry s)
 flag-either (In r) = refl
 flag-either Zero = refl
 flag-either Carry = refl
@@ -168,77 +168,77 @@ within-shifted n r c k = ap (λ t. t && nat_lt (n + k) (n + r + c)) (shifted-le 
     shifted-lt : (n a b : ℕ) → nat_lt (n + a) (n + b) ≡ nat_lt a b
     shifted-lt n a b = ⊎_elim (λ (lt : a < b). lt-ltb (n + a) (n + b) (omega arith) ∙ sym (lt-ltb a b lt)) (λ (le : b ≤ a). le-ltb (n + a) (n + b) (omega arith) ∙ sym (le-ltb a b le)) (cases_lt a b)
 
-within-before : (r c k : ℕ) → k < r → is_within r c k ≡ false
-within-before r c k h = ap (λ t. t && nat_lt k (r + c)) (lt-leb r k h)
+within-live_before : (r c k : ℕ) → k < r → is_within r c k ≡ false
+within-live_before r c k h = ap (λ t. t && nat_lt k (r + c)) (lt-leb r k h)
 
-within-behind : (r c k : ℕ) → r + c ≤ k → is_within r c k ≡ false
-within-behind r c k h = ap (λ t. nat_le r k && t) (le-ltb k (r + c) h) ∙ and-false (nat_le r k)
+within-live_after : (r c k : ℕ) → r + c ≤ k → is_within r c k ≡ false
+within-live_after r c k h = ap (λ t. nat_le r k && t) (le-ltb k (r + c) h) ∙ and-false (nat_le r k)
   where
     and-false : (b : Bool) → (b && false) ≡ false
     and-false true = refl
     and-false false = refl
 
-pub run-a : (r c : ℕ) (s : Spot) → r + c ≤ 16 → IsSpot s → is_run_of_a r c s ≡ is_within r c (number s)
+pub run-a : (r c : ℕ) (s : Resource) → r + c ≤ 16 → IsResource s → is_run_of_a r c s ≡ is_within r c (number s)
 run-a r c (In (InA k)) fits h = refl
-run-a r c (In (InB k)) fits h = sym (within-behind r c _ (omega arith))
-run-a r c (In (InL k)) fits h = sym (within-behind r c _ (omega arith))
-run-a r c (In (InS k)) fits h = sym (within-behind r c _ (omega arith))
-run-a r c (In (InLD k)) fits h = sym (within-behind r c _ (omega arith))
-run-a r c (In (InSD k)) fits h = sym (within-behind r c _ (omega arith))
-run-a r c Zero fits h = sym (within-behind r c _ (omega arith))
-run-a r c Carry fits h = sym (within-behind r c _ (omega arith))
+run-a r c (In (InB k)) fits h = sym (within-live_after r c _ (omega arith))
+run-a r c (In (InL k)) fits h = sym (within-live_after r c _ (omega arith))
+run-a r c (In (InS k)) fits h = sym (within-live_after r c _ (omega arith))
+run-a r c (In (InLD k)) fits h = sym (within-live_after r c _ (omega arith))
+run-a r c (In (InSD k)) fits h = sym (within-live_after r c _ (omega arith))
+run-a r c Zero fits h = sym (within-live_after r c _ (omega arith))
+run-a r c Carry fits h = sym (within-live_after r c _ (omega arith))
 
-pub run-l : (r c : ℕ) (s : Spot) → r + c ≤ 8 → IsSpot s → is_run_of_l r c s ≡ is_within (32 + r) c (number s)
-run-l r c (In (InA k)) fits h = sym (within-before (32 + r) c _ (omega arith))
-run-l r c (In (InB k)) fits h = sym (within-before (32 + r) c _ (omega arith))
+pub run-l : (r c : ℕ) (s : Resource) → r + c ≤ 8 → IsResource s → is_run_of_l r c s ≡ is_within (32 + r) c (number s)
+run-l r c (In (InA k)) fits h = sym (within-live_before (32 + r) c _ (omega arith))
+run-l r c (In (InB k)) fits h = sym (within-live_before (32 + r) c _ (omega arith))
 run-l r c (In (InL k)) fits h = sym (within-shifted 32 r c k)
-run-l r c (In (InS k)) fits h = sym (within-behind (32 + r) c _ (omega arith))
-run-l r c (In (InLD k)) fits h = sym (within-behind (32 + r) c _ (omega arith))
-run-l r c (In (InSD k)) fits h = sym (within-behind (32 + r) c _ (omega arith))
-run-l r c Zero fits h = sym (within-behind (32 + r) c _ (omega arith))
-run-l r c Carry fits h = sym (within-behind (32 + r) c _ (omega arith))
+run-l r c (In (InS k)) fits h = sym (within-live_after (32 + r) c _ (omega arith))
+run-l r c (In (InLD k)) fits h = sym (within-live_after (32 + r) c _ (omega arith))
+run-l r c (In (InSD k)) fits h = sym (within-live_after (32 + r) c _ (omega arith))
+run-l r c Zero fits h = sym (within-live_after (32 + r) c _ (omega arith))
+run-l r c Carry fits h = sym (within-live_after (32 + r) c _ (omega arith))
 
-pub run-s : (r c : ℕ) (s : Spot) → r + c ≤ 8 → IsSpot s → is_run_of_s r c s ≡ is_within (40 + r) c (number s)
-run-s r c (In (InA k)) fits h = sym (within-before (40 + r) c _ (omega arith))
-run-s r c (In (InB k)) fits h = sym (within-before (40 + r) c _ (omega arith))
-run-s r c (In (InL k)) fits h = sym (within-before (40 + r) c _ (omega arith))
+pub run-s : (r c : ℕ) (s : Resource) → r + c ≤ 8 → IsResource s → is_run_of_s r c s ≡ is_within (40 + r) c (number s)
+run-s r c (In (InA k)) fits h = sym (within-live_before (40 + r) c _ (omega arith))
+run-s r c (In (InB k)) fits h = sym (within-live_before (40 + r) c _ (omega arith))
+run-s r c (In (InL k)) fits h = sym (within-live_before (40 + r) c _ (omega arith))
 run-s r c (In (InS k)) fits h = sym (within-shifted 40 r c k)
-run-s r c (In (InLD k)) fits h = sym (within-behind (40 + r) c _ (omega arith))
-run-s r c (In (InSD k)) fits h = sym (within-behind (40 + r) c _ (omega arith))
-run-s r c Zero fits h = sym (within-behind (40 + r) c _ (omega arith))
-run-s r c Carry fits h = sym (within-behind (40 + r) c _ (omega arith))
+run-s r c (In (InLD k)) fits h = sym (within-live_after (40 + r) c _ (omega arith))
+run-s r c (In (InSD k)) fits h = sym (within-live_after (40 + r) c _ (omega arith))
+run-s r c Zero fits h = sym (within-live_after (40 + r) c _ (omega arith))
+run-s r c Carry fits h = sym (within-live_after (40 + r) c _ (omega arith))
 
-pub run-ld : (r c : ℕ) (s : Spot) → r + c ≤ 8 → IsSpot s → is_run_of_ld r c s ≡ is_within (48 + r) c (number s)
-run-ld r c (In (InA k)) fits h = sym (within-before (48 + r) c _ (omega arith))
-run-ld r c (In (InB k)) fits h = sym (within-before (48 + r) c _ (omega arith))
-run-ld r c (In (InL k)) fits h = sym (within-before (48 + r) c _ (omega arith))
-run-ld r c (In (InS k)) fits h = sym (within-before (48 + r) c _ (omega arith))
+pub run-ld : (r c : ℕ) (s : Resource) → r + c ≤ 8 → IsResource s → is_run_of_ld r c s ≡ is_within (48 + r) c (number s)
+run-ld r c (In (InA k)) fits h = sym (within-live_before (48 + r) c _ (omega arith))
+run-ld r c (In (InB k)) fits h = sym (within-live_before (48 + r) c _ (omega arith))
+run-ld r c (In (InL k)) fits h = sym (within-live_before (48 + r) c _ (omega arith))
+run-ld r c (In (InS k)) fits h = sym (within-live_before (48 + r) c _ (omega arith))
 run-ld r c (In (InLD k)) fits h = sym (within-shifted 48 r c k)
-run-ld r c (In (InSD k)) fits h = sym (within-behind (48 + r) c _ (omega arith))
-run-ld r c Zero fits h = sym (within-behind (48 + r) c _ (omega arith))
-run-ld r c Carry fits h = sym (within-behind (48 + r) c _ (omega arith))
+run-ld r c (In (InSD k)) fits h = sym (within-live_after (48 + r) c _ (omega arith))
+run-ld r c Zero fits h = sym (within-live_after (48 + r) c _ (omega arith))
+run-ld r c Carry fits h = sym (within-live_after (48 + r) c _ (omega arith))
 
-pub run-sd : (r c : ℕ) (s : Spot) → r + c ≤ 8 → IsSpot s → is_run_of_sd r c s ≡ is_within (56 + r) c (number s)
-run-sd r c (In (InA k)) fits h = sym (within-before (56 + r) c _ (omega arith))
-run-sd r c (In (InB k)) fits h = sym (within-before (56 + r) c _ (omega arith))
-run-sd r c (In (InL k)) fits h = sym (within-before (56 + r) c _ (omega arith))
-run-sd r c (In (InS k)) fits h = sym (within-before (56 + r) c _ (omega arith))
-run-sd r c (In (InLD k)) fits h = sym (within-before (56 + r) c _ (omega arith))
+pub run-sd : (r c : ℕ) (s : Resource) → r + c ≤ 8 → IsResource s → is_run_of_sd r c s ≡ is_within (56 + r) c (number s)
+run-sd r c (In (InA k)) fits h = sym (within-live_before (56 + r) c _ (omega arith))
+run-sd r c (In (InB k)) fits h = sym (within-live_before (56 + r) c _ (omega arith))
+run-sd r c (In (InL k)) fits h = sym (within-live_before (56 + r) c _ (omega arith))
+run-sd r c (In (InS k)) fits h = sym (within-live_before (56 + r) c _ (omega arith))
+run-sd r c (In (InLD k)) fits h = sym (within-live_before (56 + r) c _ (omega arith))
 run-sd r c (In (InSD k)) fits h = sym (within-shifted 56 r c k)
-run-sd r c Zero fits h = sym (within-behind (56 + r) c _ (omega arith))
-run-sd r c Carry fits h = sym (within-behind (56 + r) c _ (omega arith))
+run-sd r c Zero fits h = sym (within-live_after (56 + r) c _ (omega arith))
+run-sd r c Carry fits h = sym (within-live_after (56 + r) c _ (omega arith))
 
 pub within_none : (r k : ℕ) → is_within r 0 k ≡ false
-within_none r k = ⊎_elim (λ (lt : k < r). within-before r 0 k lt) (λ (le : r ≤ k). within-behind r 0 k (omega arith)) (cases_lt k r)
+within_none r k = ⊎_elim (λ (lt : k < r). within-live_before r 0 k lt) (λ (le : r ≤ k). within-live_after r 0 k (omega arith)) (cases_lt k r)
 
 pub within_more : (r c k : ℕ) → is_within r (c + 1) k ≡ (is_within r c k || nat_eq k (r + c))
 within_more r c k = ⊎_elim
-    (λ (lt : k < r). within-before r (c + 1) k lt ∙ sym (ap (λ t. t || nat_eq k (r + c)) (within-before r c k lt) ∙ ne_eqb k (r + c) (λ e. omega arith)))
+    (λ (lt : k < r). within-live_before r (c + 1) k lt ∙ sym (ap (λ t. t || nat_eq k (r + c)) (within-live_before r c k lt) ∙ ne_eqb k (r + c) (λ e. omega arith)))
     (λ (le : r ≤ k). ⊎_elim
     (λ (lt : k < r + c). inside (c + 1) le (omega arith) ∙ sym (ap (λ t. t || nat_eq k (r + c)) (inside c le lt)))
     (λ (far : r + c ≤ k). ⊎_elim
-    (λ (e : k ≡ r + c). inside (c + 1) le (omega arith) ∙ sym (ap (λ t. t || nat_eq k (r + c)) (within-behind r c k far) ∙ eq-eqb k (r + c) e))
-    (λ (other : ¬ (k ≡ r + c)). within-behind r (c + 1) k (omega arith) ∙ sym (ap (λ t. t || nat_eq k (r + c)) (within-behind r c k far) ∙ ne_eqb k (r + c) other))
+    (λ (e : k ≡ r + c). inside (c + 1) le (omega arith) ∙ sym (ap (λ t. t || nat_eq k (r + c)) (within-live_after r c k far) ∙ eq-eqb k (r + c) e))
+    (λ (other : ¬ (k ≡ r + c)). within-live_after r (c + 1) k (omega arith) ∙ sym (ap (λ t. t || nat_eq k (r + c)) (within-live_after r c k far) ∙ ne_eqb k (r + c) other))
     (cases_eq k (r + c)))
     (cases_lt k (r + c)))
     (cases_lt k r)

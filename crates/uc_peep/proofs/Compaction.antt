@@ -17,14 +17,14 @@ use Rattle.uc_peep.proofs.Counts.{gone-next, kept-at, kept-between, kept-next, k
 use Rattle.uc_peep.proofs.Replaced.{gone-cases}
 use Rattle.uc_peep.specs.Kept.{compacted, is_gone, kept_before}
 use Rattle.uc_peep.specs.Window.{filler}
-use Rattle.uc_runs.proofs.Counting.{here-at, here-not, stood-more}
-use Rattle.uc_runs.proofs.Effects.{goes-on}
-use Rattle.uc_runs.proofs.Programs.{next-inside}
-use Rattle.uc_runs.proofs.Relocation.{does-moved}
-use Rattle.uc_runs.specs.Program.{IsProgram}
-use Rattle.uc_runs.specs.Relocated.{DoesMoved, at_place, moved, relocated}
-use Rattle.uc_runs.specs.Spots.{IsNext}
-use Rattle.uc_runs.specs.Visits.{access, access_at, continue_count, here, stood}
+use Rattle.uc_executions.proofs.Counting.{here-at, here-not, stood-more}
+use Rattle.uc_executions.proofs.Effects.{goes-on}
+use Rattle.uc_executions.proofs.Programs.{next-inside}
+use Rattle.uc_executions.proofs.Relocation.{does-moved}
+use Rattle.uc_executions.specs.Program.{IsProgram}
+use Rattle.uc_executions.specs.Relocated.{DoesMoved, at_place, moved, relocated}
+use Rattle.uc_executions.specs.Resources.{IsNext}
+use Rattle.uc_executions.specs.Visits.{access, access_at, continue_count, here, stood}
 
 -- ---- stands that come late, and stands that are still to come
 
@@ -52,7 +52,7 @@ pending-if f x s h = if-true (nat_lt x s) (here (f s) (f x)) 0 (lt-ltb x s h)
 pub pending-not : (f : ℕ → ℕ) (x s : ℕ) → s ≤ x → pending f x s ≡ 0
 pending-not f x s h = if-false (nat_lt x s) (here (f s) (f x)) 0 (le-ltb x s h)
 
--- x is before s, or is s, or is behind it
+-- x is before s, or is s, or is after it
 order : (x s : ℕ) → (x < s) ⊎ ((x ≡ s) ⊎ (s < x))
 order x s = ⊎_elim (λ (h : x < s). inl h) (λ (h : s ≤ x). ⊎_elim (λ (g : s < x). inr (inr g)) (λ (g : x ≤ s). let e : x ≡ s = omega arith in inr (inl e)) (cases_lt s x)) (cases_lt x s)
 
@@ -357,14 +357,14 @@ module _ (code code' : List Instr) (gone : List Bool) (starts : ℕ → Type 0) 
   pub stood-there : AreApart → ((x : ℕ) → starts x ⊎ ¬ starts x) → (m : ℕ) (e : Engine) (ms : Memories) → e.place ≡ 0 → e.place < length code → (n : ℕ) × ((s : ℕ) → starts s → stood code s m e ms ≡ stood code' (to s) n (moved to e) ms)
   stood-there apart decide zero e ms at inside = (0, λ s start. met-stood 0 0 e ms at (meets-none e ms) s start (none-pending e.place s (apart e.place s (inl at) start)))
   stood-there apart decide (suc m) e ms at inside =
-      let before = stood-there apart decide m e ms at inside in
+      let live_before = stood-there apart decide m e ms at inside in
       let place : ℕ = (after code (suc m) e ms).engine.place in
       ⊎_elim
-      (λ (same : (s : ℕ) → stood code s (suc m) e ms ≡ stood code s m e ms). (before.0, λ s start. same s ∙ before.1 s start))
+      (λ (same : (s : ℕ) → stood code s (suc m) e ms ≡ stood code s m e ms). (live_before.0, λ s start. same s ∙ live_before.1 s start))
       (λ (more : (s : ℕ) → stood code s (suc m) e ms ≡ stood code s m e ms + here s place).
       ⊎_elim
       (λ (is : starts place). let h = there (suc m) e ms inside in (h.0, λ s start. met-stood (suc m) h.0 e ms at h.1 s start (none-pending place s (apart place s (inr is) start))))
-      (λ (isnt : ¬ starts place). (before.0, λ s start. let none : here s place ≡ 0 = here-not s place (λ same. isnt (subst starts (sym same) start)) in let m1 = more s in let b = before.1 s start in omega arith))
+      (λ (isnt : ¬ starts place). (live_before.0, λ s start. let none : here s place ≡ 0 = here-not s place (λ same. isnt (subst starts (sym same) start)) in let m1 = more s in let b = live_before.1 s start in omega arith))
       (decide place))
       (stood-more code m e ms)
 

@@ -8,9 +8,9 @@ use Rattle.uc_isa.specs.declared.instruction.Instr.{Instr}
 use Rattle.uc_peep.proofs.Counts.{gone-next, kept-next}
 use Rattle.uc_peep.specs.Draft.{AreMarked}
 use Rattle.uc_peep.specs.Kept.{compacted, is_gone, kept_before}
-use Rattle.uc_runs.specs.Relocated.{relocated}
-use Rattle.uc_runs.specs.StraightCode.{GoesTo, IsEntered}
-use Rattle.uc_runs.specs.Visits.{here}
+use Rattle.uc_executions.specs.Relocated.{relocated}
+use Rattle.uc_executions.specs.StraightCode.{GoesTo, IsEntered}
+use Rattle.uc_executions.specs.Visits.{here}
 
 -- ---- where branches go
 
@@ -36,14 +36,14 @@ mark-same marks P Q h back keep = λ y. (λ m. keep y ((h y).0 m), λ q. (h y).1
 pub mark-none : (marks : List Bool) (P : ℕ → Type 0) → ((y : ℕ) → is_gone marks y ≡ false) → ((y : ℕ) → ¬ P y) → AreMarked marks P
 mark-none marks P none never = λ y. (λ m. absurd (false≢true (sym (none y) ∙ m)), λ q. absurd (never y q))
 
-pub before-none : (code : List Instr) (y : ℕ) → ¬ IsEnteredBefore code 0 y
-before-none code y (x, i, lt, at, goes) = omega arith
+pub live_before-none : (code : List Instr) (y : ℕ) → ¬ IsEnteredBefore code 0 y
+live_before-none code y (x, i, lt, at, goes) = omega arith
 
-pub before-keep : (code : List Instr) (n y : ℕ) → IsEnteredBefore code n y → IsEnteredBefore code (n + 1) y
-before-keep code n y (x, i, lt, at, goes) = (x, i, omega arith, at, goes)
+pub live_before-keep : (code : List Instr) (n y : ℕ) → IsEnteredBefore code n y → IsEnteredBefore code (n + 1) y
+live_before-keep code n y (x, i, lt, at, goes) = (x, i, omega arith, at, goes)
 
-pub before-split : (code : List Instr) (n y : ℕ) (i : Instr) → slice_get code n ≡ Some i → IsEnteredBefore code (n + 1) y → IsEnteredBefore code n y ⊎ GoesTo i y
-before-split code n y i here (x, j, lt, at, goes) = ⊎_elim
+pub live_before-split : (code : List Instr) (n y : ℕ) (i : Instr) → slice_get code n ≡ Some i → IsEnteredBefore code (n + 1) y → IsEnteredBefore code n y ⊎ GoesTo i y
+live_before-split code n y i here (x, j, lt, at, goes) = ⊎_elim
     (λ (less : x < n). inl (x, j, less, at, goes))
     (λ (le : n ≤ x).
     let e : x ≡ n = omega arith in
@@ -52,11 +52,11 @@ before-split code n y i here (x, j, lt, at, goes) = ⊎_elim
     inr (subst (λ k. GoesTo k y) ij goes))
     (cases_lt x n)
 
-pub before-all : (code : List Instr) (y : ℕ) → IsEntered code y → IsEnteredBefore code (length code) y
-before-all code y (x, i, at, goes) = (x, i, slice_get_within code x i at, at, goes)
+pub live_before-all : (code : List Instr) (y : ℕ) → IsEntered code y → IsEnteredBefore code (length code) y
+live_before-all code y (x, i, at, goes) = (x, i, slice_get_within code x i at, at, goes)
 
-pub before-some : (code : List Instr) (n y : ℕ) → IsEnteredBefore code n y → IsEntered code y
-before-some code n y (x, i, lt, at, goes) = (x, i, at, goes)
+pub live_before-some : (code : List Instr) (n y : ℕ) → IsEnteredBefore code n y → IsEntered code y
+live_before-some code n y (x, i, lt, at, goes) = (x, i, at, goes)
 
 -- ---- what is kept
 

@@ -11,13 +11,13 @@ use Rattle.uc_peep.specs.Rewrites.{Answers, Rewrites}
 use Rattle.uc_peep.specs.Rewrites.Rewrites.{Same, Replaced, InTurn}
 use Rattle.uc_peep.proofs.Splits.{all-kept, put-splits}
 use Rattle.uc_peep.specs.Kept.{is_gone, kept_of}
-use Rattle.uc_peep.specs.Liveness.{Covers, IsBefore, IsClosed}
+use Rattle.uc_peep.specs.Liveness.{Covers, IsLiveBefore, IsClosed}
 use Rattle.uc_peep.specs.Sets.{IsWithin, has}
 use Rattle.uc_peep.specs.Window.{IsShorter, filler}
-use Rattle.uc_runs.proofs.Lockstep.{alike-refl}
-use Rattle.uc_runs.specs.Program.{IsFormed, IsLawfulWithin, IsProgram}
-use Rattle.uc_runs.specs.Spots.{IsNext, IsSpot, Spot}
-use Rattle.uc_runs.specs.StraightCode.{GoesTo, IsStraight}
+use Rattle.uc_executions.proofs.Lockstep.{alike-refl}
+use Rattle.uc_executions.specs.Program.{IsFormed, IsLawfulWithin, IsProgram}
+use Rattle.uc_executions.specs.Resources.{IsNext, IsResource, Resource}
+use Rattle.uc_executions.specs.StraightCode.{GoesTo, IsStraight}
 
 -- ---- sets after a replacement
 
@@ -26,7 +26,7 @@ pub closed-after : (draft draft' : List Instr) (sets sets' : List ℕ) (p k : �
     → IsRefreshed draft' p k sets sets' → IsWithin (get_or sets' p 0) (get_or sets p 0) → IsClosed draft' sets'
 closed-after draft draft' sets sets' p k some closed out entry fresh within x i at = by (zone p k x)
   where
-    old-set : (y : ℕ) (s : Spot) → IsSpot s → (y ≤ p) ⊎ (p + k ≤ y) → has (get_or sets' y 0) s ≡ true → has (get_or sets y 0) s ≡ true
+    old-set : (y : ℕ) (s : Resource) → IsResource s → (y ≤ p) ⊎ (p + k ≤ y) → has (get_or sets' y 0) s ≡ true → has (get_or sets y 0) s ≡ true
     old-set y s h (inr past) t = ap (λ n. has n s) (sym (fresh.outside y (inr past))) ∙ t
     old-set y s h (inl upto) t = ⊎_elim
         (λ (lt : y < p). ap (λ n. has n s) (sym (fresh.outside y (inl lt))) ∙ t)
@@ -43,10 +43,10 @@ closed-after draft draft' sets sets' p k some closed out entry fresh within x i 
     by (inr (d, lt, e)) = fresh.inside x i (omega arith) (omega arith) at
 
 -- sets of which one is given anew, and has no more than before
-pub closed-renewed : (code : List Instr) (sets : List ℕ) (p b : ℕ) (d : Instr) → p < length sets → IsBefore (get_or code p d) p sets b → IsWithin b (get_or sets p 0) → IsClosed code sets → IsClosed code (set sets p b)
-closed-renewed code sets p b d inside before within closed x i at = by (eqb_tells x p)
+pub closed-renewed : (code : List Instr) (sets : List ℕ) (p b : ℕ) (d : Instr) → p < length sets → IsLiveBefore (get_or code p d) p sets b → IsWithin b (get_or sets p 0) → IsClosed code sets → IsClosed code (set sets p b)
+closed-renewed code sets p b d inside live_before within closed x i at = by (eqb_tells x p)
   where
-    old-set : (y : ℕ) (s : Spot) → IsSpot s → has (get_or (set sets p b) y 0) s ≡ true → has (get_or sets y 0) s ≡ true
+    old-set : (y : ℕ) (s : Resource) → IsResource s → has (get_or (set sets p b) y 0) s ≡ true → has (get_or sets y 0) s ≡ true
     old-set y s h t = ⊎_elim
         (λ (e : (nat_eq y p ≡ true) × (y ≡ p)). ap (λ n. has (get_or sets n 0) s) e.1 ∙ within s h (ap (λ n. has n s) (sym (ap (λ n. get_or (set sets p b) n 0) e.1 ∙ get_or-set_same sets p b 0 inside)) ∙ t))
         (λ (e : (nat_eq y p ≡ false) × (y ≢ p)). ap (λ n. has n s) (sym (get_or-set_other sets p y b 0 e.1)) ∙ t)
@@ -59,7 +59,7 @@ closed-renewed code sets p b d inside before within closed x i at = by (eqb_tell
     by (inl e) =
         let new : get_or (set sets p b) x 0 ≡ b = ap (λ n. get_or (set sets p b) n 0) e.1 ∙ get_or-set_same sets p b 0 inside in
         let is : get_or code p d ≡ i = get_or_from_slice_get code p i d (ap (slice_get code) (sym e.1) ∙ at) in
-        subst (Covers i x (set sets p b)) (sym new) (more b (subst (λ n. Covers i n sets b) (sym e.1) (subst (λ j. Covers j p sets b) is before.covers)))
+        subst (Covers i x (set sets p b)) (sym new) (more b (subst (λ n. Covers i n sets b) (sym e.1) (subst (λ j. Covers j p sets b) is live_before.covers)))
     by (inr e) = subst (Covers i x (set sets p b)) (sym (get_or-set_other sets p x b 0 e.1)) (more (get_or sets x 0) (closed x i at))
 
 -- ---- a turn
@@ -210,8 +210,8 @@ covers-along i x y b sets new lt ahead h = record {
 
 pub fresh-more : (code : List Instr) (p k : ℕ) (sets sets' : List ℕ) (x b : ℕ) (d : Instr) → p < x → length sets ≡ length code → p + k ≤ length code
     → ((z y : ℕ) (i : Instr) → p ≤ z → z < p + k → slice_get code z ≡ Some i → IsNext i z y → y ≡ z + 1)
-    → IsFresh code p k sets sets' x → IsBefore (get_or code (x - 1) d) (x - 1) sets' b → IsFresh code p k sets (set sets' (x - 1) b) (x - 1)
-fresh-more code p k sets sets' x b d lt size len ahead h before =
+    → IsFresh code p k sets sets' x → IsLiveBefore (get_or code (x - 1) d) (x - 1) sets' b → IsFresh code p k sets (set sets' (x - 1) b) (x - 1)
+fresh-more code p k sets sets' x b d lt size len ahead h live_before =
     let within : x - 1 < length sets' = let a = h.size in let m = h.most in omega arith in
     let same : get_or (set sets' (x - 1) b) (x - 1) 0 ≡ b = get_or-set_same sets' (x - 1) b 0 within in
     record {
@@ -241,7 +241,7 @@ fresh-more code p k sets sets' x b d lt size len ahead h before =
     here y i e is next =
         let within : x - 1 < length sets' = let a = h.size in let m = h.most in omega arith in
         let at : get_or (set sets' (x - 1) b) y 0 ≡ b = ap (λ n. get_or (set sets' (x - 1) b) n 0) e ∙ get_or-set_same sets' (x - 1) b 0 within in
-        let cov : Covers i y sets' b = subst (λ j. Covers j y sets' b) is (subst (λ n. Covers (get_or code n d) n sets' b) (sym e) before.covers) in
+        let cov : Covers i y sets' b = subst (λ j. Covers j y sets' b) is (subst (λ n. Covers (get_or code n d) n sets' b) (sym e) live_before.covers) in
         subst (λ n. Covers i y (set sets' (x - 1) b) n) (sym at) (record {
           needs = cov.needs;
           passes = λ s z spot w n t. cov.passes s z spot w n (ap (λ m. has m s) (sym (get_or-set_other sets' (x - 1) z b 0 (λ f. let a = next z n in omega arith))) ∙ t);

@@ -14,7 +14,7 @@ use Rattle.uc_peep.proofs.Compaction.{IsCompaction, access-back, access-there, g
 use Rattle.uc_peep.proofs.Counts.{gone-next, kept-at, kept-between, kept-most, kept-next, kept-zero, length-compacted}
 use Rattle.uc_peep.proofs.Marking.{compacted-end, compacted-kept, compacted-next}
 use Rattle.uc_peep.proofs.Replaced.{all-at, gone-cases, length-text, next-cases, text-at}
-use Rattle.uc_peep.specs.Draft.{AreMarked, AreSettledFrom, IsDraft, IsQuiet, MayReplace}
+use Rattle.uc_peep.specs.Draft.{AreMarked, AreSettledFrom, IsDraft, HasNoEffect, MayReplace}
 use Rattle.uc_peep.proofs.Without.{compacted-kept_of}
 use Rattle.uc_peep.specs.Rewrites.{Answers, Rewrites}
 use Rattle.uc_peep.specs.Rewrites.Rewrites.{Relocated, InTurn}
@@ -22,17 +22,17 @@ use Rattle.uc_peep.specs.Kept.{compacted, is_gone, kept_before, kept_of}
 use Rattle.uc_peep.specs.Liveness.{IsLiveAt}
 use Rattle.uc_peep.specs.Becomes.{IsKept, IsSettled}
 use Rattle.uc_peep.specs.Window.{IsPinned, IsWindow, filler}
-use Rattle.uc_runs.proofs.Costs.{label-moved}
-use Rattle.uc_runs.proofs.Following.{agrees-back, agrees-there, follows-refl, follows-trans}
+use Rattle.uc_executions.proofs.Costs.{label-moved}
+use Rattle.uc_executions.proofs.Following.{agrees-back, agrees-there, follows-refl, follows-trans}
 use Rattle.uc_isa.specs.Agrees.{Agrees, SourceMeaning}
 use Rattle.uc_isa.specs.Code.{CodeView}
-use Rattle.uc_runs.proofs.Relocation.{relocated-formed, relocated-last, relocated-target, relocated-weight}
-use Rattle.uc_runs.specs.Alike.{Begins, Follows}
-use Rattle.uc_runs.specs.Program.{IsLawfulWithin, IsProgram}
-use Rattle.uc_runs.specs.Relocated.{at_place, moved, relocated}
-use Rattle.uc_runs.specs.Starts.{AreInside, HasShape, IsLabelStart}
-use Rattle.uc_runs.specs.StraightCode.{GoesTo, IsEntered, IsStraight}
-use Rattle.uc_runs.specs.Visits.{access_at, stood}
+use Rattle.uc_executions.proofs.Relocation.{relocated-formed, relocated-last, relocated-target, relocated-weight}
+use Rattle.uc_executions.specs.Alike.{Begins, Follows}
+use Rattle.uc_executions.specs.Program.{IsLawfulWithin, IsProgram}
+use Rattle.uc_executions.specs.Relocated.{at_place, moved, relocated}
+use Rattle.uc_executions.specs.Starts.{AreInside, HasShape, IsLabelStart}
+use Rattle.uc_executions.specs.StraightCode.{GoesTo, IsEntered, IsStraight}
+use Rattle.uc_executions.specs.Visits.{access_at, stood}
 
 -- ---- branches go inside
 
@@ -82,7 +82,7 @@ settled-by answers code starts entered started gone sets lawful kept me ms live 
         let at : slice_get (take k (drop p code)) (x - p) ≡ Some (get_or (take k (drop p code)) (x - p) (Halt 0 0)) = slice_get-get_or (take k (drop p code)) (x - p) (Halt 0 0) (omega arith) in
         (get_or (take k (drop p code)) (x - p) (Halt 0 0), ap (slice_get code) (sym e) ∙ sym (text-at code p k (x - p) (omega arith)) ∙ at, all-at IsStraight (take k (drop p code)) (x - p) _ w.straight at)
 
-    quiet : (y : ℕ) → ¬ IsEntered code y → ¬ IsLabelStart starts y → IsQuiet entered started y
+    quiet : (y : ℕ) → ¬ IsEntered code y → ¬ IsLabelStart starts y → HasNoEffect entered started y
     quiet y a b = (flag-down entered (IsEntered code) y me a, flag-down started (IsLabelStart starts) y ms b)
 
     inside' : (p k : ℕ) → IsWindow code starts p k → p + k < length code
@@ -100,7 +100,7 @@ settled-by answers code starts entered started gone sets lawful kept me ms live 
     may p k w = record {
       inside = inside' p k w;
       open_ = λ x le lt. let s = straight-at p k w x le lt in (record { instruction = s.0; there = s.1; straight = s.2; kept = kept x }, λ past. quiet x (w.interior x past lt).0 (w.interior x past lt).1);
-      behind = λ e. (λ st. flag-down entered (IsEntered code) (p + k) me (w.behind.0 ((ms p).0 st)), flag-down started (IsLabelStart starts) (p + k) ms (w.behind.1 (pin p e)), kept (p + k));
+      live_after = λ e. (λ st. flag-down entered (IsEntered code) (p + k) me (w.live_after.0 ((ms p).0 st)), flag-down started (IsLabelStart starts) (p + k) ms (w.live_after.1 (pin p e)), kept (p + k));
     }
 
 -- ---- relocation by counts
@@ -361,11 +361,11 @@ module _ (code : List Instr) (starts : List ℕ) (draft : List Instr) (gone : Li
       ∙ ap (λ n. weight (get_or draft x (Halt 0 0)) * label_weight 1 starts ws x + n) rest
       ∙ sym (ap (λ l. moves_from x l starts ws) (drop-next x (get_or draft x (Halt 0 0)) at))
 
-  moves-behind : (n x : ℕ) (ws : List ℕ) → length draft ≤ x + n → moves_from (to x) (compacted to (drop x gone) (drop x draft)) (map to starts) ws ≡ moves_from x (drop x draft) starts ws
-  moves-behind zero x ws far = moves-past x ws (omega arith)
-  moves-behind (suc n) x ws far = ⊎_elim
+  moves-live_after : (n x : ℕ) (ws : List ℕ) → length draft ≤ x + n → moves_from (to x) (compacted to (drop x gone) (drop x draft)) (map to starts) ws ≡ moves_from x (drop x draft) starts ws
+  moves-live_after zero x ws far = moves-past x ws (omega arith)
+  moves-live_after (suc n) x ws far = ⊎_elim
       (λ (lt : x < length draft).
-      let rest = moves-behind n (suc x) ws (omega arith) in
+      let rest = moves-live_after n (suc x) ws (omega arith) in
       ⊎_elim (λ (g : is_gone gone x ≡ true). moves-gone x ws g rest) (λ (k : is_gone gone x ≡ false). moves-kept x ws lt k rest) (gone-cases gone x))
       (λ (le : length draft ≤ x). moves-past x ws le) (cases_lt x (length draft))
 
@@ -374,7 +374,7 @@ module _ (code : List Instr) (starts : List ℕ) (draft : List Instr) (gone : Li
       ap (λ n. moves_from n code' (map to starts) ws) (sym (kept-zero gone))
       ∙ ap (λ l. moves_from (to 0) (compacted to l draft) (map to starts) ws) (start gone)
       ∙ ap (λ l. moves_from (to 0) (compacted to (drop 0 gone) l) (map to starts) ws) (start' draft)
-      ∙ moves-behind (length draft) 0 ws (omega arith)
+      ∙ moves-live_after (length draft) 0 ws (omega arith)
       ∙ ap (λ l. moves_from 0 l starts ws) (sym (start' draft))
     where
       start : (l : List Bool) → l ≡ drop 0 l
@@ -402,7 +402,7 @@ module _ (code : List Instr) (starts : List ℕ) (draft : List Instr) (gone : Li
   kept-shape h = record {
     first = first-moved starts h.first;
     rises = λ j k lt in'. rises j k lt (let s = length-mapped to starts in omega arith);
-    before = λ k some in'. before k some (let s = length-mapped to starts in omega arith);
+    live_before = λ k some in'. live_before k some (let s = length-mapped to starts in omega arith);
   }
     where
       rises : (j k : ℕ) → j < k → k < length starts → get_or (map to starts) j 0 < get_or (map to starts) k 0
@@ -413,9 +413,9 @@ module _ (code : List Instr) (starts : List ℕ) (draft : List Instr) (gone : Li
           let two = mapped-at to starts k in' in
           omega arith
 
-      before : (k : ℕ) → 0 < k → k < length starts → (i : Instr) × (slice_get code' (get_or (map to starts) k 0 - 1) ≡ Some i) × IsLast i
-      before k some in' =
-          let l = h.before k some in' in
+      live_before : (k : ℕ) → 0 < k → k < length starts → (i : Instr) × (slice_get code' (get_or (map to starts) k 0 - 1) ≡ Some i) × IsLast i
+      live_before k some in' =
+          let l = h.live_before k some in' in
           let s : ℕ = get_or starts k 0 in
           let up : get_or starts 0 0 < get_or starts k 0 = h.rises 0 k some in' in
           let stay = d.stays (get_or starts k 0 - 1) l.0 (last-crooked l.0 l.2) l.1 in

@@ -16,11 +16,11 @@ use Rattle.uc_isa.specs.declared.instruction.UnOp.TheVariants.{Copy, Not, Shl, S
 use Rattle.uc_isa.specs.declared.instruction.Instr.{Instr}
 use Rattle.uc_isa.specs.declared.instruction.Instr.TheVariants.{Alu, Un, Immed, Br, Read, Write, Halt}
 use Rattle.uc_isa.proofs.RegisterLemmas.{operand-register, puts-flags}
-use Rattle.uc_runs.proofs.Effects.{keeps-value, keeps-engine, named-none, named-some, same-true}
-use Rattle.uc_runs.specs.Program.{IsFormed}
-use Rattle.uc_runs.specs.Spots.{is_flag, Spot, IsSpot, value, flag_word, reads, writes, is_target, is_some_register, same_register}
-use Rattle.uc_runs.specs.Spots.Spot.{In, Zero, Carry}
-use Rattle.uc_runs.specs.StraightCode.{IsStraight}
+use Rattle.uc_executions.proofs.Effects.{keeps-value, keeps-engine, named-none, named-some, same-true}
+use Rattle.uc_executions.specs.Program.{IsFormed}
+use Rattle.uc_executions.specs.Resources.{is_flag, Resource, IsResource, value, flag_word, reads, writes, is_target, is_some_register, same_register}
+use Rattle.uc_executions.specs.Resources.Resource.{In, Zero, Carry}
+use Rattle.uc_executions.specs.StraightCode.{IsStraight}
 use Rattle.uc_peep.specs.Sets.{has, AgreeOn}
 use Rattle.uc_peep.specs.Window.{IsText, IsShorter}
 use Rattle.uc_peep.specs.Needless.{has_register, is_wanted, has_flag, is_dead, is_same, is_idle, copies_back, dead_rule, idle_rule, back_rule}
@@ -50,18 +50,18 @@ flagless : (o : Option Register) → (is_some_register o Zero ≡ false) × (is_
 flagless (Some q) = (refl, refl)
 flagless None = (refl, refl)
 
-free : (d : Dst) (set : ℕ) (s : Spot) → is_wanted d set ≡ false → has set s ≡ true → is_target d s ≡ false
+free : (d : Dst) (set : ℕ) (s : Resource) → is_wanted d set ≡ false → has set s ≡ true → is_target d s ≡ false
 free d set (In r) w h = free-register (target_register d) set r w h
 free d set Zero w h = (flagless (target_register d)).0
 free d set Carry w h = (flagless (target_register d)).1
 
 -- a result that isn't live, with flags that aren't
-unwritten-result : (d : Dst) (set : ℕ) (s : Spot) → (not (is_wanted d set) && not (has_flag set)) ≡ true → has set s ≡ true → (is_flag s || is_target d s) ≡ false
+unwritten-result : (d : Dst) (set : ℕ) (s : Resource) → (not (is_wanted d set) && not (has_flag set)) ≡ true → has set s ≡ true → (is_flag s || is_target d s) ≡ false
 unwritten-result d set (In r) dead h = free d set (In r) (down _ (both _ _ dead).0) h
 unwritten-result d set Zero dead h = absurd (false≢true (sym (neither (has set Zero) (has set Carry) (down _ (both _ _ dead).1)).0 ∙ h))
 unwritten-result d set Carry dead h = absurd (false≢true (sym (neither (has set Zero) (has set Carry) (down _ (both _ _ dead).1)).1 ∙ h))
 
-unwritten : (i : Instr) (set : ℕ) (s : Spot) → is_dead i set ≡ true → has set s ≡ true → writes i s ≡ false
+unwritten : (i : Instr) (set : ℕ) (s : Resource) → is_dead i set ≡ true → has set s ≡ true → writes i s ≡ false
 unwritten (Alu d op x y) set s dead h = unwritten-result d set s dead h
 unwritten (Un d op x) set s dead h = unwritten-result d set s dead h
 unwritten (Immed d v k) set s dead h = free d set s (down _ dead) h
@@ -140,7 +140,7 @@ copied d x e p r h there = by (is_target d (In r)) refl
 some-same : (o : Option Register) (a b : Register) → o ≡ Some a → o ≡ Some b → a ≡ b
 some-same o a b x y = let e : Some a ≡ Some b = sym x ∙ y in cc
 
-idle-copy : (d : Dst) (x : Src) (set : ℕ) → (is_same d x && not (has_flag set)) ≡ true → (e : Engine) (p : Memories) → IsEngine e → (s : Spot) → IsSpot s → has set s ≡ true → value s (effect (Un d Copy x) e p).engine ≡ value s e
+idle-copy : (d : Dst) (x : Src) (set : ℕ) → (is_same d x && not (has_flag set)) ≡ true → (e : Engine) (p : Memories) → IsEngine e → (s : Resource) → IsResource s → has set s ≡ true → value s (effect (Un d Copy x) e p).engine ≡ value s e
 idle-copy d x set h e p engine (In r) spot t = ⊎_elim
     (λ (c : (target_register d ≡ Some r) × (register r (effect (Un d Copy x) e p).engine ≡ register (source_register x) e)). c.1 ∙ ap (λ q. register q e) (some-same (target_register d) (source_register x) r (same-names d x (both _ _ h).0) c.0))
     (λ (c : register r (effect (Un d Copy x) e p).engine ≡ register r e). c)
@@ -148,7 +148,7 @@ idle-copy d x set h e p engine (In r) spot t = ⊎_elim
 idle-copy d x set h e p engine Zero spot t = absurd (false≢true (sym (neither (has set Zero) (has set Carry) (down _ (both _ _ h).1)).0 ∙ t))
 idle-copy d x set h e p engine Carry spot t = absurd (false≢true (sym (neither (has set Zero) (has set Carry) (down _ (both _ _ h).1)).1 ∙ t))
 
-idle-same : (i : Instr) (set : ℕ) → is_idle i set ≡ true → (e : Engine) (p : Memories) → IsEngine e → (s : Spot) → IsSpot s → has set s ≡ true → value s (effect i e p).engine ≡ value s e
+idle-same : (i : Instr) (set : ℕ) → is_idle i set ≡ true → (e : Engine) (p : Memories) → IsEngine e → (s : Resource) → IsResource s → has set s ≡ true → value s (effect i e p).engine ≡ value s e
 idle-same (Un d Copy x) set h e p engine s spot t = idle-copy d x set h e p engine s spot t
 idle-same (Un d Not x) set h e p engine s spot t = absurd (false≢true h)
 idle-same (Un d (Shl k) x) set h e p engine s spot t = absurd (false≢true h)
@@ -185,7 +185,7 @@ module _ (d d' : Dst) (x x' : Src) (e : Engine) (p : Memories) (h : IsEngine e) 
       (λ (c : register (source_register x) then_ ≡ register (source_register x) e). c ∙ sym (operand-register x e))
       (copied d x e p (source_register x) h (same-there d' x two))
 
-  back-copy : (s : Spot) → IsSpot s → value s (effect (Un d' Copy x') then_ p).engine ≡ value s then_
+  back-copy : (s : Resource) → IsResource s → value s (effect (Un d' Copy x') then_ p).engine ≡ value s then_
   back-copy (In r) spot = ⊎_elim
       (λ (c : (target_register d' ≡ Some r) × (register r (effect (Un d' Copy x') then_ p).engine ≡ register (source_register x') then_)).
       c.1 ∙ sym (operand-register x' then_) ∙ word-there ∙ sym word-stays ∙ ap (λ q. register q then_) (some-same (target_register d') (source_register x) r (same-names d' x two) c.0))
@@ -194,7 +194,7 @@ module _ (d d' : Dst) (x x' : Src) (e : Engine) (p : Memories) (h : IsEngine e) 
   back-copy Zero spot = ap (λ w. flag_word (nat_eq w 0)) word-there
   back-copy Carry spot = refl
 
-back-same : (i j : Instr) → IsFormed i → copies_back i j ≡ true → (e : Engine) (p : Memories) → IsEngine e → HasSizes p → (s : Spot) → IsSpot s → value s (effect j (effect i e p).engine p).engine ≡ value s (effect i e p).engine
+back-same : (i j : Instr) → IsFormed i → copies_back i j ≡ true → (e : Engine) (p : Memories) → IsEngine e → HasSizes p → (s : Resource) → IsResource s → value s (effect j (effect i e p).engine p).engine ≡ value s (effect i e p).engine
 back-same (Un d Copy x) (Un d' Copy x') formed h e p engine sizes s spot = back-copy d d' x x' e p engine formed sizes (both _ _ h).0 (both _ _ h).1 s spot
 back-same (Un d Copy x) (Un d' Not x') formed h e p engine sizes s spot = absurd (false≢true h)
 back-same (Un d Copy x) (Un d' (Shl k) x') formed h e p engine sizes s spot = absurd (false≢true h)

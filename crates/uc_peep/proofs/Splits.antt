@@ -33,7 +33,7 @@ record IsReplacedAt (p k : ℕ) (shorter code code' : List Instr) (gone gone' : 
   pub first : (d : ℕ) → d < length shorter → (slice_get code' (p + d) ≡ slice_get shorter d) × (is_gone gone' (p + d) ≡ false)
   pub taken : (d : ℕ) → d < k → length shorter ≤ d → is_gone gone' (p + d) ≡ true
 
--- what is kept before and after, in front of the window, in it, and behind it
+-- what is kept before and after, in front of the window, in it, and after it
 pub record IsSplit (p k : ℕ) (shorter code code' : List Instr) (gone gone' : List Bool) : Type 0 where
   pub front : List Instr
   pub rest : List Instr

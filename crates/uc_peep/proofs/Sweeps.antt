@@ -7,11 +7,11 @@ use Rattle.std.proofs.lemmas.List.Sums.{sum_by-set, sum_by-cons}
 use Rattle.std.proofs.lemmas.Option.{get_or_from_slice_get, slice_get-get_or, slice_get_within}
 use Rattle.std.proofs.lemmas.Nat.Bits.{bit_at-zero}
 use Rattle.uc_isa.specs.declared.instruction.Instr.{Instr}
-use Rattle.uc_peep.specs.Liveness.{AreSmall, Covers, IsBefore, IsClosed, IsGrown, IsLiveAt, IsNeeded, IsSound, IsUpdated}
+use Rattle.uc_peep.specs.Liveness.{AreSmall, Covers, IsLiveBefore, IsClosed, IsGrown, IsLiveAt, IsNeeded, IsSound, IsUpdated}
 use Rattle.uc_peep.specs.Sets.{has}
-use Rattle.uc_runs.specs.Program.{IsLawfulWithin, IsProgram}
-use Rattle.uc_runs.specs.Spots.{IsSpot, Live, Spot, number}
-use Rattle.uc_runs.specs.Spots.Live.{Needs, Passes}
+use Rattle.uc_executions.specs.Program.{IsLawfulWithin, IsProgram}
+use Rattle.uc_executions.specs.Resources.{IsResource, Live, Resource, number}
+use Rattle.uc_executions.specs.Resources.Live.{Needs, Passes}
 
 pub lawful-here : (code : List Instr) (len x : ℕ) (d : Instr) → IsProgram code → len ≡ length code → x < len → IsLawfulWithin len x (get_or code x d)
 lawful-here code len x d h same inside =
@@ -19,7 +19,7 @@ lawful-here code len x d h same inside =
 
 -- ---- one place
 
-needed-live : (code : List Instr) (sets : List ℕ) (x : ℕ) (i : Instr) (s : Spot) → slice_get code x ≡ Some i → IsSpot s → IsSound code sets → IsNeeded i x sets s → Live code s x
+needed-live : (code : List Instr) (sets : List ℕ) (x : ℕ) (i : Instr) (s : Resource) → slice_get code x ≡ Some i → IsResource s → IsSound code sets → IsNeeded i x sets s → Live code s x
 needed-live code sets x i s at h sound (inl r) = Needs i at r
 needed-live code sets x i s at h sound (inr (y, next, unwritten, there)) = Passes i y at unwritten next (sound y s h there)
 
@@ -30,13 +30,13 @@ put-set sets x new y P inside there other =
     (λ (e : (nat_eq y x ≡ false) × (y ≢ x)). subst P (sym (get_or-set_other sets x y new 0 e.1)) other)
     (eqb_tells y x)
 
-pub sound-put : (code : List Instr) (sets : List ℕ) (x b new : ℕ) (d : Instr) → length sets ≡ length code → x < length sets → IsBefore (get_or code x d) x sets b → ((s : Spot) → has new s ≡ (has (get_or sets x 0) s || has b s))
+pub sound-put : (code : List Instr) (sets : List ℕ) (x b new : ℕ) (d : Instr) → length sets ≡ length code → x < length sets → IsLiveBefore (get_or code x d) x sets b → ((s : Resource) → has new s ≡ (has (get_or sets x 0) s || has b s))
     → IsSound code sets → IsSound code (set sets x new)
-sound-put code sets x b new d same inside before either sound = λ y s h.
+sound-put code sets x b new d same inside live_before either sound = λ y s h.
     put-set sets x new y (λ n. has n s ≡ true → Live code s y) inside
     (λ at there. subst (λ z. Live code s z) (sym at)
     (⊎_elim (λ (old : has (get_or sets x 0) s ≡ true). sound x s h old)
-    (λ (more : has b s ≡ true). needed-live code sets x (get_or code x d) s (slice_get-get_or code x d (subst (λ n. x < n) same inside)) h sound (before.only s h more))
+    (λ (more : has b s ≡ true). needed-live code sets x (get_or code x d) s (slice_get-get_or code x d (subst (λ n. x < n) same inside)) h sound (live_before.only s h more))
     (or_cases (has (get_or sets x 0) s) (has b s) (sym (either s) ∙ there))))
     (sound y s h)
 
@@ -49,14 +49,14 @@ sum-put sets x new inside = sum_by-set (λ n. n) sets x new 0 inside
 pub sum-rises : (sets : List ℕ) (x new old : ℕ) → x < length sets → old ≡ get_or sets x 0 → old ≤ new → ¬ (new ≡ old) → sum sets < sum (set sets x new)
 sum-rises sets x new old inside e le other = omega (arith, sum-put sets x new inside)
 
-pub covers-same : (code : List Instr) (sets : List ℕ) (x b new : ℕ) (d : Instr) → IsBefore (get_or code x d) x sets b → ((s : Spot) → has new s ≡ (has (get_or sets x 0) s || has b s)) → new ≡ get_or sets x 0
+pub covers-same : (code : List Instr) (sets : List ℕ) (x b new : ℕ) (d : Instr) → IsLiveBefore (get_or code x d) x sets b → ((s : Resource) → has new s ≡ (has (get_or sets x 0) s || has b s)) → new ≡ get_or sets x 0
     → (i : Instr) → slice_get code x ≡ Some i → Covers i x sets (get_or sets x 0)
-covers-same code sets x b new d before either same i at =
+covers-same code sets x b new d live_before either same i at =
     let here : get_or code x d ≡ i = get_or_from_slice_get code x i d at in
-    let old : (s : Spot) → has b s ≡ true → has (get_or sets x 0) s ≡ true = λ s t. ap (λ n. has n s) (sym same) ∙ either s ∙ ap (λ u. has (get_or sets x 0) s || u) t ∙ Rattle.std.proofs.Math.Bool.or-true (has (get_or sets x 0) s) in
+    let old : (s : Resource) → has b s ≡ true → has (get_or sets x 0) s ≡ true = λ s t. ap (λ n. has n s) (sym same) ∙ either s ∙ ap (λ u. has (get_or sets x 0) s || u) t ∙ Rattle.std.proofs.Math.Bool.or-true (has (get_or sets x 0) s) in
     subst (λ j. Covers j x sets (get_or sets x 0)) here (record {
-      needs = λ s h r. old s (before.covers.needs s h r);
-      passes = λ s y h w n t. old s (before.covers.passes s y h w n t);
+      needs = λ s h r. old s (live_before.covers.needs s h r);
+      passes = λ s y h w n t. old s (live_before.covers.passes s y h w n t);
     })
 
 -- ---- all places
@@ -143,27 +143,27 @@ pub left-falls : (sets sets' : List ℕ) → length sets' ≡ length sets → Ar
 unfolding left
 left-falls sets sets' same small up = let most : sum sets' ≤ 2 ^ 128 * length sets' = sum-small sets' small in omega arith
 
-pub live-in : (code : List Instr) (sets : List ℕ) (s : Spot) (x : ℕ) → IsSpot s → IsClosed code sets → Live code s x → has (get_or sets x 0) s ≡ true
+pub live-in : (code : List Instr) (sets : List ℕ) (s : Resource) (x : ℕ) → IsResource s → IsClosed code sets → Live code s x → has (get_or sets x 0) s ≡ true
 live-in code sets s x h closed (Needs i at r) = (closed _ i at).needs s h r
 live-in code sets s x h closed (Passes i y at w next l) = (closed _ i at).passes s y h w next (live-in code sets s y h closed l)
 
 pub live-exactly : (code : List Instr) (sets : List ℕ) → IsSound code sets → IsClosed code sets → (x : ℕ) → IsLiveAt code x (get_or sets x 0)
 live-exactly code sets sound closed x = λ s h. (λ t. sound x s h t, λ l. live-in code sets s x h closed l)
 
-pub updated-same : (code : List Instr) (sets : List ℕ) (x old b new : ℕ) (d : Instr) → old ≡ get_or sets x 0 → IsBefore (get_or code x d) x sets b → ((s : Spot) → has new s ≡ (has old s || has b s)) → new ≡ old → IsUpdated code sets sets x false
-updated-same code sets x old b new d is before either same = record {
+pub updated-same : (code : List Instr) (sets : List ℕ) (x old b new : ℕ) (d : Instr) → old ≡ get_or sets x 0 → IsLiveBefore (get_or code x d) x sets b → ((s : Resource) → has new s ≡ (has old s || has b s)) → new ≡ old → IsUpdated code sets sets x false
+updated-same code sets x old b new d is live_before either same = record {
   size = refl;
   sound = λ h. h;
   small = λ h. h;
   rises = λ e. absurd (false≢true e);
-  covers = λ e. (refl, λ i at. covers-same code sets x b new d before (λ s. either s ∙ ap (λ n. has n s || has b s) is) (same ∙ is) i at);
+  covers = λ e. (refl, λ i at. covers-same code sets x b new d live_before (λ s. either s ∙ ap (λ n. has n s || has b s) is) (same ∙ is) i at);
 }
 
-pub updated-more : (code : List Instr) (sets : List ℕ) (x old b new : ℕ) (d : Instr) → length sets ≡ length code → x < length sets → old ≡ get_or sets x 0 → IsBefore (get_or code x d) x sets b → ((s : Spot) → has new s ≡ (has old s || has b s)) → old ≤ new → new < 2 ^ 128 → ¬ (new ≡ old)
+pub updated-more : (code : List Instr) (sets : List ℕ) (x old b new : ℕ) (d : Instr) → length sets ≡ length code → x < length sets → old ≡ get_or sets x 0 → IsLiveBefore (get_or code x d) x sets b → ((s : Resource) → has new s ≡ (has old s || has b s)) → old ≤ new → new < 2 ^ 128 → ¬ (new ≡ old)
     → IsUpdated code sets (set sets x new) x true
-updated-more code sets x old b new d same inside is before either most small other = record {
+updated-more code sets x old b new d same inside is live_before either most small other = record {
   size = length-set sets x new;
-  sound = sound-put code sets x b new d same inside before (λ s. either s ∙ ap (λ n. has n s || has b s) is);
+  sound = sound-put code sets x b new d same inside live_before (λ s. either s ∙ ap (λ n. has n s || has b s) is);
   small = small-put sets x new inside small;
   rises = λ e. sum-rises sets x new old inside is most other;
   covers = λ e. absurd (false≢true (sym e));
@@ -191,7 +191,7 @@ measure-through items mid sets' r r0 same size small keeps going up steady =
     subst (λ l. left sets' + (if r then 1 else 0) < left l + (if r0 then 1 else 0)) same
     (measure-falls mid sets' r r0 size (keeps (subst AreSmall (sym same) small)) going up steady)
 
-has-none : (s : Spot) → has 0 s ≡ false
+has-none : (s : Resource) → has 0 s ≡ false
 has-none s = ap (λ n. nat_eq n 1) (bit_at-zero (number s))
 
 pub empty-sound : (code : List Instr) (sets : List ℕ) → ((x : ℕ) → get_or sets x 0 ≡ 0) → IsSound code sets

@@ -12,13 +12,13 @@ use Rattle.uc_isa.specs.declared.instruction.Instr.TheVariants.{Alu, Br, Halt, I
 use Rattle.uc_peep.specs.Liveness.{IsClosed}
 use Rattle.uc_peep.specs.Sets.{AgreeOn, has}
 use Rattle.uc_peep.specs.Window.{filler}
-use Rattle.uc_runs.proofs.Effects.{does-alike, goes-on, keeps-engine, keeps-sizes, keeps-value}
-use Rattle.uc_runs.proofs.Lockstep.{lockstep}
-use Rattle.uc_runs.specs.Alike.{GoesOn, ReadAlike, RunsAlike, StepsAlike}
-use Rattle.uc_runs.specs.Program.{IsFormed}
-use Rattle.uc_runs.specs.Spots.{IsNext, IsSpot, Spot, value, writes}
-use Rattle.uc_runs.specs.StraightCode.{IsStraight, along}
-use Rattle.uc_runs.specs.Visits.{access}
+use Rattle.uc_executions.proofs.Effects.{does-alike, goes-on, keeps-engine, keeps-sizes, keeps-value}
+use Rattle.uc_executions.proofs.Lockstep.{lockstep}
+use Rattle.uc_executions.specs.Alike.{GoesOn, ReadAlike, RunsAlike, StepsAlike}
+use Rattle.uc_executions.specs.Program.{IsFormed}
+use Rattle.uc_executions.specs.Resources.{IsNext, IsResource, Resource, value, writes}
+use Rattle.uc_executions.specs.StraightCode.{IsStraight, along}
+use Rattle.uc_executions.specs.Visits.{access}
 
 -- ---- straight instructions and fillers
 
@@ -86,7 +86,7 @@ module _ (code : List Instr) (sets : List ℕ) (lawful : (x : ℕ) (i : Instr) �
     by = λ s spot there. by-writes s spot there (writes i s) refl;
   }
     where
-      by-writes : (s : Spot) → IsSpot s → has (get_or sets y 0) s ≡ true → (b : Bool) → writes i s ≡ b → value s (effect i e ms).engine ≡ value s (effect i e' ms).engine
+      by-writes : (s : Resource) → IsResource s → has (get_or sets y 0) s ≡ true → (b : Bool) → writes i s ≡ b → value s (effect i e ms).engine ≡ value s (effect i e' ms).engine
       by-writes s spot there true w = (does-alike i e e' ms (lawful x i at) h h' sizes place (read-alike x i e e' at same)).written goes s spot w
       by-writes s spot there false w = keeps-value i e ms s (lawful x i at) h sizes w ∙ same.by s spot ((closed x i at).passes s y spot w next there) ∙ sym (keeps-value i e' ms s (lawful x i at) h' sizes w)
 
@@ -127,36 +127,36 @@ pub record AreOutside (sets : List ℕ) (p k : ℕ) (e e' : Engine) (ms : Memori
   pub outside : (e.place < p) ⊎ (p + k ≤ e.place)
   pub agree : AgreeOn (get_or sets e.place 0) e e'
 
--- the two inside, each with what it has still to do: the same is live behind the window
-pub record AreWithin (code code' : List Instr) (behind set : ℕ) (us vs : List Instr) (e e' : Engine) (ms : Memories) : Type 0 where
+-- the two inside, each with what it has still to do: the same is live after the window
+pub record AreWithin (code code' : List Instr) (live_after set : ℕ) (us vs : List Instr) (e e' : Engine) (ms : Memories) : Type 0 where
   pub engine : IsEngine e
   pub engine' : IsEngine e'
   pub sizes : HasSizes ms
   pub place : e.place ≡ e'.place
   pub some : 1 ≤ length us
   pub even : length us ≡ length vs
-  pub rest : e.place + length us ≡ behind
+  pub rest : e.place + length us ≡ live_after
   pub lies : Lies code e.place us
   pub lies' : Lies code' e'.place vs
   pub agree : AgreeOn set (along us e ms) (along vs e' ms)
 
 module _ (code code' : List Instr) (sets : List ℕ) (p : ℕ) (us vs : List Instr) (r : IsRewrite code code' sets p us vs) where
-  abbrev behind : ℕ
-  behind = p + length us
+  abbrev live_after : ℕ
+  live_after = p + length us
 
   abbrev pub Related : Engine → Engine → Memories → Type 0
-  Related e e' ms = AreOutside sets p (length us) e e' ms ⊎ ((is : List Instr) × (js : List Instr) × AreWithin code code' behind (get_or sets behind 0) is js e e' ms)
+  Related e e' ms = AreOutside sets p (length us) e e' ms ⊎ ((is : List Instr) × (js : List Instr) × AreWithin code code' live_after (get_or sets live_after 0) is js e e' ms)
 
   -- where the two come to from outside, or to the end of the window
-  arrive : (e e' : Engine) (ms : Memories) → IsEngine e → IsEngine e' → HasSizes ms → e.place ≡ e'.place → (e.place ≤ p) ⊎ (behind ≤ e.place) → AgreeOn (get_or sets e.place 0) e e' → Related e e' ms
+  arrive : (e e' : Engine) (ms : Memories) → IsEngine e → IsEngine e' → HasSizes ms → e.place ≡ e'.place → (e.place ≤ p) ⊎ (live_after ≤ e.place) → AgreeOn (get_or sets e.place 0) e e' → Related e e' ms
   arrive e e' ms h h' sizes place (inr past) agree = inl (record { engine = h; engine' = h'; sizes = sizes; place = place; outside = inr past; agree = agree })
   arrive e e' ms h h' sizes place (inl upto) agree =
       ⊎_elim
       (λ (less : e.place < p). inl (record { engine = h; engine' = h'; sizes = sizes; place = place; outside = inl less; agree = agree }))
       (λ (least : p ≤ e.place). let at : e.place ≡ p = omega arith in
       let at' : e'.place ≡ p = sym place ∙ at in
-      let alike : AgreeOn (get_or sets behind 0) (along us e ms) (along us e' ms) = agree-along code sets r.lawful r.closed us p e e' ms at at' h h' sizes r.lies r.straight (subst (λ n. AgreeOn (get_or sets n 0) e e') at agree) in
-      let same : AgreeOn (get_or sets behind 0) (along us e' ms) (along vs e' ms) = r.same e' ms h' sizes in
+      let alike : AgreeOn (get_or sets live_after 0) (along us e ms) (along us e' ms) = agree-along code sets r.lawful r.closed us p e e' ms at at' h h' sizes r.lies r.straight (subst (λ n. AgreeOn (get_or sets n 0) e e') at agree) in
+      let same : AgreeOn (get_or sets live_after 0) (along us e' ms) (along vs e' ms) = r.same e' ms h' sizes in
       inr (
         us,
         vs,
@@ -220,10 +220,10 @@ module _ (code code' : List Instr) (sets : List ℕ) (p : ℕ) (us vs : List Ins
     access = ap (λ o. access o e) at ∙ on.access ∙ sym (ap (λ o. access o e') at' ∙ on'.access);
   }
 
-  in-on : (i j : Instr) (is js : List Instr) (e e' : Engine) (ms : Memories) → AreWithin code code' behind (get_or sets behind 0) (i ∷ is) (j ∷ js) e e' ms → IsOnward i e ms → IsOnward j e' ms → Related (effect i e ms).engine (effect j e' ms).engine ms
+  in-on : (i j : Instr) (is js : List Instr) (e e' : Engine) (ms : Memories) → AreWithin code code' live_after (get_or sets live_after 0) (i ∷ is) (j ∷ js) e e' ms → IsOnward i e ms → IsOnward j e' ms → Related (effect i e ms).engine (effect j e' ms).engine ms
   in-on i j [] [] e e' ms a on on' =
       let place : (effect i e ms).engine.place ≡ (effect j e' ms).engine.place = on.next ∙ ap suc a.place ∙ sym on'.next in
-      let end : (effect i e ms).engine.place ≡ behind = let rest = a.rest in let next = on.next in omega arith in
+      let end : (effect i e ms).engine.place ≡ live_after = let rest = a.rest in let next = on.next in omega arith in
       inl (record {
         engine = keeps-engine i e ms (r.lawful e.place i a.lies.0) a.engine a.sizes;
         engine' = keeps-engine j e' ms (r.lawful' e'.place j a.lies'.0) a.engine' a.sizes;
@@ -251,7 +251,7 @@ module _ (code code' : List Instr) (sets : List ℕ) (p : ℕ) (us vs : List Ins
     },
   )
 
-  in-both : (is js : List Instr) (e e' : Engine) (ms : Memories) → AreWithin code code' behind (get_or sets behind 0) is js e e' ms → StepsAlike code code' ms e e' × Related (step code e ms).engine (step code' e' ms).engine (step code e ms).packet
+  in-both : (is js : List Instr) (e e' : Engine) (ms : Memories) → AreWithin code code' live_after (get_or sets live_after 0) is js e e' ms → StepsAlike code code' ms e e' × Related (step code e ms).engine (step code' e' ms).engine (step code e ms).packet
   in-both [] js e e' ms a = absurd (let some = a.some in omega arith)
   in-both (i ∷ is) [] e e' ms a = absurd (let even = a.even in omega arith)
   in-both (i ∷ is) (j ∷ js) e e' ms a =

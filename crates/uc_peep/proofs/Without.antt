@@ -10,8 +10,8 @@ use Rattle.uc_peep.specs.Rewrites.{Answers, Rewrites, IsWithout}
 use Rattle.uc_peep.specs.Rewrites.Rewrites.{Same, Replaced, Relocated, InTurn}
 use Rattle.uc_peep.specs.Rewrites.IsWithout.{Nothing, Gone, Stays}
 use Rattle.uc_peep.specs.Rules.{IsSomeOf}
-use Rattle.uc_runs.specs.Relocated.{relocated}
-use Rattle.uc_runs.specs.StraightCode.{IsStraight}
+use Rattle.uc_executions.specs.Relocated.{relocated}
+use Rattle.uc_executions.specs.StraightCode.{IsStraight}
 
 pub compacted-kept_of : (f : ℕ → ℕ) (gone : List Bool) (code : List Instr) → compacted f gone code ≡ map (relocated f) (kept_of gone code)
 compacted-kept_of f [] code = refl

@@ -3,12 +3,12 @@ use Rattle.std.specs.Prelude.{◌≡◌, ℕ, ◌+◌, ◌<◌, ◌≤◌, List,
 use Rattle.uc_isa.specs.Moves.{moves}
 use Rattle.uc_isa.specs.declared.instruction.Instr.{Instr}
 use Rattle.uc_peep.specs.Liveness.{IsLiveAt}
-use Rattle.uc_peep.specs.declared.peeping.Listing.{Listing}
+use Rattle.uc_peep.specs.declared.peephole.Listing.{Listing}
 use Rattle.uc_peep.specs.Rewrites.{Answers, Rewrites}
 use Rattle.uc_peep.specs.Window.{IsWindow}
-use Rattle.uc_runs.specs.Alike.{Follows}
-use Rattle.uc_runs.specs.Program.{IsProgram}
-use Rattle.uc_runs.specs.Starts.{AreInside, HasShape}
+use Rattle.uc_executions.specs.Alike.{Follows}
+use Rattle.uc_executions.specs.Program.{IsProgram}
+use Rattle.uc_executions.specs.Starts.{AreInside, HasShape}
 
 -- the second code with its starts does what the first with its does, and its moves cost no more
 pub record IsKept (code : List Instr) (starts : List ℕ) (code' : List Instr) (starts' : List ℕ) : Type 0 where
@@ -20,7 +20,7 @@ pub record IsKept (code : List Instr) (starts : List ℕ) (code' : List Instr) (
   pub shape : HasShape code starts → HasShape code' starts'
   pub most : length code' ≤ length code
 
--- at each window the rule may have no answer, asked with exactly what is live behind the window
+-- at each window the rule may have no answer, asked with exactly what is live after the window
 abbrev pub IsSettled : Answers → List Instr → List ℕ → Type 0
 IsSettled answers code starts = (p k : ℕ) → IsWindow code starts p k → (set : ℕ) × IsLiveAt code (p + k) set × answers (take k (drop p code)) set None
 

@@ -10,10 +10,10 @@ use Rattle.uc_peep.specs.Kept.{is_gone, kept_of}
 use Rattle.uc_peep.specs.Liveness.{Covers, IsClosed}
 use Rattle.uc_peep.specs.Rewrites.{Answers, Rewrites}
 use Rattle.uc_peep.specs.Window.{IsPinned, filler}
-use Rattle.uc_runs.specs.Alike.{Begins, RunsAlike}
-use Rattle.uc_runs.specs.Program.{IsProgram}
-use Rattle.uc_runs.specs.Starts.{IsLabelStart}
-use Rattle.uc_runs.specs.StraightCode.{IsEntered, IsStraight}
+use Rattle.uc_executions.specs.Alike.{Begins, RunsAlike}
+use Rattle.uc_executions.specs.Program.{IsProgram}
+use Rattle.uc_executions.specs.Starts.{IsLabelStart}
+use Rattle.uc_executions.specs.StraightCode.{IsEntered, IsStraight}
 
 -- exactly the places that are as P says are marked
 abbrev pub AreMarked : List Bool → (ℕ → Type 0) → Type 0
@@ -32,23 +32,23 @@ pub record IsOpen (code : List Instr) (gone : List Bool) (x : ℕ) : Type 0 wher
   pub kept : is_gone gone x ≡ false
 
 -- nothing leads to the place but the one before it
-abbrev pub IsQuiet : List Bool → List Bool → ℕ → Type 0
-IsQuiet entered started y = (slice_index_or entered y false ≡ false) × (slice_index_or started y false ≡ false)
+abbrev pub HasNoEffect : List Bool → List Bool → ℕ → Type 0
+HasNoEffect entered started y = (slice_index_or entered y false ≡ false) × (slice_index_or started y false ≡ false)
 
 -- the places from p up to an end are open, and those behind p quiet
 abbrev pub AreOpen : List Instr → List Bool → List Bool → List Bool → ℕ → ℕ → Type 0
-AreOpen code gone entered started p end' = (x : ℕ) → p ≤ x → x < end' → IsOpen code gone x × (p < x → IsQuiet entered started x)
+AreOpen code gone entered started p end' = (x : ℕ) → p ≤ x → x < end' → IsOpen code gone x × (p < x → HasNoEffect entered started x)
 
 -- where a label or the run begins at p, the place behind is kept and no label starts there; where a label begins, no branch leads there
-abbrev pub IsFreeBehind : List Bool → List Bool → List Bool → ℕ → ℕ → Type 0
-IsFreeBehind gone entered started p end' = (p ≡ 0) ⊎ (slice_index_or started p false ≡ true)
+abbrev pub IsDeadAfter : List Bool → List Bool → List Bool → ℕ → ℕ → Type 0
+IsDeadAfter gone entered started p end' = (p ≡ 0) ⊎ (slice_index_or started p false ≡ true)
     → (slice_index_or started p false ≡ true → slice_index_or entered end' false ≡ false) × (slice_index_or started end' false ≡ false) × (is_gone gone end' ≡ false)
 
 -- k instructions from p on may be replaced
 pub record MayReplace (code : List Instr) (gone entered started : List Bool) (p k : ℕ) : Type 0 where
   pub inside : p + k < length code
   pub open_ : AreOpen code gone entered started p (p + k)
-  pub behind : IsFreeBehind gone entered started p (p + k)
+  pub live_after : IsDeadAfter gone entered started p (p + k)
 
 -- the second code is the first with others in the place of k instructions from p on, and fillers for those that are gone
 pub record IsPut (p k : ℕ) (shorter code code' : List Instr) (gone gone' : List Bool) : Type 0 where

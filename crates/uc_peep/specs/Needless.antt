@@ -8,7 +8,7 @@ use Rattle.uc_isa.specs.declared.instruction.Instr.{Instr}
 use Rattle.uc_isa.specs.declared.instruction.Instr.TheVariants.{Alu, Un, Immed}
 use Rattle.uc_isa.specs.declared.instruction.UnOp.TheVariants.{Copy}
 use Rattle.uc_isa.specs.Registers.{Register, target_register}
-use Rattle.uc_runs.specs.Spots.Spot.{In, Zero, Carry}
+use Rattle.uc_executions.specs.Resources.Resource.{In, Zero, Carry}
 use Rattle.uc_peep.specs.Sets.{has}
 use Rattle.uc_peep.specs.Liveness.{IsLiveAt}
 use Rattle.uc_peep.specs.Window.{IsWindow}
@@ -60,7 +60,7 @@ abbrev pub back_rule : List Instr → ℕ → Option (List Instr)
 back_rule (i ∷ j ∷ []) set = if copies_back i j then Some (i ∷ []) else None
 back_rule _ set = None
 
--- at no window any of the three rules has an answer, asked with exactly what is live behind the window
+-- at no window any of the three rules has an answer, asked with exactly what is live after the window
 abbrev pub HasNoNeedless : List Instr → List ℕ → Type 0
 HasNoNeedless code starts = (p k : ℕ) → IsWindow code starts p k
     → (set : ℕ) × IsLiveAt code (p + k) set × (dead_rule (take k (drop p code)) set ≡ None) × (idle_rule (take k (drop p code)) set ≡ None) × (back_rule (take k (drop p code)) set ≡ None)

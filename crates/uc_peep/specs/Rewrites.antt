@@ -1,8 +1,8 @@
 -- Code to which replaced windows lead.
 use Rattle.std.specs.Prelude.{ℕ, List, [], ◌∷◌, ◌++◌, map, Option, Some}
 use Rattle.uc_isa.specs.declared.instruction.Instr.{Instr}
-use Rattle.uc_runs.specs.Relocated.{relocated}
-use Rattle.uc_runs.specs.StraightCode.{IsStraight}
+use Rattle.uc_executions.specs.Relocated.{relocated}
+use Rattle.uc_executions.specs.StraightCode.{IsStraight}
 
 -- the answers of a rule
 abbrev pub Answers : Type 1

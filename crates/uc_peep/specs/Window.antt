@@ -8,10 +8,10 @@ use Rattle.uc_isa.specs.declared.instruction.Cond.TheVariants.{Always}
 use Rattle.uc_isa.specs.declared.instruction.Instr.{Instr}
 use Rattle.uc_isa.specs.declared.instruction.Instr.TheVariants.{Br}
 use Rattle.uc_peep.specs.Sets.{AgreeOn}
-use Rattle.uc_runs.specs.Program.{IsFormed}
-use Rattle.uc_runs.specs.Spots.{Spot, reads, writes}
-use Rattle.uc_runs.specs.Starts.{IsLabelStart}
-use Rattle.uc_runs.specs.StraightCode.{IsEntered, IsStraight, along, weights}
+use Rattle.uc_executions.specs.Program.{IsFormed}
+use Rattle.uc_executions.specs.Resources.{Resource, reads, writes}
+use Rattle.uc_executions.specs.Starts.{IsLabelStart}
+use Rattle.uc_executions.specs.StraightCode.{IsEntered, IsStraight, along, weights}
 
 -- one to four lawful straight instructions
 pub record IsText (ws : List Instr) : Type 0 where
@@ -20,15 +20,15 @@ pub record IsText (ws : List Instr) : Type 0 where
   pub straight : All IsStraight ws
   pub lawful : All IsFormed ws
 
--- shorter code with which the same is in all of a set behind it, whatever the engine's state before: it reads and writes nothing more,
+-- shorter code with which the same is in all of a set after it, whatever the engine's state before: it reads and writes nothing more,
 -- and weighs no more
-pub record IsShorter (ws : List Instr) (behind : ℕ) (as' : List Instr) : Type 0 where
+pub record IsShorter (ws : List Instr) (live_after : ℕ) (as' : List Instr) : Type 0 where
   pub fewer : length as' < length ws
   pub straight : All IsStraight as'
   pub lawful : All IsFormed as'
-  pub same : (e : Engine) (p : Memories) → IsEngine e → HasSizes p → AgreeOn behind (along ws e p) (along as' e p)
-  pub reads : (s : Spot) → list_any (λ i. reads i s) as' ≡ true → list_any (λ i. reads i s) ws ≡ true
-  pub writes : (s : Spot) → list_any (λ i. writes i s) as' ≡ true → list_any (λ i. writes i s) ws ≡ true
+  pub same : (e : Engine) (p : Memories) → IsEngine e → HasSizes p → AgreeOn live_after (along ws e p) (along as' e p)
+  pub reads : (s : Resource) → list_any (λ i. reads i s) as' ≡ true → list_any (λ i. reads i s) ws ≡ true
+  pub writes : (s : Resource) → list_any (λ i. writes i s) as' ≡ true → list_any (λ i. writes i s) ws ≡ true
   pub weight : weights as' ≤ weights ws
 
 -- a start, or where the engine begins
@@ -43,7 +43,7 @@ pub record IsWindow (code : List Instr) (starts : List ℕ) (p k : ℕ) : Type 0
   pub inside : p + k ≤ length code
   pub straight : All IsStraight (take k (drop p code))
   pub interior : (y : ℕ) → p < y → y < p + k → (¬ IsEntered code y) × (¬ IsLabelStart starts y)
-  pub behind : (IsLabelStart starts p → ¬ IsEntered code (p + k)) × (IsPinned starts p → ¬ IsLabelStart starts (p + k))
+  pub live_after : (IsLabelStart starts p → ¬ IsEntered code (p + k)) × (IsPinned starts p → ¬ IsLabelStart starts (p + k))
 
 -- what stands where an instruction was: the engine goes on to the next place
 abbrev pub filler : ℕ → Instr

@@ -4,9 +4,9 @@ ghost use Rattle.std.specs.Prelude.{◌≡◌, ◌+◌, ◌<◌, ◌≤◌, ℕ,
 ghost use Rattle.uc_isa.specs.Lawful.{Rule5};
 ghost use Rattle.uc_peep.specs.Draft.{AreMarked};
 ghost use Rattle.uc_peep.specs.Kept.{compacted, is_gone, kept_before};
-ghost use Rattle.uc_runs.specs.Relocated.{relocated};
-ghost use Rattle.uc_runs.specs.StraightCode.{IsEntered};
-ghost use Rattle.uc_runs.specs.Starts.{IsLabelStart};
+ghost use Rattle.uc_executions.specs.Relocated.{relocated};
+ghost use Rattle.uc_executions.specs.StraightCode.{IsEntered};
+ghost use Rattle.uc_executions.specs.Starts.{IsLabelStart};
 
 use std::alloc::{AllocError, Global};
 use uc_isa::Instr;
@@ -19,7 +19,7 @@ fn counted(n: u32, gone: bool) -> u32
     if gone { n } else { n + 1 }
 }
 
-/// For each place, and the one behind all, how many places before it are kept.
+/// For each place, and the one after all, how many places before it are kept.
 pub fn counts(alloc: Global, gone: &[bool]) -> Result<Vec<u32>, AllocError>
     requires { length gone.now < 2147483648 }
     ensures size { IfOk result (λ v. length v.items ≡ length gone.now + 1) }

@@ -2,15 +2,15 @@
 
 ghost use Rattle.std.specs.Prelude.{◌≡◌, suc, ◌+◌, ◌<◌, ◌≤◌, ℕ, List, true, false, None, IfOk, Bool, Some, length, slice_get, slice_index};
 ghost use Rattle.uc_isa.specs.declared.instruction.Instr.{Instr};
-ghost use Rattle.uc_runs.specs.Program.{IsProgram};
+ghost use Rattle.uc_executions.specs.Program.{IsProgram};
 ghost use Rattle.uc_peep.specs.Draft.{AfterTurn, IsDraft, IsMarks, IsPassed, IsPassing, IsRefreshed};
 ghost use Rattle.uc_peep.specs.Kept.{is_gone};
 ghost use Rattle.uc_peep.specs.Liveness.{IsClosed};
 ghost use Rattle.uc_peep.specs.Sets.{IsWithin};
-ghost use Rattle.uc_runs.specs.Spots.{IsNext};
+ghost use Rattle.uc_executions.specs.Resources.{IsNext};
 
 use crate::LiveSet;
-use crate::liveness::before;
+use crate::liveness::live_before;
 use crate::window::Window;
 use crate::windows::{put, shorter_at};
 use uc_isa::Instr;
@@ -37,7 +37,7 @@ fn refresh(code: &[Instr], sets: &mut [LiveSet], p: usize, k: usize) -> bool
 {
     let old = sets[p];
     for x in (p..p + k).rev() {
-        sets[x] = before(&code[x], x, sets);
+        sets[x] = live_before(&code[x], x, sets);
     }
     let new = sets[p];
     new.is_within(&old)
@@ -56,7 +56,7 @@ fn renew(code: &[Instr], sets: &mut [LiveSet], p: usize, changed: bool)
         return;
     }
     let old = sets[p];
-    let new = before(&code[p], p, sets);
+    let new = live_before(&code[p], p, sets);
     if new.is_within(&old) {
         sets[p] = new;
     }

@@ -3,11 +3,11 @@
 
 mod compacting;
 mod draft;
-mod hurrying;
+mod jump_threading;
 mod live_set;
 mod liveness;
 mod needless;
-mod peeping;
+mod peephole;
 mod shorter_code;
 mod window;
 mod windows;
@@ -15,6 +15,6 @@ mod windows;
 pub use live_set::LiveSet;
 pub use liveness::live;
 pub use needless::without_needless;
-pub use peeping::{Peeped, peep};
+pub use peephole::{Peeped, peep};
 pub use shorter_code::Shorter;
 pub use window::{Pair, Window, WindowRule};

@@ -2,8 +2,8 @@
 ghost use Rattle.std.specs.Prelude.{◌≡◌, ◌+◌, ◌<◌, ◌≤◌, ◌==◌, ◌||◌, ◌&&◌, ◌↔◌, ◌^◌, not, nat_eq, false, IsTrue};
 ghost use Rattle.std.specs.Int.{bit_at};
 ghost use Rattle.uc_isa.specs.Registers.{IsRegister, source_register, target_register, address_register};
-ghost use Rattle.uc_runs.specs.Spots.{Spot, IsSpot, number, is_address, is_carry, is_flag, is_source, is_target, is_within, is_zero};
-ghost use Rattle.uc_runs.specs.Spots.Spot.{In, Zero, Carry};
+ghost use Rattle.uc_executions.specs.Resources.{Resource, IsResource, number, is_address, is_carry, is_flag, is_source, is_target, is_within, is_zero};
+ghost use Rattle.uc_executions.specs.Resources.Resource.{In, Zero, Carry};
 ghost use Rattle.uc_peep.specs.Sets.{has, IsWithin};
 ghost use Rattle.uc_peep.specs.Needless.{is_wanted};
 
@@ -45,7 +45,7 @@ const CARRY: u8 = 65;
 
 impl LiveSet {
     pub(crate) fn none() -> LiveSet
-        ensures none { (s : Spot) → has result s ≡ false }
+        ensures none { (s : Resource) → has result s ≡ false }
         ensures zero { result ≡ 0 }
     {
         LiveSet { bits: 0 }
@@ -54,7 +54,7 @@ impl LiveSet {
     // The set of one register or flag.
     fn one(bit: u8) -> LiveSet
         requires { bit < 66 }
-        ensures { (s : Spot) → IsSpot s → has result s ≡ (number s == bit) }
+        ensures { (s : Resource) → IsResource s → has result s ≡ (number s == bit) }
     {
         LiveSet { bits: 1 << bit }
     }
@@ -62,7 +62,7 @@ impl LiveSet {
     // The set of n registers of a bank.
     pub(crate) fn run(first: u8, n: u8) -> LiveSet
         requires { first + n ≤ 64 }
-        ensures { (s : Spot) → IsSpot s → has result s ≡ is_within first n (number s) }
+        ensures { (s : Resource) → IsResource s → has result s ≡ is_within first n (number s) }
     {
         let mut set = LiveSet::none();
         for k in 0..n {
@@ -72,7 +72,7 @@ impl LiveSet {
     }
 
     pub(crate) fn source(x: &Src) -> LiveSet
-        ensures { (s : Spot) → IsSpot s → has result s ≡ is_source x.now s }
+        ensures { (s : Resource) → IsResource s → has result s ≡ is_source x.now s }
     {
         match x {
             Src::A(r) => LiveSet::one(r.number),
@@ -83,7 +83,7 @@ impl LiveSet {
     }
 
     pub(crate) fn address(x: &Gpr) -> LiveSet
-        ensures { (s : Spot) → IsSpot s → has result s ≡ is_address x.now s }
+        ensures { (s : Resource) → IsResource s → has result s ≡ is_address x.now s }
     {
         match x {
             Gpr::A(r) => LiveSet::one(r.number),
@@ -92,7 +92,7 @@ impl LiveSet {
     }
 
     pub(crate) fn target(d: &Dst) -> LiveSet
-        ensures { (s : Spot) → IsSpot s → has result s ≡ is_target d.now s }
+        ensures { (s : Resource) → IsResource s → has result s ≡ is_target d.now s }
     {
         match d {
             Dst::A(r) => LiveSet::one(r.number),
@@ -104,20 +104,20 @@ impl LiveSet {
     }
 
     pub(crate) fn zero() -> LiveSet
-        ensures { (s : Spot) → IsSpot s → has result s ≡ is_zero s }
+        ensures { (s : Resource) → IsResource s → has result s ≡ is_zero s }
     {
         LiveSet::one(ZERO)
     }
 
     pub(crate) fn carry() -> LiveSet
-        ensures { (s : Spot) → IsSpot s → has result s ≡ is_carry s }
+        ensures { (s : Resource) → IsResource s → has result s ≡ is_carry s }
     {
         LiveSet::one(CARRY)
     }
 
     // Both flags.
     pub(crate) fn both_flags() -> LiveSet
-        ensures { (s : Spot) → IsSpot s → has result s ≡ is_flag s }
+        ensures { (s : Resource) → IsResource s → has result s ≡ is_flag s }
     {
         LiveSet::zero().with(LiveSet::carry())
     }
@@ -165,7 +165,7 @@ impl LiveSet {
 
     // What is in one of the two.
     pub(crate) fn with(self, other: LiveSet) -> LiveSet
-        ensures either { (s : Spot) → has result s ≡ (has self s || has other s) }
+        ensures either { (s : Resource) → has result s ≡ (has self s || has other s) }
         ensures more { self ≤ result }
         ensures small { result < 2 ^ 128 }
     {
@@ -176,7 +176,7 @@ impl LiveSet {
 
     // What is in the first and not in the second.
     pub(crate) fn without(self, other: LiveSet) -> LiveSet
-        ensures { (s : Spot) → IsSpot s → has result s ≡ (has self s && not (has other s)) }
+        ensures { (s : Resource) → IsResource s → has result s ≡ (has self s && not (has other s)) }
     {
         LiveSet {
             bits: self.bits & !other.bits,

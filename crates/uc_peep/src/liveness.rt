@@ -2,13 +2,13 @@
 ghost use Rattle.std.specs.Prelude.{◌≡◌, ◌<◌, ◌≤◌, ◌+◌, ◌*◌, ◌^◌, ◌||◌, ◌&&◌, ℕ, true, false, length, sum, slice_index, slice_get, Some, IfOk, OnOk};
 ghost use Rattle.uc_isa.specs.Lawful.{IsLawful, IsRun};
 ghost use Rattle.uc_isa.specs.declared.instruction.Instr.{Instr};
-ghost use Rattle.uc_runs.specs.Program.{IsFormed, IsLawfulWithin, IsProgram};
-ghost use Rattle.uc_runs.specs.Spots.{Spot, IsSpot, is_read_run, is_write_run, reads, tests, writes};
+ghost use Rattle.uc_executions.specs.Program.{IsFormed, IsLawfulWithin, IsProgram};
+ghost use Rattle.uc_executions.specs.Resources.{Resource, IsResource, is_read_run, is_write_run, reads, tests, writes};
 ghost use Rattle.uc_peep.specs.Sets.{has};
-ghost use Rattle.uc_peep.specs.Liveness.{AreSmall, Covers, IsBefore, IsBehind, IsClosed, IsLiveAt, IsSound, IsUpdated};
+ghost use Rattle.uc_peep.specs.Liveness.{AreSmall, Covers, IsLiveBefore, IsLiveAfter, IsClosed, IsLiveAt, IsSound, IsUpdated};
 
 use crate::LiveSet;
-use crate::hurrying::{hurry, link_branches};
+use crate::jump_threading::{link_branches, thread_jumps};
 use crate::live_set::{BANK_L, BANK_LD, BANK_S, BANK_SD};
 use nv_base::{Mem, NoMemory};
 use std::alloc::{AllocError, Global};
@@ -17,7 +17,7 @@ use uc_isa::{Code, Cond, Instr};
 // The read registers of a memory from number r on.
 fn read_run(mem: Mem, r: u8, n: u8) -> LiveSet
     requires { IsRun r n }
-    ensures { (s : Spot) → IsSpot s → has result s ≡ is_read_run mem r n s }
+    ensures { (s : Resource) → IsResource s → has result s ≡ is_read_run mem r n s }
 {
     match mem {
         Mem::Sdram => LiveSet::run(BANK_LD + r, n),
@@ -28,7 +28,7 @@ fn read_run(mem: Mem, r: u8, n: u8) -> LiveSet
 // The write registers of a memory from number r on.
 fn write_run(mem: Mem, r: u8, n: u8) -> LiveSet
     requires { IsRun r n }
-    ensures { (s : Spot) → IsSpot s → has result s ≡ is_write_run mem r n s }
+    ensures { (s : Resource) → IsResource s → has result s ≡ is_write_run mem r n s }
 {
     match mem {
         Mem::Sdram => LiveSet::run(BANK_SD + r, n),
@@ -38,7 +38,7 @@ fn write_run(mem: Mem, r: u8, n: u8) -> LiveSet
 
 // The flag that a branch asks.
 fn tested_by(cond: &Cond) -> LiveSet
-    ensures { (s : Spot) → IsSpot s → has result s ≡ tests cond.now s }
+    ensures { (s : Resource) → IsResource s → has result s ≡ tests cond.now s }
 {
     match cond {
         Cond::Always => LiveSet::none(),
@@ -50,7 +50,7 @@ fn tested_by(cond: &Cond) -> LiveSet
 // What an instruction reads.
 fn read_by(i: &Instr) -> LiveSet
     requires { IsFormed i.now }
-    ensures { (s : Spot) → IsSpot s → has result s ≡ reads i.now s }
+    ensures { (s : Resource) → IsResource s → has result s ≡ reads i.now s }
 {
     match i {
         Instr::Alu { x, y, .. } => LiveSet::source(x).with(LiveSet::source(y)),
@@ -66,7 +66,7 @@ fn read_by(i: &Instr) -> LiveSet
 // What an instruction writes.
 fn written_by(i: &Instr) -> LiveSet
     requires { IsFormed i.now }
-    ensures { (s : Spot) → IsSpot s → has result s ≡ writes i.now s }
+    ensures { (s : Resource) → IsResource s → has result s ≡ writes i.now s }
 {
     match i {
         Instr::Alu { dst, .. } => LiveSet::both_flags().with(LiveSet::target(dst)),
@@ -79,11 +79,11 @@ fn written_by(i: &Instr) -> LiveSet
     }
 }
 
-// What is in the set of a place behind a branch at x.
-fn behind_branch(cond: &Cond, target: u32, x: usize, sets: &[LiveSet]) -> LiveSet
+// What is in the set of a place after a branch at x.
+fn after_branch(cond: &Cond, target: u32, x: usize, sets: &[LiveSet]) -> LiveSet
     requires lawful { IsLawfulWithin (length sets.now) x (Instr.Br cond.now target) }
     requires inside { x < length sets.now }
-    ensures { IsBehind (Instr.Br cond.now target) x sets.now result }
+    ensures { IsLiveAfter (Instr.Br cond.now target) x sets.now result }
 {
     let there = sets[target as usize];
     match cond {
@@ -95,17 +95,17 @@ fn behind_branch(cond: &Cond, target: u32, x: usize, sets: &[LiveSet]) -> LiveSe
     }
 }
 
-// What is in the set of a place behind the instruction at x.
-fn behind(i: &Instr, x: usize, sets: &[LiveSet]) -> LiveSet
+// What is in the set of a place after the instruction at x.
+fn live_after(i: &Instr, x: usize, sets: &[LiveSet]) -> LiveSet
     requires lawful { IsLawfulWithin (length sets.now) x i.now }
     requires inside { x < length sets.now }
-    ensures { IsBehind i.now x sets.now result }
+    ensures { IsLiveAfter i.now x sets.now result }
 {
     match i {
         Instr::Alu { .. } => sets[x + 1],
         Instr::Un { .. } => sets[x + 1],
         Instr::Immed { .. } => sets[x + 1],
-        Instr::Br { cond, target } => behind_branch(cond, *target, x, sets),
+        Instr::Br { cond, target } => after_branch(cond, *target, x, sets),
         Instr::Read { .. } => sets[x + 1],
         Instr::Write { .. } => sets[x + 1],
         Instr::Halt { .. } => LiveSet::none(),
@@ -113,12 +113,14 @@ fn behind(i: &Instr, x: usize, sets: &[LiveSet]) -> LiveSet
 }
 
 // What an instruction at x needs.
-pub(crate) fn before(i: &Instr, x: usize, sets: &[LiveSet]) -> LiveSet
+pub(crate) fn live_before(i: &Instr, x: usize, sets: &[LiveSet]) -> LiveSet
     requires lawful { IsLawfulWithin (length sets.now) x i.now }
     requires inside { x < length sets.now }
-    ensures { IsBefore i.now x sets.now result }
+    ensures { IsLiveBefore i.now x sets.now result }
 {
-    behind(i, x, sets).without(written_by(i)).with(read_by(i))
+    live_after(i, x, sets)
+        .without(written_by(i))
+        .with(read_by(i))
 }
 
 // Adds what the instruction at x needs to the set of its place, and says whether that is more than it had.
@@ -129,7 +131,7 @@ pub(crate) fn update(code: &[Instr], sets: &mut [LiveSet], x: usize) -> bool
     ensures { IsUpdated code.now sets.old sets.new x result }
 {
     let old = sets[x];
-    let new = old.with(before(&code[x], x, sets));
+    let new = old.with(live_before(&code[x], x, sets));
     if new.same(&old) {
         return false;
     }
@@ -188,7 +190,7 @@ fn solve(
 {
     link_branches(code, heads, links);
     let mut work = Vec::new(alloc);
-    hurry(code, sets, heads, links, &mut work)?;
+    thread_jumps(code, sets, heads, links, &mut work)?;
     settle(code, sets);
     Ok(())
 }

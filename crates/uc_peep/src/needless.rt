@@ -3,13 +3,13 @@
 ghost use Rattle.std.specs.Prelude.{◌≡◌, ◌&&◌, ◌||◌, ◌↔◌, not, ℕ, true, false, List, Option, Some, None, IfOk};
 ghost use Rattle.uc_isa.specs.Agrees.{Agrees, SourceMeaning};
 ghost use Rattle.uc_isa.specs.Lawful.{IsLawful};
-ghost use Rattle.uc_runs.specs.Starts.{AreInside};
+ghost use Rattle.uc_executions.specs.Starts.{AreInside};
 ghost use Rattle.uc_peep.specs.Becomes.{IsKept};
 ghost use Rattle.uc_peep.specs.Rewrites.{IsWithout};
 ghost use Rattle.uc_peep.specs.Needless as spec;
 ghost use Rattle.uc_peep.specs.Needless.{HasNoNeedless, back_rule, dead_rule, has_flag, idle_rule, is_same};
 
-use crate::peeping::{Peeped, peep};
+use crate::peephole::{Peeped, peep};
 use crate::window::{Pair, WindowRule};
 use crate::{LiveSet, Shorter};
 use nv_base::NoMemory;

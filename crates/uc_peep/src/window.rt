@@ -9,7 +9,7 @@ ghost use Rattle.uc_peep.specs.Rules.{Gives, IsSomeOf, pair_sound};
 use crate::{LiveSet, Shorter};
 use uc_isa::Instr;
 
-/// What answers for a window with shorter code, given what is live behind it.
+/// What answers for a window with shorter code, given what is live after it.
 pub trait Window {
     // the answers that a call may give
     ghost answers: { Self → List Instr → ℕ → Option (List Instr) → Type 0 };

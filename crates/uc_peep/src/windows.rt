@@ -2,11 +2,11 @@
 
 ghost use Rattle.std.specs.Prelude.{◌≡◌, ◌+◌, ◌<◌, ◌≤◌, ◌↔◌, ℕ, List, true, false, Some, None, IfSome, IfNone, OnSome, IsTrue, length, take, drop, slice_get, slice_index, slice_index_or};
 ghost use Rattle.uc_isa.specs.declared.instruction.Instr.{Instr};
-ghost use Rattle.uc_runs.specs.Program.{IsFormed, IsProgram};
-ghost use Rattle.uc_peep.specs.Draft.{AreOpen, IsFreeBehind, IsOpen, IsPut, IsQuiet, MayReplace};
+ghost use Rattle.uc_executions.specs.Program.{IsFormed, IsProgram};
+ghost use Rattle.uc_peep.specs.Draft.{AreOpen, IsDeadAfter, IsOpen, IsPut, HasNoEffect, MayReplace};
 ghost use Rattle.uc_peep.specs.Kept.{is_gone};
 ghost use Rattle.uc_peep.specs.Window.{IsShorter, IsText};
-ghost use Rattle.uc_runs.specs.StraightCode.{IsStraight};
+ghost use Rattle.uc_executions.specs.StraightCode.{IsStraight};
 
 use crate::window::Window;
 use crate::{LiveSet, Shorter};
@@ -31,10 +31,10 @@ fn is_open(code: &[Instr], gone: &[bool], x: usize) -> bool
 }
 
 // Whether nothing leads to the place but the one before it.
-fn is_quiet(entered: &[bool], started: &[bool], y: usize) -> bool
+fn has_no_effect(entered: &[bool], started: &[bool], y: usize) -> bool
     requires inside { y < length entered.now }
     requires inside_too { y < length started.now }
-    ensures { IsTrue result ↔ IsQuiet entered.now started.now y }
+    ensures { IsTrue result ↔ HasNoEffect entered.now started.now y }
 {
     !entered[y] && !started[y]
 }
@@ -58,20 +58,20 @@ fn are_open(
         if !is_open(code, gone, x) {
             return false;
         }
-        if x > p && !is_quiet(entered, started, x) {
+        if x > p && !has_no_effect(entered, started, x) {
             return false;
         }
     }
     true
 }
 
-// Whether the place behind a window is as it must be where a label starts at the window's first place.
-fn is_free_behind(gone: &[bool], entered: &[bool], started: &[bool], p: usize, end: usize) -> bool
+// Whether the place after a window is as it must be where a label starts at the window's first place.
+fn is_dead_after(gone: &[bool], entered: &[bool], started: &[bool], p: usize, end: usize) -> bool
     requires entered { length entered.now ≡ length gone.now }
     requires started { length started.now ≡ length gone.now }
     requires first { p < length gone.now }
     requires inside { end < length gone.now }
-    ensures { IsTrue result ↔ IsFreeBehind gone.now entered.now started.now p end }
+    ensures { IsTrue result ↔ IsDeadAfter gone.now entered.now started.now p end }
 {
     if p != 0 && !started[p] {
         return true;
@@ -100,7 +100,7 @@ fn may_replace(
         return false;
     }
     are_open(code, gone, entered, started, p, p + k)
-        && is_free_behind(gone, entered, started, p, p + k)
+        && is_dead_after(gone, entered, started, p, p + k)
 }
 
 // The rule's answer for k instructions from p on, where they may be replaced.
@@ -131,8 +131,8 @@ fn ask<R: Window>(
         return None;
     }
     let w = &code[p..p + k];
-    let behind = sets[p + k];
-    r.shorter(w, &behind)
+    let live_after = sets[p + k];
+    r.shorter(w, &live_after)
 }
 
 /// The first window at p for which the rule has an answer, by its length, with this answer.

@@ -7,12 +7,12 @@ use Rattle.std.proofs.lemmas.List.Elements.{All-from_recursion}
 use Rattle.nv_base.specs.Words.{Env}
 use Rattle.ssu_ir.specs.Tree.{Label}
 use Rattle.ssu_ir.specs.Points.{Point}
-use Rattle.slot_placement.specs.declared.place.Place.{Place}
-use Rattle.slot_placement.specs.declared.place.Place.TheVariants.{A, B, L, LD, S, SD, Slot}
-use Rattle.slot_placement.specs.Places.{same_place}
-use Rattle.slot_placement.specs.Plan.{Plan, serve, pass}
-use Rattle.slot_placement.specs.Fits.{is_slot}
-use Rattle.slot_placement.proofs.Places.{same_place-true, same_place-from}
+use Rattle.placement.specs.declared.place.Place.{Place}
+use Rattle.placement.specs.declared.place.Place.TheVariants.{A, B, L, LD, S, SD, Slot}
+use Rattle.placement.specs.Places.{same_place}
+use Rattle.placement.specs.Plan.{Plan, serve, pass}
+use Rattle.placement.specs.Fits.{is_slot}
+use Rattle.placement.proofs.Places.{same_place-true, same_place-from}
 use Rattle.par_move.specs.Moves.{Move, Words, put, one_by_one, all_at_once}
 use Rattle.par_move.proofs.Steps.{put-other}
 use Rattle.ucode_emit.specs.inner.Pieces.{named, bring, single_move, single_moves, served_moves}
@@ -24,7 +24,7 @@ use Rattle.ucode_emit.proofs.Copies.{put_here, one_append}
 use Rattle.ucode_emit.proofs.DefinitionsDirect.{OneInstr, eighth_named}
 use Rattle.ucode_emit.proofs.Entries.{IsMoved, stand_all, put_agree}
 use Rattle.ucode_emit.proofs.EntriesMoves.{ServedWell}
-use Rattle.ucode_emit.proofs.OperandsHomes.{Here, CanServe, Source, source_word}
+use Rattle.ucode_emit.proofs.OperandsHomes.{EmitContext, CanServe, Source, source_word}
 use Rattle.ucode_emit.proofs.OperandsFetch.{named_some, held_apart}
 
 -- ---- one word
@@ -71,7 +71,7 @@ serves_source slots l (SD k) c n s = absurd c
 serves_source slots l (Slot k) c n s = (c, s refl)
 
 -- a home of a held value
-pub source_is : (labels : List Label) (p : Plan) (k : ℕ) (q : Point) (x : ℕ) (from : Place) → Placed labels p → Here labels k q → Source labels p q x from → (is_slot from ≡ true → is_some (pass p k).l ≡ true) → IsSource p.slots (pass p k).l from
+pub source_is : (labels : List Label) (p : Plan) (k : ℕ) (q : Point) (x : ℕ) (from : Place) → Placed labels p → EmitContext labels k q → Source labels p q x from → (is_slot from ≡ true → is_some (pass p k).l ≡ true) → IsSource p.slots (pass p k).l from
 source_is labels p k q x from h s c f = serves_source p.slots (pass p k).l from c.serves (λ n e g. held_apart labels p k q x from (L n) h s c.held c.lasts (inr (n, e, refl)) g) f
 
 source_no_s : (slots : ℕ) (l : Option ℕ) (from : Place) → IsSource slots l from → from ≡ S 0 → ⊥
@@ -192,7 +192,7 @@ moved_no_s slots r m e = subst (IsMoved slots) e m
 moved_no_l : (slots : ℕ) (r : Place) (n : ℕ) → IsMoved slots r → r ≡ L n → ⊥
 moved_no_l slots r n m e = subst (IsMoved slots) e m
 
-pub all_sent : (labels : List Label) (p : Plan) (k : ℕ) (q : Point) (count : ℕ) (ms : List Move) (env : Env) (e : Words) → Placed labels p → Here labels k q → ServedWell p k count → ((j : ℕ) → j < count → (x : ℕ) × Sent labels p k q x j)
+pub all_sent : (labels : List Label) (p : Plan) (k : ℕ) (q : Point) (count : ℕ) (ms : List Move) (env : Env) (e : Words) → Placed labels p → EmitContext labels k q → ServedWell p k count → ((j : ℕ) → j < count → (x : ℕ) × Sent labels p k q x j)
     → IsSequence (served_moves p k 0 count) ms → Ready labels p k q env e → Arrives labels p k q count ms env e
 all_sent labels p k q count ms env e h s w f sq d =
     let l = (pass p k).l in

@@ -9,16 +9,16 @@ use Rattle.ssu_ir.specs.Tree.{Step, Lit, Una, Bin, Clone, Read, Write, Last, Jum
 use Rattle.ssu_ir.specs.Points.{Names, own}
 use Rattle.ssu_ir.specs.Single.{takes_as_many, is_narrow, IsNarrow}
 use Rattle.ssu_ir.proofs.Narrow.{narrow_is}
-use Rattle.slot_placement.specs.declared.place.Serve.{Serve}
-use Rattle.slot_placement.specs.Plan.{Plan, serve, first, pass}
-use Rattle.place_checks.proofs.Walked.{get-index}
+use Rattle.placement.specs.declared.place.Serve.{Serve}
+use Rattle.placement.specs.Plan.{Plan, serve, first, pass}
+use Rattle.placement_checks.proofs.Walked.{get-index}
 use Rattle.par_move.specs.Moves.{Move}
 use Rattle.ucode_emit.specs.inner.Pieces.{operands, words, result_place, to_slot, copies, all_copies, single_moves, shift_of, entry_point, Sequences, sequence_at, served_moves, last_moves, entry_moves, label_moves, tree_moves, parallel_moves}
 use Rattle.ucode_emit.specs.inner.Ready.{IsSequence, AreSequences}
 use Rattle.ucode_emit.specs.inner.Machine.{IsWritable, AreDirect}
 use Rattle.ucode_emit.specs.inner.Layers.{Placed, PointsAt, root_point}
 use Rattle.ucode_emit.specs.inner.DraftItems.{CanMove}
-use Rattle.ucode_emit.specs.inner.Here.{ends, CanAll, CanDefine, CanNode}
+use Rattle.ucode_emit.specs.inner.EmitContext.{ends, CanAll, CanDefine, CanNode}
 use Rattle.ucode_emit.proofs.Layer.{ready_layer}
 use Rattle.ucode_emit.proofs.LawfulPieces.{no_words, no_places, idle, node_here, takes_some, sequence_here, none_stand, given}
 use Rattle.ucode_emit.proofs.Moving.{direct_can}
@@ -139,8 +139,8 @@ served_from : (p : Plan) (k i : ℕ) (ss : List Serve) → ((j : ℕ) (s : Serve
 served_from p k i [] h = refl
 served_from p k i (s ∷ ss) h =
     let z : i ≡ i + 0 = omega arith in
-    let here : serve p k i ≡ s = ap (serve p k) z ∙ h 0 s refl in
-    ap (λ (m : Move). m ∷ ends ss) (sym (ap (λ r. (r.from, r.at)) here))
+    let emit_context : serve p k i ≡ s = ap (serve p k) z ∙ h 0 s refl in
+    ap (λ (m : Move). m ∷ ends ss) (sym (ap (λ r. (r.from, r.at)) emit_context))
     ∙ ap (λ l. ((serve p k i).from, (serve p k i).at) ∷ l) (served_from p k (suc i) ss (λ j r e. let w : suc i + j ≡ i + suc j = omega arith in ap (serve p k) w ∙ h (suc j) r e))
 
 pub ends_served : (p : Plan) (k n : ℕ) (ss : List Serve) → length ss ≡ n → ((i : ℕ) (s : Serve) → slice_get ss i ≡ Some s → serve p k i ≡ s) → ends ss ≡ served_moves p k 0 n

@@ -1,16 +1,16 @@
--- What single moves leave, and what the copies behind a definition do.
+-- What single moves leave, and what the copies after a definition do.
 use Rattle.std.proofs.Common.{◌≡◌, ℕ, nat_eq, Bool, true, false, ◌||◌, List, [], ◌∷◌, ◌++◌, Option, if◌then◌else◌, refl, sym, ap, ◌∙◌, subst, ⊎_elim}
 use Rattle.std.specs.List.{list_any}
 use Rattle.std.proofs.lemmas.Bool.{or_cases, or_left, or_right, or_parts, false≢true, eq-eqb}
 use Rattle.nv_base.specs.Sets.{is_in}
 use Rattle.nv_base.proofs.Sets.{same-number}
-use Rattle.slot_placement.specs.declared.place.Place.{Place}
-use Rattle.slot_placement.specs.declared.place.Place.TheVariants.{S}
-use Rattle.slot_placement.specs.Places.{same_place}
-use Rattle.slot_placement.specs.Plan.{Plan, home, pass}
-use Rattle.slot_placement.specs.Fits.{is_slot, has_place}
-use Rattle.slot_placement.proofs.Places.{same_place-true, same_place-itself, same_place-from}
-use Rattle.held_values.proofs.Scoped.{in-itself}
+use Rattle.placement.specs.declared.place.Place.{Place}
+use Rattle.placement.specs.declared.place.Place.TheVariants.{S}
+use Rattle.placement.specs.Places.{same_place}
+use Rattle.placement.specs.Plan.{Plan, home, pass}
+use Rattle.placement.specs.Fits.{is_slot, has_place}
+use Rattle.placement.proofs.Places.{same_place-true, same_place-itself, same_place-from}
+use Rattle.ssu_liveness.proofs.Scoped.{in-itself}
 use Rattle.par_move.specs.Moves.{Move, Words, put, one_by_one}
 use Rattle.par_move.proofs.Steps.{put-other}
 use Rattle.ucode_emit.specs.inner.Pieces.{named, copied, all_copied, copies, all_copies}
@@ -36,7 +36,7 @@ place_head q qs = or_left (same_place q q) (has_place q qs) (same_place-itself q
 pub not_head : (r q : Place) (qs : List Place) → has_place r (q ∷ qs) ≡ false → r ≡ q → ⊥
 not_head r q qs h e = false≢true (sym ((or_parts (same_place r q) (has_place r qs) h).0) ∙ same_place-from r q e)
 
--- ---- moves one behind the other
+-- ---- moves one after the other
 
 pub one_append : (a b : List Move) (e : Words) → one_by_one (a ++ b) e ≡ one_by_one b (one_by_one a e)
 one_append [] b e = refl

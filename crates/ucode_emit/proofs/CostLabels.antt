@@ -1,11 +1,11 @@
 -- What a placement costs where labels have weights, point by point.
 use Rattle.std.proofs.Common.{◌≡◌, ℕ, zero, suc, ◌+◌, ◌*◌, List, [], ◌∷◌, ◌++◌, map, refl, ap, ◌∙◌, arith}
 use Rattle.ssu_ir.specs.Tree.{Label, Lit, Una, Bin, Clone, Read, Write, Does, Forks, Ends}
-use Rattle.ssu_ir.specs.Points.{Place, Entry, At, Point, points}
-use Rattle.slot_placement.specs.Plan.{Plan, serve}
-use Rattle.slot_placement.specs.Uses.{Sort, Value, numbered, values_from, values, place_values, Use, uses}
-use Rattle.slot_placement.specs.Fits.{use_operand}
-use Rattle.slot_placement.specs.Costs.{served_cost, value_cost, values_cost}
+use Rattle.ssu_ir.specs.Points.{PointKind, Entry, At, Point, points}
+use Rattle.placement.specs.Plan.{Plan, serve}
+use Rattle.placement.specs.Uses.{ValueOrigin, Value, numbered, values_from, values, place_values, Use, uses}
+use Rattle.placement.specs.Fits.{use_operand}
+use Rattle.placement.specs.Costs.{served_cost, value_cost, values_cost}
 use Rattle.label_weights.specs.Weighted.{point_weight, values_weighted, uses_weighted, weighted_cost}
 use Rattle.ucode_emit.specs.inner.Marks.{Mark, marks}
 use Rattle.ucode_emit.specs.inner.Cursors.{place_operands, operands_from, marks_operands}
@@ -19,7 +19,7 @@ module _ (p : Plan) (weight : ℕ → ℕ) where
   marks_weighted k [] = 0
   marks_weighted k (q ∷ qs) = place_cost p k q.place * weight k + marks_weighted (suc k) qs
 
-  abbrev values_counted : ℕ → List Place → ℕ
+  abbrev values_counted : ℕ → List PointKind → ℕ
   values_counted k [] = 0
   values_counted k (q ∷ qs) = values_cost p (place_values k q) * weight k + values_counted (suc k) qs
 
@@ -43,15 +43,15 @@ module _ (p : Plan) (weight : ℕ → ℕ) where
   one_more : (a w all m : ℕ) → all ≡ m * w → a * w + all ≡ (a + m) * w
   one_more a w all m e = omega (arith, e)
 
-  numbered_at : (k : ℕ) (sort : ℕ → Sort) (i : ℕ) (xs : List ℕ) → values_weighted weight p (numbered k sort i xs) ≡ values_cost p (numbered k sort i xs) * weight k
-  numbered_at k sort i [] = omega arith
-  numbered_at k sort i (x ∷ xs) =
-      one_more (value_cost p (record { point = k; var = x; sort = sort i })) (weight k) (values_weighted weight p (numbered k sort (suc i) xs)) (values_cost p (numbered k sort (suc i) xs)) (numbered_at k sort (suc i) xs)
+  numbered_at : (k : ℕ) (origin : ℕ → ValueOrigin) (i : ℕ) (xs : List ℕ) → values_weighted weight p (numbered k origin i xs) ≡ values_cost p (numbered k origin i xs) * weight k
+  numbered_at k origin i [] = omega arith
+  numbered_at k origin i (x ∷ xs) =
+      one_more (value_cost p (record { point = k; var = x; origin = origin i })) (weight k) (values_weighted weight p (numbered k origin (suc i) xs)) (values_cost p (numbered k origin (suc i) xs)) (numbered_at k origin (suc i) xs)
 
   single_at : (a w : ℕ) → a * w + 0 ≡ (a + 0) * w
   single_at a w = omega arith
 
-  values_at : (k : ℕ) (q : Place) → values_weighted weight p (place_values k q) ≡ values_cost p (place_values k q) * weight k
+  values_at : (k : ℕ) (q : PointKind) → values_weighted weight p (place_values k q) ≡ values_cost p (place_values k q) * weight k
   values_at k (Entry l params) = numbered_at k _ 0 params
   values_at k (At (Does (Lit x v))) = single_at _ (weight k)
   values_at k (At (Does (Una x op y))) = single_at _ (weight k)

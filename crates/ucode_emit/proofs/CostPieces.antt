@@ -18,14 +18,14 @@ use Rattle.uc_isa.specs.Registers.{failing}
 use Rattle.uc_isa.specs.declared.instruction.Src.{Src}
 use Rattle.uc_isa.specs.Moves.{weight, access_weight}
 use Rattle.ssu_ir.specs.Tree.{Step, Lit, Una, Bin, Clone, Read, Write, Last, Jump, Halt, Tree, Do, If, End, Label, Does, Ends}
-use Rattle.ssu_ir.specs.Points.{Names, Place as PointPlace, Entry, At, Point, points, place_values as place_variables}
+use Rattle.ssu_ir.specs.Points.{Names, PointKind as PointPlace, Entry, At, Point, points, place_values as place_variables}
 use Rattle.ssu_ir.proofs.Lists.{in-itself}
-use Rattle.slot_placement.specs.declared.place.Place.{Place}
-use Rattle.slot_placement.specs.declared.place.Place.TheVariants.{A, B, L, LD, S, SD, Slot}
-use Rattle.slot_placement.specs.Plan.{Plan, home, first, pass}
-use Rattle.slot_placement.specs.Uses.{Sort, Parameter, Fetched, numbered, place_values, Address, is_used}
-use Rattle.slot_placement.specs.Fits.{is_slot, IsAddressAt}
-use Rattle.slot_placement.specs.Costs.{served_cost, entry_cost, result_cost, all_copied_cost, values_cost}
+use Rattle.placement.specs.declared.place.Place.{Place}
+use Rattle.placement.specs.declared.place.Place.TheVariants.{A, B, L, LD, S, SD, Slot}
+use Rattle.placement.specs.Plan.{Plan, home, first, pass}
+use Rattle.placement.specs.Uses.{ValueOrigin, Parameter, Fetched, numbered, place_values, Address, is_used}
+use Rattle.placement.specs.Fits.{is_slot, IsAddressAt}
+use Rattle.placement.specs.Costs.{served_cost, entry_cost, result_cost, all_copied_cost, values_cost}
 use Rattle.par_move.specs.Moves.{Move}
 use Rattle.ucode_emit.specs.inner.Pieces.{Item, Moved, Plain, Branch, move_instr, moved, named, operands, operand_at, words, result_place, to_slot, copies, all_copies, single_moves, un_op, source, target, address_of, shift_of, defines, step_items, entry_point, entry_moves, last_moves}
 use Rattle.ucode_emit.specs.inner.Ready.{IsSequence}
@@ -36,7 +36,7 @@ use Rattle.ucode_emit.proofs.CostMoves.{moves_weight, weight_both, operands_cost
 use Rattle.ucode_emit.proofs.DefinitionsHomes.{Settled, in_general, put_early, fetched_to, settled_at, unused_bare}
 use Rattle.ucode_emit.proofs.Entries.{entry_here}
 use Rattle.ucode_emit.proofs.PointsLabels.{entry_at}
-use Rattle.ucode_emit.proofs.OperandsHomes.{CanServe, IsHere, here_at, uses_here, source_of}
+use Rattle.ucode_emit.proofs.OperandsHomes.{CanServe, IsEmitContext, here_at, uses_here, source_of}
 use Rattle.ucode_emit.proofs.PointsUsed.{root_at}
 use Rattle.ucode_emit.proofs.Stood.{root_node, StoodPlace}
 
@@ -114,12 +114,12 @@ un_weight d (una.Rol k) x = refl
 
 -- ---- values that stand where they are put
 
-read_light : (p : Plan) (k : ℕ) (sort : ℕ → Sort) (i : ℕ) (xs : List ℕ) → ((x : ℕ) → is_in x xs ≡ true → Bare p x) → moves_weight (all_copies p k xs) ≤ values_cost p (numbered k sort i xs)
-read_light p k sort i [] h = omega arith
-read_light p k sort i (x ∷ xs) h =
+read_light : (p : Plan) (k : ℕ) (origin : ℕ → ValueOrigin) (i : ℕ) (xs : List ℕ) → ((x : ℕ) → is_in x xs ≡ true → Bare p x) → moves_weight (all_copies p k xs) ≤ values_cost p (numbered k origin i xs)
+read_light p k origin i [] h = omega arith
+read_light p k origin i (x ∷ xs) h =
     let a = weight_both (copies p k x) (all_copies p k xs) in
     let b = copies_light p k x (h x (in-itself x xs)) in
-    let c = read_light p k sort (suc i) xs (all_bare p x xs h) in
+    let c = read_light p k origin (suc i) xs (all_bare p x xs h) in
     omega (arith, a, b, c)
 
 entry_one : (i : ℕ) (d : Place) → served_cost (A i) d ≤ entry_cost d
@@ -160,7 +160,7 @@ address_free slots m (IsAddressAt.from_ld {k}) c = in_first_bank m 15
 address_free slots m (IsAddressAt.from_slot {k}) c = in_first_bank m 15
 
 use_free : (labels : List Label) (p : Plan) (k : ℕ) (of : Names) (above : List ℕ) (t : Tree) (x : ℕ) (m : Mem) → Placed labels p → PointsAt labels k of above t
-    → IsHere labels p k (record { point = k; operand = 0; value = x; role = Address }) → is_in x (root_point of above t).uses ≡ true → access_weight m (address_of (operand_at p k 0)) ≡ 0
+    → IsEmitContext labels p k (record { point = k; operand = 0; value = x; role = Address }) → is_in x (root_point of above t).uses ≡ true → access_weight m (address_of (operand_at p k 0)) ≡ 0
 use_free labels p k of above t x m h a u i =
     let s = here_at labels p k of above t h a in
     let source = source_of labels p k (root_point of above t) (record { point = k; operand = 0; value = x; role = Address }) h s u.0.1 i u.0.0.0 in

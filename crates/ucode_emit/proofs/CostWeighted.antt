@@ -4,12 +4,12 @@ use Rattle.std.specs.Prelude.{nat_lt, ⊤}
 use Rattle.std.proofs.lemmas.Bool.{le-leb, lt-ltb, false_from_ne_true, leb-true, ltb-true}
 use Rattle.std.proofs.lemmas.List.{map-append, length-map, length-append}
 use Rattle.uc_isa.specs.Moves.{label_weight, moves_from, moves}
-use Rattle.uc_runs.specs.StraightCode.{weights}
-use Rattle.uc_runs.proofs.Costs.{moves-append, moves-level}
+use Rattle.uc_executions.specs.StraightCode.{weights}
+use Rattle.uc_executions.proofs.Costs.{moves-append, moves-level}
 use Rattle.ssu_ir.specs.Tree.{Label}
 use Rattle.ssu_ir.specs.Points.{own, Entry, nodes, label_points}
 use Rattle.ssu_ir.proofs.PointLemmas.{length-tree_points}
-use Rattle.slot_placement.specs.Plan.{Plan}
+use Rattle.placement.specs.Plan.{Plan}
 use Rattle.label_weights.specs.ByLabel.{label_from}
 use Rattle.label_weights.specs.Weighted.{point_weight, weighted_cost}
 use Rattle.ucode_emit.specs.inner.Drafted.{label_starts}
@@ -134,7 +134,7 @@ module _ (labels : List Label) (p : Plan) (mss : Sequences) (ws : List ℕ) wher
       (h.0, weighs_both (at + length piece) (suc k) n a b m h.1 (subst (λ j. Weighs j n b) z g))
 
   -- label by label: what is known of the weights of places and points from here on
-  record Behind (at k l sofar : ℕ) (vs : List ℕ) (ls : List Label) : Type 0 where
+  record HoldsAfterMoves (at k l sofar : ℕ) (vs : List ℕ) (ls : List Label) : Type 0 where
     at_place : (y : ℕ) → at ≤ y → label_weight 1 begins ws y ≡ label_weight sofar (label_begins labels p mss at k ls) vs y
     at_point : (j : ℕ) → k ≤ j → label_from 0 0 labels j ≡ label_from l k ls j
     at_label : (i : ℕ) → slice_index_or ws (l + i) 1 ≡ slice_index_or vs i 1
@@ -142,7 +142,7 @@ module _ (labels : List Label) (p : Plan) (mss : Sequences) (ws : List ℕ) wher
   points_long : (l k : ℕ) (x : Label) → k + length (label_points l x) ≡ suc k + nodes x.body
   points_long l k x = let a = length-tree_points own x.params x.body in omega (arith, a)
 
-  behind_next : (at k l sofar : ℕ) (vs : List ℕ) (x : Label) (ls : List Label) → Behind at k l sofar vs (x ∷ ls) → Behind (at + length (label_items labels p mss k x)) (suc k + nodes x.body) (suc l) (first_weight vs) (other_weights vs) ls
+  behind_next : (at k l sofar : ℕ) (vs : List ℕ) (x : Label) (ls : List Label) → HoldsAfterMoves at k l sofar vs (x ∷ ls) → HoldsAfterMoves (at + length (label_items labels p mss k x)) (suc k + nodes x.body) (suc l) (first_weight vs) (other_weights vs) ls
   behind_next at k l sofar vs x ls h =
       let next = at + length (label_items labels p mss k x) in
       let long = points_long l k x in
@@ -154,7 +154,7 @@ module _ (labels : List Label) (p : Plan) (mss : Sequences) (ws : List ℕ) wher
         at_label = λ i. let z : suc l + i ≡ l + suc i = omega arith in ap (λ n. slice_index_or ws n 1) z ∙ (h.at_label (suc i) ∙ weight_index vs i);
       }
 
-  label_weighs : (at k l sofar : ℕ) (vs : List ℕ) (x : Label) (ls : List Label) → Behind at k l sofar vs (x ∷ ls) → Weighs at k (mark (Entry l x.params) 0 ∷ tree_marks x.body)
+  label_weighs : (at k l sofar : ℕ) (vs : List ℕ) (x : Label) (ls : List Label) → HoldsAfterMoves at k l sofar vs (x ∷ ls) → Weighs at k (mark (Entry l x.params) 0 ∷ tree_marks x.body)
   label_weighs at k l sofar vs x ls h =
       let next = at + length (label_items labels p mss k x) in
       let long = points_long l k x in
@@ -171,7 +171,7 @@ module _ (labels : List Label) (p : Plan) (mss : Sequences) (ws : List ℕ) wher
       let label : label_from 0 0 labels j ≡ l = h.at_point j a ∙ ap (λ t. if t then l else label_from (suc l) (k + length (label_points l x)) ls j) yes in
       ap (λ n. slice_index_or ws n 1) label ∙ own_weight)
 
-  labels_weigh : (at k l sofar : ℕ) (vs : List ℕ) (ls : List Label) → Behind at k l sofar vs ls → Weighs at k (marks_from l ls)
+  labels_weigh : (at k l sofar : ℕ) (vs : List ℕ) (ls : List Label) → HoldsAfterMoves at k l sofar vs ls → Weighs at k (marks_from l ls)
   labels_weigh at k l sofar vs [] h = tt
   labels_weigh at k l sofar vs (x ∷ ls) h =
       let qs = mark (Entry l x.params) 0 ∷ tree_marks x.body in

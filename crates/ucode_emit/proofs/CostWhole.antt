@@ -4,12 +4,12 @@ use Rattle.std.proofs.lemmas.List.{map-append}
 use Rattle.std.proofs.lemmas.Option.{slice_get_within}
 use Rattle.uc_isa.specs.Moves.{weight, moves_from, moves}
 use Rattle.ssu_ir.specs.Tree.{Tree, Do, If, End, Label, Does, Forks, step_values}
-use Rattle.ssu_ir.specs.Points.{Names, own, names_after, Place, Entry, At, Point, points, points_from, tree_points}
-use Rattle.slot_placement.specs.Plan.{Plan, serve}
-use Rattle.slot_placement.specs.Uses.{Value, values_from, values, place_values, Use, uses}
-use Rattle.slot_placement.specs.Fits.{use_operand}
-use Rattle.slot_placement.specs.Costs.{served_cost, value_cost, values_cost, uses_cost, cost}
-use Rattle.place_checks.proofs.Walked.{get-index}
+use Rattle.ssu_ir.specs.Points.{Names, own, names_after, PointKind, Entry, At, Point, points, points_from, tree_points}
+use Rattle.placement.specs.Plan.{Plan, serve}
+use Rattle.placement.specs.Uses.{Value, values_from, values, place_values, Use, uses}
+use Rattle.placement.specs.Fits.{use_operand}
+use Rattle.placement.specs.Costs.{served_cost, value_cost, values_cost, uses_cost, cost}
+use Rattle.placement_checks.proofs.Walked.{get-index}
 use Rattle.ucode_emit.specs.inner.Pieces.{Item, Moved, Plain, Branch, instr_of, items, starts, Sequences, sequence_at, parallel_moves}
 use Rattle.ucode_emit.specs.inner.Ready.{AreSequences}
 use Rattle.ucode_emit.specs.inner.Layers.{Placed}
@@ -61,13 +61,13 @@ pub each_light : (labels : List Label) (p : Plan) (mss : Sequences) → Placed l
 each_light labels p mss h r =
     each_of (IsLight labels p mss) (marks labels) (λ k q e.
     let l = slice_get_within (marks labels) k q e in
-    let here = get-index (marks labels) k q (mark (Entry 0 []) 0) e in
-    subst (IsLight labels p mss k) here
+    let emit_context = get-index (marks labels) k q (mark (Entry 0 []) 0) e in
+    subst (IsLight labels p mss k) emit_context
     (place_light labels p k (mark_at labels k).first_arm (mark_at labels k).place (sequence_at mss k) h (stood_at labels p k l) (sequence_there labels p mss k r l)))
 
 -- ---- what is counted, point by point
 
-abbrev values_counted : Plan → ℕ → List Place → ℕ
+abbrev values_counted : Plan → ℕ → List PointKind → ℕ
 values_counted p k [] = 0
 values_counted p k (q ∷ qs) = values_cost p (place_values k q) + values_counted p (suc k) qs
 
@@ -92,10 +92,10 @@ by_places : (p : Plan) (k : ℕ) (qs : List Point) → values_cost p (values_fro
 by_places p k [] = refl
 by_places p k (q ∷ qs) = values_both p (place_values k q.place) (values_from (suc k) qs) ∙ ap (λ n. values_cost p (place_values k q.place) + n) (by_places p (suc k) qs)
 
-abbrev pub point_places : List Point → List Place
+abbrev pub point_places : List Point → List PointKind
 point_places qs = map (λ q. q.place) qs
 
-abbrev pub mark_places : List Mark → List Place
+abbrev pub mark_places : List Mark → List PointKind
 mark_places qs = map (λ q. q.place) qs
 
 -- marks stand for points

@@ -6,16 +6,16 @@ use Rattle.std.proofs.lemmas.Bool.{false≢true, eqb-true, ne_eqb}
 use Rattle.std.proofs.lemmas.Option.{none-some, same_Some}
 use Rattle.std.proofs.lemmas.List.{drop_at, take_at, map-append, length-map, length-append}
 use Rattle.ssu_ir.specs.Tree.{Step, Lit, Una, Bin, Clone, Read, Write, Last, Jump, Halt, Tree, Do, If, End, Label, Does, Forks, Ends, step_values, step_uses, last_uses}
-use Rattle.ssu_ir.specs.Points.{Names, own, names_after, Place, Entry, At, Point, points_from, tree_points, nodes}
+use Rattle.ssu_ir.specs.Points.{Names, own, names_after, PointKind, Entry, At, Point, points_from, tree_points, nodes}
 use Rattle.ssu_ir.proofs.PointLemmas.{length-tree_points}
-use Rattle.slot_placement.specs.declared.place.First.{First}
-use Rattle.slot_placement.specs.declared.place.Serve.{Serve}
-use Rattle.slot_placement.specs.declared.place.Pass.{Pass}
-use Rattle.slot_placement.specs.Plan.{first_in, serve_in, pass_in}
-use Rattle.slot_placement.specs.Uses.{Access, accesses_from, accesses, place_accesses, Role, step_roles, last_roles, Operand, Written, Argument, Ending, Use, uses_at, uses_from, uses, place_roles}
-use Rattle.slot_placement.specs.Fits.{Rises, at_operand, use_operand}
-use Rattle.slot_placement.proofs.Sound.{length-roles}
-use Rattle.held_values.proofs.Scoped.{in-itself}
+use Rattle.placement.specs.declared.place.First.{First}
+use Rattle.placement.specs.declared.place.Serve.{Serve}
+use Rattle.placement.specs.declared.place.Pass.{Pass}
+use Rattle.placement.specs.Plan.{first_in, serve_in, pass_in}
+use Rattle.placement.specs.Uses.{Access, accesses_from, accesses, place_accesses, Role, step_roles, last_roles, Operand, Written, Argument, Ending, Use, uses_at, uses_from, uses, place_roles}
+use Rattle.placement.specs.Fits.{Rises, at_operand, use_operand}
+use Rattle.placement.proofs.Sound.{length-roles}
+use Rattle.ssu_liveness.proofs.Scoped.{in-itself}
 use Rattle.ucode_emit.specs.inner.Marks.{Mark, tree_marks, marks_from, marks}
 use Rattle.ucode_emit.specs.inner.Cursors.{place_operands, operands_from, marks_operands, step_access, place_access, marks_accesses, IsCut, AreServed, of_point, further}
 use Rattle.ucode_emit.proofs.PointsEach.{all_both, get_append}
@@ -179,7 +179,7 @@ pub record Mine (k i n : ℕ) (back : List Serve) (rest : List (ℕ × ℕ)) : T
   pub others : List Serve
   pub whole : back ≡ mine ++ others
   pub long : length mine ≡ n
-  pub here : AllByRecursion (λ s. s.point ≡ k) mine
+  pub emit_context : AllByRecursion (λ s. s.point ≡ k) mine
   pub each : (j : ℕ) (s : Serve) → slice_get mine j ≡ Some s → serve_in back k (i + j) ≡ s
   pub operands : map at_operand others ≡ rest
 
@@ -205,7 +205,7 @@ mine_each s xs mine k i (suc j) t e f h g =
     serve_other s xs k (i + suc j) e d ∙ ap (serve_in xs k) z ∙ h j t g
 
 pub mine_of : (k i n : ℕ) (back : List Serve) (rest : List (ℕ × ℕ)) → map at_operand back ≡ operands_from k i n ++ rest → Mine k i n back rest
-mine_of k i zero back rest e = record { mine = []; others = back; whole = refl; long = refl; here = tt; each = λ j s f. absurd (none-some s f); operands = e }
+mine_of k i zero back rest e = record { mine = []; others = back; whole = refl; long = refl; emit_context = tt; each = λ j s f. absurd (none-some s f); operands = e }
 mine_of k i (suc n) [] rest e = absurd (cc)
 mine_of k i (suc n) (s ∷ back) rest e =
     let a : at_operand s ≡ (k, i) = cc in
@@ -218,7 +218,7 @@ mine_of k i (suc n) (s ∷ back) rest e =
       others = m.others;
       whole = ap (λ l. s ∷ l) m.whole;
       long = ap suc m.long;
-      here = (p, m.here);
+      emit_context = (p, m.emit_context);
       each = λ j t f. mine_each s back m.mine k i j t p o m.each f;
       operands = m.operands;
     }
@@ -258,7 +258,7 @@ served_next all at k q qs c =
         whole = w ∙ sym (append_assoc c.front m.mine m.others);
         long = omega (arith, f, l, o);
         before = all_both (λ s. s.point < suc k) c.front m.mine (all_map (λ s. s.point < k) (λ s. s.point < suc k) c.front (λ s h. omega (arith, h)) c.before)
-            (all_map (λ s. s.point ≡ k) (λ s. s.point < suc k) m.mine (λ s h. omega (arith, h)) m.here);
+            (all_map (λ s. s.point ≡ k) (λ s. s.point < suc k) m.mine (λ s h. omega (arith, h)) m.emit_context);
         operands = m.operands;
       };
     }
@@ -292,18 +292,18 @@ uses_both : (k n : ℕ) (a b : List Point) → n ≡ k + length a → uses_from 
 uses_both k n [] b e = let z : k ≡ n = omega (arith, e) in ap (λ j. uses_from j b) z
 uses_both k n (q ∷ a) b e =
     let z : n ≡ suc k + length a = omega (arith, e) in
-    let here = uses_at k 0 q.uses (place_roles q.place) in
-    ap (λ l. here ++ l) (uses_both (suc k) n a b z) ∙ sym (append_assoc here (uses_from (suc k) a) (uses_from n b))
+    let emit_context = uses_at k 0 q.uses (place_roles q.place) in
+    ap (λ l. emit_context ++ l) (uses_both (suc k) n a b z) ∙ sym (append_assoc emit_context (uses_from (suc k) a) (uses_from n b))
 
 operands_both : (k n : ℕ) (a b : List Mark) → n ≡ k + length a → marks_operands k (a ++ b) ≡ marks_operands k a ++ marks_operands n b
 operands_both k n [] b e = let z : k ≡ n = omega (arith, e) in ap (λ j. marks_operands j b) z
 operands_both k n (q ∷ a) b e =
     let z : n ≡ suc k + length a = omega (arith, e) in
-    let here = operands_from k 0 (place_operands q.place) in
-    ap (λ l. here ++ l) (operands_both (suc k) n a b z) ∙ sym (append_assoc here (marks_operands (suc k) a) (marks_operands n b))
+    let emit_context = operands_from k 0 (place_operands q.place) in
+    ap (λ l. emit_context ++ l) (operands_both (suc k) n a b z) ∙ sym (append_assoc emit_context (marks_operands (suc k) a) (marks_operands n b))
 
-both_uses : (k : ℕ) (here : List Use) (rest : List Use) (a b : List (ℕ × ℕ)) → map use_operand here ≡ a → map use_operand rest ≡ b → map use_operand (here ++ rest) ≡ a ++ b
-both_uses k here rest a b e f = map-append use_operand here rest ∙ ap (λ l. l ++ map use_operand rest) e ∙ ap (λ l. a ++ l) f
+both_uses : (k : ℕ) (emit_context : List Use) (rest : List Use) (a b : List (ℕ × ℕ)) → map use_operand emit_context ≡ a → map use_operand rest ≡ b → map use_operand (emit_context ++ rest) ≡ a ++ b
+both_uses k emit_context rest a b e f = map-append use_operand emit_context rest ∙ ap (λ l. l ++ map use_operand rest) e ∙ ap (λ l. a ++ l) f
 
 uses_tree : (k : ℕ) (of : Names) (above : List ℕ) (t : Tree) → map use_operand (uses_from k (tree_points of above t)) ≡ marks_operands k (tree_marks t)
 uses_tree k of above (Do s t) =
@@ -354,18 +354,18 @@ accesses_both : (k n : ℕ) (a b : List Point) → n ≡ k + length a → access
 accesses_both k n [] b e = let z : k ≡ n = omega (arith, e) in ap (λ j. accesses_from j b) z
 accesses_both k n (q ∷ a) b e =
     let z : n ≡ suc k + length a = omega (arith, e) in
-    let here = place_accesses k q.place in
-    ap (λ l. here ++ l) (accesses_both (suc k) n a b z) ∙ sym (append_assoc here (accesses_from (suc k) a) (accesses_from n b))
+    let emit_context = place_accesses k q.place in
+    ap (λ l. emit_context ++ l) (accesses_both (suc k) n a b z) ∙ sym (append_assoc emit_context (accesses_from (suc k) a) (accesses_from n b))
 
 accessed_both : (k n : ℕ) (a b : List Mark) → n ≡ k + length a → marks_accesses k (a ++ b) ≡ marks_accesses k a ++ marks_accesses n b
 accessed_both k n [] b e = let z : k ≡ n = omega (arith, e) in ap (λ j. marks_accesses j b) z
 accessed_both k n (q ∷ a) b e =
     let z : n ≡ suc k + length a = omega (arith, e) in
-    let here = place_access k q.place in
-    ap (λ l. here ++ l) (accessed_both (suc k) n a b z) ∙ sym (append_assoc here (marks_accesses (suc k) a) (marks_accesses n b))
+    let emit_context = place_access k q.place in
+    ap (λ l. emit_context ++ l) (accessed_both (suc k) n a b z) ∙ sym (append_assoc emit_context (marks_accesses (suc k) a) (marks_accesses n b))
 
-both_accesses : (here rest : List Access) (a b : List ℕ) → map access_point here ≡ a → map access_point rest ≡ b → map access_point (here ++ rest) ≡ a ++ b
-both_accesses here rest a b e f = map-append access_point here rest ∙ ap (λ l. l ++ map access_point rest) e ∙ ap (λ l. a ++ l) f
+both_accesses : (emit_context rest : List Access) (a b : List ℕ) → map access_point emit_context ≡ a → map access_point rest ≡ b → map access_point (emit_context ++ rest) ≡ a ++ b
+both_accesses emit_context rest a b e f = map-append access_point emit_context rest ∙ ap (λ l. l ++ map access_point rest) e ∙ ap (λ l. a ++ l) f
 
 accesses_tree : (k : ℕ) (of : Names) (above : List ℕ) (t : Tree) → map access_point (accesses_from k (tree_points of above t)) ≡ marks_accesses k (tree_marks t)
 accesses_tree k of above (Do s t) =
@@ -405,7 +405,7 @@ step_one k (Clone xs y) = inl refl
 step_one k (Read m xs y) = inr refl
 step_one k (Write m y xs) = inr refl
 
-place_one : (k : ℕ) (q : Place) → (place_access k q ≡ []) ⊎ (place_access k q ≡ k ∷ [])
+place_one : (k : ℕ) (q : PointKind) → (place_access k q ≡ []) ⊎ (place_access k q ≡ k ∷ [])
 place_one k (Entry l params) = inl refl
 place_one k (At (Does s)) = step_one k s
 place_one k (At (Forks c x y)) = inl refl

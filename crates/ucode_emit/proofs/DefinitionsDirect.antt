@@ -1,4 +1,4 @@
--- The copies behind a definition are single instructions.
+-- The copies after a definition are single instructions.
 use Rattle.std.proofs.Common.{◌≡◌, ℕ, suc, ◌+◌, ◌<◌, ◌≤◌, ◌⊎◌, true, false, nat_eq, List, [], ◌∷◌, length, Option, Some, None, refl, sym, ap, ◌∙◌, subst, ⊎_elim, slice_get, arith}
 use Rattle.std.specs.Prelude.{⊤}
 use Rattle.std.specs.List.{AllByRecursion}
@@ -8,21 +8,21 @@ use Rattle.nv_base.specs.declared.term.Mem.{Mem}
 use Rattle.nv_base.specs.declared.term.Mem.TheVariants.{Sram, Sdram, Scratch}
 use Rattle.nv_base.specs.Sets.{is_in}
 use Rattle.ssu_ir.specs.Tree.{Lit, Una, Bin, Clone, Read, Write, Jump, Halt, Label, Does, Forks, Ends}
-use Rattle.ssu_ir.specs.Points.{Place as PointPlace, Entry, At, Point, points}
-use Rattle.slot_placement.specs.declared.place.Place.{Place}
-use Rattle.slot_placement.specs.declared.place.Place.TheVariants.{A, B, L, LD, S, SD, Slot}
-use Rattle.slot_placement.specs.Places.{same_place}
-use Rattle.slot_placement.specs.Plan.{Plan, home, first, pass}
-use Rattle.slot_placement.specs.Uses.{Access, place_accesses, accesses_from, accesses, Role, Operand, Address, Written, Argument, Ending, roles, place_roles, Use, uses, is_used}
-use Rattle.slot_placement.specs.Fits.{write_place, IsGeneral, IsFirst, IsEighth, is_slot, is_write_register, role_register, word_register, is_early, has_place}
-use Rattle.slot_placement.proofs.Places.{same_place-itself}
+use Rattle.ssu_ir.specs.Points.{PointKind as PointPlace, Entry, At, Point, points}
+use Rattle.placement.specs.declared.place.Place.{Place}
+use Rattle.placement.specs.declared.place.Place.TheVariants.{A, B, L, LD, S, SD, Slot}
+use Rattle.placement.specs.Places.{same_place}
+use Rattle.placement.specs.Plan.{Plan, home, first, pass}
+use Rattle.placement.specs.Uses.{Access, place_accesses, accesses_from, accesses, Role, Operand, Address, Written, Argument, Ending, roles, place_roles, Use, uses, is_used}
+use Rattle.placement.specs.Fits.{write_place, IsGeneral, IsFirst, IsEighth, is_slot, is_write_register, role_register, word_register, is_early, has_place}
+use Rattle.placement.proofs.Places.{same_place-itself}
 use Rattle.par_move.specs.Moves.{Move}
 use Rattle.ucode_emit.specs.inner.Pieces.{named, copied, all_copied, copies, all_copies}
 use Rattle.ucode_emit.specs.inner.Machine.{IsReadable, IsWritable, IsDirect, write_slot, copied as in_one, AreDirect}
 use Rattle.ucode_emit.specs.inner.Layers.{Placed}
 use Rattle.ucode_emit.proofs.PointsEach.{EachFrom, each_here, all_left, all_right, all_both, all_get}
 use Rattle.ucode_emit.proofs.PointsUses.{use_at}
-use Rattle.ucode_emit.proofs.PointsUsed.{Spot}
+use Rattle.ucode_emit.proofs.PointsUsed.{EmittedPoint}
 use Rattle.ucode_emit.proofs.DefinitionsHomes.{early_register, Settled, settled_at, Target, fill, word, targets, unused_bare}
 
 -- ---- places that a copy can go to
@@ -199,8 +199,8 @@ list_direct labels p k [] h = tt
 list_direct labels p k (x ∷ xs) h =
     all_both (OneInstr p.slots) (copies p k x) (all_copies p k xs) (h x (or_left (nat_eq x x) (is_in x xs) (eq-eqb x x refl))) (list_direct labels p k xs (λ y i. h y (or_right (nat_eq y x) (is_in y xs) i)))
 
-pub copies_are_direct : (labels : List Label) (p : Plan) (k : ℕ) (q r : Point) (xs : List ℕ) → Placed labels p → Spot labels k q r xs → ((y : ℕ) → is_in y xs ≡ true → is_used labels y ≡ true → CanGive p y)
+pub copies_are_direct : (labels : List Label) (p : Plan) (k : ℕ) (q r : Point) (xs : List ℕ) → Placed labels p → EmittedPoint labels k q r xs → ((y : ℕ) → is_in y xs ≡ true → is_used labels y ≡ true → CanGive p y)
     → AreDirect p.slots (all_copies p k xs)
 copies_are_direct labels p k q r xs h s g =
     All-from_recursion (OneInstr p.slots) (all_copies p k xs)
-    (list_direct labels p k xs (λ y i. copies_direct labels p k q y h s.here (λ u. settled_at labels p k q y h s.here (ap (is_in y) s.values ∙ i) u) (g y i)))
+    (list_direct labels p k xs (λ y i. copies_direct labels p k q y h s.emit_context (λ u. settled_at labels p k q y h s.emit_context (ap (is_in y) s.values ∙ i) u) (g y i)))

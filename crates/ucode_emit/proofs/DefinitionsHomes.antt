@@ -11,15 +11,15 @@ use Rattle.nv_base.specs.Sets.{is_in}
 use Rattle.nv_base.proofs.Sets.{same-number}
 use Rattle.ssu_ir.specs.Tree.{Label}
 use Rattle.ssu_ir.specs.Points.{Point, points, place_values}
-use Rattle.slot_placement.specs.declared.place.Place.{Place}
-use Rattle.slot_placement.specs.declared.place.Place.TheVariants.{A, B, L, LD, S, SD, Slot}
-use Rattle.slot_placement.specs.declared.place.Serve.{Serve}
-use Rattle.slot_placement.specs.Places.{same_place}
-use Rattle.slot_placement.specs.Plan.{Home, Plan, home, home_in, first}
-use Rattle.slot_placement.specs.Uses.{Value, Sort, Parameter, Result, Fetched, values, place_values as values_at, Role, Operand, Address, Written, Argument, Ending, Use, uses, uses_of, is_used}
-use Rattle.slot_placement.specs.Fits.{read_place, write_place, IsGeneral, is_general, is_write_register, is_read_register, served, role_register, word_register, is_early, early_uses, AreCopies, IsPutEarly, IsHome, IsHoused, is_sort_homed, wants_home, is_home, IsServedAt, IsServed, stays, general_places, kept_register, read_places, has_place, none_shared}
-use Rattle.slot_placement.proofs.Places.{same_place-true, same_place-from}
-use Rattle.slot_placement.proofs.Fitting.{vars-of-place}
+use Rattle.placement.specs.declared.place.Place.{Place}
+use Rattle.placement.specs.declared.place.Place.TheVariants.{A, B, L, LD, S, SD, Slot}
+use Rattle.placement.specs.declared.place.Serve.{Serve}
+use Rattle.placement.specs.Places.{same_place}
+use Rattle.placement.specs.Plan.{Home, Plan, home, home_in, first}
+use Rattle.placement.specs.Uses.{Value, ValueOrigin, Parameter, Result, Fetched, values, place_values as values_at, Role, Operand, Address, Written, Argument, Ending, Use, uses, uses_of, is_used}
+use Rattle.placement.specs.Fits.{read_place, write_place, IsGeneral, is_general, is_write_register, is_read_register, served, role_register, word_register, is_early, early_uses, AreCopies, IsPutEarly, IsHome, IsHoused, is_sort_homed, wants_home, is_home, IsServedAt, IsServed, stays, general_places, kept_register, read_places, has_place, none_shared}
+use Rattle.placement.proofs.Places.{same_place-true, same_place-from}
+use Rattle.placement.proofs.Fitting.{vars-of-place}
 use Rattle.ucode_emit.specs.inner.Ready.{lasting}
 use Rattle.ucode_emit.specs.inner.Layers.{Placed}
 use Rattle.ucode_emit.proofs.PointsEach.{EachFrom, each_map, each_here, all_get, all_of}
@@ -208,7 +208,7 @@ pub data Settled (labels : List Label) (p : Plan) (x : ℕ) : Type 0 where
   put_early : IsPutEarly labels p x (home p x) → Settled labels p x
   fetched_to : (m : Mem) (r : ℕ) → (home p x).defined ≡ read_place m r → AreCopies labels p x (home p x) → Settled labels p x
 
-settled_sort : (labels : List Label) (p : Plan) (v : Value) (s : Sort) → IsHome labels p v (home p v.var) s → is_used labels v.var ≡ true → Settled labels p v.var
+settled_sort : (labels : List Label) (p : Plan) (v : Value) (s : ValueOrigin) → IsHome labels p v (home p v.var) s → is_used labels v.var ≡ true → Settled labels p v.var
 settled_sort labels p v (Parameter l i) h u = in_general h.0 h.1
 settled_sort labels p v Result h u =
     ⊎_elim (λ (g : IsGeneral p (home p v.var).defined × AreCopies labels p v.var (home p v.var)). in_general g.0 g.1) (λ (g : IsPutEarly labels p v.var (home p v.var)). put_early g) h
@@ -229,7 +229,7 @@ SettledIfUsed labels p x = is_used labels x ≡ true → Settled labels p x
 settled_here : (labels : List Label) (p : Plan) (k : ℕ) (q : Point) → AllByRecursion (IsHoused labels p) (values_at k q.place) → (x : ℕ) → is_in x (place_values q.place) ≡ true → SettledIfUsed labels p x
 settled_here labels p k q a x i =
     let v = value_of (IsHoused labels p) (values_at k q.place) x a (ap (is_in x) (vars-of-place k q.place) ∙ i) in
-    subst (SettledIfUsed labels p) v.2 (settled_sort labels p v.0 v.0.sort v.1)
+    subst (SettledIfUsed labels p) v.2 (settled_sort labels p v.0 v.0.origin v.1)
 
 pub settled_values : (labels : List Label) (p : Plan) → Placed labels p → EachFrom (λ k q. (x : ℕ) → is_in x (place_values q.place) ≡ true → SettledIfUsed labels p x) 0 (points labels)
 settled_values labels p h =
@@ -282,7 +282,7 @@ absent_bare (h ∷ hs) x e =
     let other : nat_eq h.var x ≡ false = false_from_ne_true (nat_eq h.var x) (λ k. false≢true (sym p.0 ∙ eq-eqb x h.var (sym (same-number h.var x k)))) in
     ap (λ b. (if b then h else home_in hs x).copied) other ∙ absent_bare hs x p.1
 
-bare_sort : (labels : List Label) (p : Plan) (v : Value) (s : Sort) → IsHome labels p v (home p v.var) s → is_sort_homed (is_used labels v.var) s ≡ true → is_used labels v.var ≡ false → (home p v.var).copied ≡ []
+bare_sort : (labels : List Label) (p : Plan) (v : Value) (s : ValueOrigin) → IsHome labels p v (home p v.var) s → is_sort_homed (is_used labels v.var) s ≡ true → is_used labels v.var ≡ false → (home p v.var).copied ≡ []
 bare_sort labels p v (Parameter l i) h w u = h.1.unused u
 bare_sort labels p v Result h w u =
     ⊎_elim (λ (g : IsGeneral p (home p v.var).defined × AreCopies labels p v.var (home p v.var)). g.1.unused u) (λ (g : IsPutEarly labels p v.var (home p v.var)). g.copied) h
@@ -300,7 +300,7 @@ bare_kept : (labels : List Label) (p : Plan) (x : ℕ) → Placed labels p → i
 bare_kept labels p x h u i =
     let all = wanted (IsHoused labels p) (wants_home labels) (values labels) (recursion_from_All (IsHoused labels p) (values labels) h.fits.values) in
     let v = value_of (λ w. IsHoused labels p w × (wants_home labels w ≡ true)) (filter (wants_home labels) (values labels)) x all (h.fits.homes.only x i) in
-    subst (λ z. is_used labels z ≡ false → (home p z).copied ≡ []) v.2 (bare_sort labels p v.0 v.0.sort v.1.0 v.1.1) u
+    subst (λ z. is_used labels z ≡ false → (home p z).copied ≡ []) v.2 (bare_sort labels p v.0 v.0.origin v.1.0 v.1.1) u
 
 pub unused_bare : (labels : List Label) (p : Plan) (x : ℕ) → Placed labels p → is_used labels x ≡ false → (home p x).copied ≡ []
 unused_bare labels p x h u =

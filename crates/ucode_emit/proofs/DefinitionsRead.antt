@@ -1,4 +1,4 @@
--- A read: its words come into read registers and are copied, and behind it all stands ready.
+-- A read: its words come into read registers and are copied, and after it all stands ready.
 use Rattle.std.proofs.Common.{◌≡◌, ℕ, zero, suc, ◌+◌, ◌<◌, ◌≤◌, true, false, List, [], ◌∷◌, ◌++◌, length, Some, refl, sym, ap, ◌∙◌, subst, inr, ⊎_elim, slice_get, arith}
 use Rattle.std.specs.List.{AllByRecursion}
 use Rattle.std.proofs.lemmas.Bool.{or_cases, or_parts, false≢true, eqb-true, false_from_ne_true}
@@ -10,23 +10,23 @@ use Rattle.nv_base.specs.Sets.{is_in}
 use Rattle.nv_base.specs.Words.{Env, assigned_all}
 use Rattle.ssu_ir.specs.Tree.{Read, Tree, Do, Label}
 use Rattle.ssu_ir.specs.Points.{Names, Point, points}
-use Rattle.slot_placement.specs.declared.place.Place.{Place}
-use Rattle.slot_placement.specs.declared.place.Place.TheVariants.{L, LD}
-use Rattle.slot_placement.specs.Places.{same_place}
-use Rattle.slot_placement.specs.Plan.{Plan, home, first}
-use Rattle.slot_placement.specs.Uses.{Fetched, numbered, place_values as values_at, is_used, Access}
-use Rattle.slot_placement.specs.Fits.{read_place, is_read_register, word_register, IsHoused, KeepsRead, run_of, read_places, has_place, none_shared}
-use Rattle.slot_placement.proofs.Places.{same_place-from, same_place-true}
+use Rattle.placement.specs.declared.place.Place.{Place}
+use Rattle.placement.specs.declared.place.Place.TheVariants.{L, LD}
+use Rattle.placement.specs.Places.{same_place}
+use Rattle.placement.specs.Plan.{Plan, home, first}
+use Rattle.placement.specs.Uses.{Fetched, numbered, place_values as values_at, is_used, Access}
+use Rattle.placement.specs.Fits.{read_place, is_read_register, word_register, IsHoused, KeepsRead, run_of, read_places, has_place, none_shared}
+use Rattle.placement.proofs.Places.{same_place-from, same_place-true}
 use Rattle.par_move.specs.Moves.{Words, put}
 use Rattle.par_move.proofs.Steps.{put-other}
 use Rattle.ucode_emit.specs.inner.Pieces.{all_copies}
 use Rattle.ucode_emit.specs.inner.Ready.{Ready}
 use Rattle.ucode_emit.specs.inner.Machine.{IsReadable, filled}
-use Rattle.ucode_emit.specs.inner.Layers.{Placed, PointsAt, root_point, Behind}
+use Rattle.ucode_emit.specs.inner.Layers.{Placed, PointsAt, root_point, HoldsAfterMoves}
 use Rattle.ucode_emit.proofs.PointsEach.{each_here}
 use Rattle.ucode_emit.proofs.PointsLabels.{formed_at}
 use Rattle.ucode_emit.proofs.PointsUses.{in_at, numbered_at}
-use Rattle.ucode_emit.proofs.PointsUsed.{Spot, spot_step}
+use Rattle.ucode_emit.proofs.PointsUsed.{EmittedPoint, spot_step}
 use Rattle.ucode_emit.proofs.Copies.{put_here}
 use Rattle.ucode_emit.proofs.DefinitionsHomes.{general_not_read, read_not_written, read_place_is, none_both, housed_each, settled_above, Lasts, in_place, in_read, lasts_from}
 use Rattle.ucode_emit.proofs.DefinitionsReady.{spot_vars, waits_on, waits_register, Brought, ready_behind}
@@ -104,16 +104,16 @@ run_length : (m : Mem) (f : ℕ) (xs ws : List ℕ) (t : Place) → length ws �
 run_length m f xs ws t n h = ap (λ l. has_place t (run_of (read_place m) f l)) n ∙ h
 
 read_brought : (labels : List Label) (p : Plan) (k : ℕ) (of : Names) (above : List ℕ) (m : Mem) (xs ws : List ℕ) (y : ℕ) (t : Tree) (env : Env) (e : Words) → Placed labels p
-    → Spot labels k (root_point of above (Do (Read m xs y) t)) (root_point of (above ++ xs) t) xs → length ws ≡ length xs → Ready labels p k (root_point of above (Do (Read m xs y) t)) env e
+    → EmittedPoint labels k (root_point of above (Do (Read m xs y) t)) (root_point of (above ++ xs) t) xs → length ws ≡ length xs → Ready labels p k (root_point of above (Do (Read m xs y) t)) env e
     → Brought labels p k (root_point of (above ++ xs) t) xs (assigned_all env xs ws) (filled e m (first p k) ws)
 read_brought labels p k of above m xs ws y t env e h s n d =
     let q = root_point of above (Do (Read m xs y) t) in
     let r = root_point of (above ++ xs) t in
     let it : Access = record { point = k; mem = m; words = length xs } in
-    let keeps : KeepsRead labels p q it = All-head (KeepsRead labels p q) it [] ((h.fits.points k q s.here).reads) in
-    let different = (formed_at labels k q h.single s.here).different in record {
+    let keeps : KeepsRead labels p q it = All-head (KeepsRead labels p q) it [] ((h.fits.points k q s.emit_context).reads) in
+    let different = (formed_at labels k q h.single s.emit_context).different in record {
       defined = λ x i u.
-          let g = read_home labels p k q m xs y x h s.here refl i u in
+          let g = read_home labels p k q m xs y x h s.emit_context refl i u in
           let w = word_there xs ws g.number x n g.there in
           ap (filled e m (first p k) ws) g.at ∙ (filled_at e m (first p k) ws g.number w.0 w.1 ∙ sym (each_its_word env xs ws g.number x w.0 different g.there w.1));
       held = λ x i f c l.
@@ -129,15 +129,15 @@ read_brought labels p k of above m xs ws y t env e h s n d =
 
 pub read : (labels : List Label) (p : Plan) → Placed labels p → (k : ℕ) (of : Names) (above : List ℕ) (m : Mem) (xs ws : List ℕ) (y : ℕ) (t : Tree) (env : Env) (e : Words) → PointsAt labels k of above (Do (Read m xs y) t) → length ws ≡ length xs
     → Ready labels p k (root_point of above (Do (Read m xs y) t)) env e
-    → Behind p.slots (all_copies p k xs) (filled e m (first p k) ws) (Ready labels p (suc k) (root_point of (above ++ xs) t) (assigned_all env xs ws))
+    → HoldsAfterMoves p.slots (all_copies p k xs) (filled e m (first p k) ws) (Ready labels p (suc k) (root_point of (above ++ xs) t) (assigned_all env xs ws))
 read labels p h k of above m xs ws y t env e a n d =
     let q = root_point of above (Do (Read m xs y) t) in
     let r = root_point of (above ++ xs) t in
-    let s : Spot labels k q r xs = spot_step labels k of above (Read m xs y) t a in
-    let b : first p k + length xs ≤ 8 = first_bound m (length xs) (first p k) (access_at labels p k q h s.here).0 in (
+    let s : EmittedPoint labels k q r xs = spot_step labels k of above (Read m xs y) t a in
+    let b : first p k + length xs ≤ 8 = first_bound m (length xs) (first p k) (access_at labels p k q h s.emit_context).0 in (
       copies_are_direct labels p k q r xs h s
           (λ x i u.
-          let g = read_home labels p k q m xs y x h s.here refl i u in
+          let g = read_home labels p k q m xs y x h s.emit_context refl i u in
           let l : g.number < length xs = slice_get_within xs g.number x g.there in
           inr (subst IsReadable (sym g.at) (read_place_readable m (first p k + g.number) (omega arith)))),
       ready_behind labels p k q r xs (assigned_all env xs ws) (filled e m (first p k) ws) h s (read_brought labels p k of above m xs ws y t env e h s n d),

@@ -9,28 +9,28 @@ use Rattle.nv_base.specs.Words.{Env}
 use Rattle.nv_base.proofs.Sets.{same-number, within-right}
 use Rattle.ssu_ir.specs.Tree.{Label}
 use Rattle.ssu_ir.specs.Points.{Point, points}
-use Rattle.slot_placement.specs.declared.place.Place.{Place}
-use Rattle.slot_placement.specs.declared.place.Place.TheVariants.{S}
-use Rattle.slot_placement.specs.Places.{same_place}
-use Rattle.slot_placement.specs.Plan.{Plan, home, pass}
-use Rattle.slot_placement.specs.Uses.{Value, place_values as values_at, Use, uses, uses_of, is_used}
-use Rattle.slot_placement.specs.Fits.{Waits, same_use, point_values, comes_to_slot, is_result, maybe, is_general, is_slot, is_write_register, is_read_register, word_register, is_early, IsPutEarly, general_places, has_place, none_shared}
-use Rattle.slot_placement.proofs.Places.{same_place-from}
-use Rattle.slot_placement.proofs.Fitting.{vars-of-place}
+use Rattle.placement.specs.declared.place.Place.{Place}
+use Rattle.placement.specs.declared.place.Place.TheVariants.{S}
+use Rattle.placement.specs.Places.{same_place}
+use Rattle.placement.specs.Plan.{Plan, home, pass}
+use Rattle.placement.specs.Uses.{Value, place_values as values_at, Use, uses, uses_of, is_used}
+use Rattle.placement.specs.Fits.{Waits, same_use, point_values, comes_to_slot, is_result, maybe, is_general, is_slot, is_write_register, is_read_register, word_register, is_early, IsPutEarly, general_places, has_place, none_shared}
+use Rattle.placement.proofs.Places.{same_place-from}
+use Rattle.placement.proofs.Fitting.{vars-of-place}
 use Rattle.par_move.specs.Moves.{Words, one_by_one}
 use Rattle.ucode_emit.specs.inner.Pieces.{named, all_copies}
 use Rattle.ucode_emit.specs.inner.Ready.{Ready, WaitsAt, lasting}
 use Rattle.ucode_emit.specs.inner.Layers.{Placed}
 use Rattle.ucode_emit.proofs.PointsLabels.{formed_at, below_at}
 use Rattle.ucode_emit.proofs.PointsUses.{use_at, one_value, at_in, use_of, used_by}
-use Rattle.ucode_emit.proofs.PointsUsed.{Spot}
+use Rattle.ucode_emit.proofs.PointsUsed.{EmittedPoint}
 use Rattle.ucode_emit.proofs.Copies.{place_head, Safe, copies_spare, copies_keep, copies_bring}
 use Rattle.ucode_emit.proofs.DefinitionsHomes.{general_is, general_not_written, general_not_read, read_not_written, read_place_is, place_filter, none_both, Early, early_register, ThereIn, uses_of_each, filter_get, Settled, in_general, put_early, fetched_to, settled_at, settled_above, Target, fill, word, targets, early_copied, unused_bare, Lasts, in_place, in_read, IsOwn, lasts_from}
 
 -- ---- what waits, and what is held
 
 -- the values that a point defines
-pub spot_vars : (labels : List Label) (k : ℕ) (q r : Point) (xs : List ℕ) → Spot labels k q r xs → point_values k q ≡ xs
+pub spot_vars : (labels : List Label) (k : ℕ) (q r : Point) (xs : List ℕ) → EmittedPoint labels k q r xs → point_values k q ≡ xs
 spot_vars labels k q r xs s = vars-of-place k q.place ∙ s.values
 
 pub waits_from : (labels : List Label) (p : Plan) (k : ℕ) (q : Point) (u : Use) → (i : ℕ) × (slice_get (uses labels) i ≡ Some u) → is_early p u ≡ true
@@ -49,34 +49,34 @@ pub record UsedBelow (labels : List Label) (k : ℕ) (q r : Point) (u : Use) : T
   pub within : u.point ≤ k + q.below
   pub held : is_in u.value r.before ≡ true
 
-pub used_below : (labels : List Label) (p : Plan) (k : ℕ) (q r : Point) (xs : List ℕ) (i : ℕ) (u : Use) → Placed labels p → Spot labels k q r xs → slice_get (uses labels) i ≡ Some u → is_in u.value xs ≡ true → UsedBelow labels k q r u
+pub used_below : (labels : List Label) (p : Plan) (k : ℕ) (q r : Point) (xs : List ℕ) (i : ℕ) (u : Use) → Placed labels p → EmittedPoint labels k q r xs → slice_get (uses labels) i ≡ Some u → is_in u.value xs ≡ true → UsedBelow labels k q r u
 used_below labels p k q r xs i u h s e x =
     let a = use_at labels i u e in
     let used : is_in u.value a.point_.uses ≡ true = at_in u.value a.point_.uses u.operand a.operand in
     let f = formed_at labels u.point a.point_ h.single a.at in
-    let b = below_at labels k u.point q a.point_ u.value h.single s.here a.at (ap (is_in u.value) s.values ∙ x) (f.uses u.value used) in record {
+    let b = below_at labels k u.point q a.point_ u.value h.single s.emit_context a.at (ap (is_in u.value) s.values ∙ x) (f.uses u.value used) in record {
       under = b.under;
       within = b.within;
       held = sym (ap (is_in u.value) s.same) ∙ b.after used;
     }
 
-pub held_below : (labels : List Label) (p : Plan) (k : ℕ) (q r : Point) (xs : List ℕ) (y : ℕ) → Placed labels p → Spot labels k q r xs → is_in y xs ≡ true → is_used labels y ≡ true → is_in y r.before ≡ true
+pub held_below : (labels : List Label) (p : Plan) (k : ℕ) (q r : Point) (xs : List ℕ) (y : ℕ) → Placed labels p → EmittedPoint labels k q r xs → is_in y xs ≡ true → is_used labels y ≡ true → is_in y r.before ≡ true
 held_below labels p k q r xs y h s i u =
     let d = use_of labels y u in
     let x : is_in d.it.value xs ≡ true = ap (λ z. is_in z xs) d.value ∙ i in
     sym (ap (λ z. is_in z r.before) d.value) ∙ (used_below labels p k q r xs d.place d.it h s d.there x).held
 
-pub early_waits : (labels : List Label) (p : Plan) (k : ℕ) (q r : Point) (xs : List ℕ) (y : ℕ) (u : Use) → Placed labels p → Spot labels k q r xs → is_in y xs ≡ true → Early labels p y u → Waits labels p k q u
+pub early_waits : (labels : List Label) (p : Plan) (k : ℕ) (q r : Point) (xs : List ℕ) (y : ℕ) (u : Use) → Placed labels p → EmittedPoint labels k q r xs → is_in y xs ≡ true → Early labels p y u → Waits labels p k q u
 early_waits labels p k q r xs y u h s i e =
     let x : is_in u.value xs ≡ true = ap (λ z. is_in z xs) e.value ∙ i in
     let b = used_below labels p k q r xs e.place u h s e.there x in
     waits_from labels p k q u (e.place, e.there) e.early (within-right q.above (point_values k q) u.value (ap (is_in u.value) (spot_vars labels k q r xs s) ∙ x)) b.under b.within
 
--- what waits at the next point waits behind this one
-pub waits_on : (labels : List Label) (p : Plan) (k : ℕ) (q r : Point) (xs : List ℕ) (u : Use) → Spot labels k q r xs → WaitsAt labels p (suc k) r u → Waits labels p k q u
+-- what waits at the next point waits after this one
+pub waits_on : (labels : List Label) (p : Plan) (k : ℕ) (q r : Point) (xs : List ℕ) (u : Use) → EmittedPoint labels k q r xs → WaitsAt labels p (suc k) r u → Waits labels p k q u
 waits_on labels p k q r xs u s w =
     let same : r.above ≡ q.above ++ point_values k q = s.above_it ∙ ap (λ l. q.above ++ l) (sym (spot_vars labels k q r xs s)) in
-    let a : suc k ≤ u.point = leb-true (suc k) u.point w.here in
+    let a : suc k ≤ u.point = leb-true (suc k) u.point w.emit_context in
     let b : u.point ≤ suc k + r.below = leb-true u.point (suc k + r.below) w.below in
     let c : q.below ≡ suc r.below = s.below_it in
     waits_from labels p k q u w.there w.early (sym (ap (is_in u.value) same) ∙ w.defined) (omega arith) (omega arith)
@@ -103,9 +103,9 @@ some_named : (o : Option ℕ) (r : Place) → is_some o ≡ true → has_place r
 some_named (Some n) r i h e = false≢true (sym ((or_parts (same_place r (S n)) false h).0) ∙ same_place-from r (S n) e)
 some_named None r i h e = false≢true i
 
-comes-here : (labels : List Label) (p : Plan) (v : Value) → is_used labels v.var ≡ true → list_any is_slot (home p v.var).copied ≡ true → comes_to_slot labels p v ≡ true
-comes-here labels p v u c =
-    and_from (is_used labels v.var) (list_any is_slot (home p v.var).copied || (is_result v.sort && is_slot (home p v.var).defined)) u (or_left (list_any is_slot (home p v.var).copied) (is_result v.sort && is_slot (home p v.var).defined) c)
+comes-emit_context : (labels : List Label) (p : Plan) (v : Value) → is_used labels v.var ≡ true → list_any is_slot (home p v.var).copied ≡ true → comes_to_slot labels p v ≡ true
+comes-emit_context labels p v u c =
+    and_from (is_used labels v.var) (list_any is_slot (home p v.var).copied || (is_result v.origin && is_slot (home p v.var).defined)) u (or_left (list_any is_slot (home p v.var).copied) (is_result v.origin && is_slot (home p v.var).defined) c)
 
 any_comes : (labels : List Label) (p : Plan) (vs : List Value) (y : ℕ) → is_in y (map (λ v. v.var) vs) ≡ true → is_used labels y ≡ true → list_any is_slot (home p y).copied ≡ true → list_any (comes_to_slot labels p) vs ≡ true
 any_comes labels p [] y i u c = absurd (false≢true i)
@@ -114,7 +114,7 @@ any_comes labels p (v ∷ vs) y i u c =
     (λ (e : nat_eq y v.var ≡ true).
     let same : y ≡ v.var = same-number y v.var e in
     or_left (comes_to_slot labels p v) (list_any (comes_to_slot labels p) vs)
-    (comes-here labels p v (subst (λ z. is_used labels z ≡ true) same u) (subst (λ z. list_any is_slot (home p z).copied ≡ true) same c)))
+    (comes-emit_context labels p v (subst (λ z. is_used labels z ≡ true) same u) (subst (λ z. list_any is_slot (home p z).copied ≡ true) same c)))
     (λ (e : is_in y (map (λ v. v.var) vs) ≡ true). or_right (comes_to_slot labels p v) (list_any (comes_to_slot labels p) vs) (any_comes labels p vs y e u c))
     (or_cases (nat_eq y v.var) (is_in y (map (λ v. v.var) vs)) i)
 
@@ -134,8 +134,8 @@ safe_if : (labels : List Label) (p : Plan) (k y : ℕ) (r : Place) → Placed la
 safe_if labels p k y r h f =
     ⊎_elim (λ (u : is_used labels y ≡ true). f u) (λ (u : is_used labels y ≡ false). safe_bare p k y r (unused_bare labels p y h u)) (cases_Bool (is_used labels y))
 
-settled_spot : (labels : List Label) (p : Plan) (k : ℕ) (q r : Point) (xs : List ℕ) (y : ℕ) → Placed labels p → Spot labels k q r xs → is_in y xs ≡ true → is_used labels y ≡ true → Settled labels p y
-settled_spot labels p k q r xs y h s i u = settled_at labels p k q y h s.here (ap (is_in y) s.values ∙ i) u
+settled_spot : (labels : List Label) (p : Plan) (k : ℕ) (q r : Point) (xs : List ℕ) (y : ℕ) → Placed labels p → EmittedPoint labels k q r xs → is_in y xs ≡ true → is_used labels y ≡ true → Settled labels p y
+settled_spot labels p k q r xs y h s i u = settled_at labels p k q y h s.emit_context (ap (is_in y) s.values ∙ i) u
 
 -- a place that no copy goes to
 safe_off : (labels : List Label) (p : Plan) (k y : ℕ) (t : Place) → Settled labels p y → (Target labels p y t → has_place t (home p y).copied ≡ true → ⊥) → (list_any is_slot (home p y).copied ≡ true → t ≡ S (named (pass p k).s) → ⊥) → Safe p k y t
@@ -158,7 +158,7 @@ general_no_s t n g e = false≢true (sym (ap is_general e) ∙ g)
 read_no_s : (t : Place) (n : ℕ) → is_read_register t ≡ true → t ≡ S n → ⊥
 read_no_s t n g e = false≢true (sym (ap is_read_register e) ∙ g)
 
-pub safe_general : (labels : List Label) (p : Plan) (k : ℕ) (q r : Point) (xs : List ℕ) (x y : ℕ) (t : Place) → Placed labels p → Spot labels k q r xs → is_in x r.before ≡ true → is_in y xs ≡ true → (y ≡ x → ⊥)
+pub safe_general : (labels : List Label) (p : Plan) (k : ℕ) (q r : Point) (xs : List ℕ) (x y : ℕ) (t : Place) → Placed labels p → EmittedPoint labels k q r xs → is_in x r.before ≡ true → is_in y xs ≡ true → (y ≡ x → ⊥)
     → is_general t ≡ true → has_place t (general_places p x) ≡ true → Safe p k y t
 safe_general labels p k q r xs x y t h s b i n g m =
     safe_if labels p k y t h
@@ -167,22 +167,22 @@ safe_general labels p k q r xs x y t h s b i n g m =
     let apart = (h.fits.points (suc k) r s.next).held.general x y b held (λ e. n (sym e)) in
     safe_off labels p k y t (settled_spot labels p k q r xs y h s i u) (off_general labels p x y t h g m apart) (λ c. general_no_s t (named (pass p k).s) g))
 
-pub safe_read : (labels : List Label) (p : Plan) (k : ℕ) (q r : Point) (xs : List ℕ) (y : ℕ) (t : Place) → Placed labels p → Spot labels k q r xs → is_in y xs ≡ true → is_read_register t ≡ true → Safe p k y t
+pub safe_read : (labels : List Label) (p : Plan) (k : ℕ) (q r : Point) (xs : List ℕ) (y : ℕ) (t : Place) → Placed labels p → EmittedPoint labels k q r xs → is_in y xs ≡ true → is_read_register t ≡ true → Safe p k y t
 safe_read labels p k q r xs y t h s i g =
     safe_if labels p k y t h
     (λ u. safe_off labels p k y t (settled_spot labels p k q r xs y h s i u) (λ d c. off_read labels p y t h g d) (λ c. read_no_s t (named (pass p k).s) g))
 
-off_word : (labels : List Label) (p : Plan) (k : ℕ) (q r : Point) (xs : List ℕ) (y : ℕ) (v : Use) → Placed labels p → Spot labels k q r xs → is_in y xs ≡ true → (y ≡ v.value → ⊥) → Waits labels p k q v → Target labels p y (word_register p v) → ⊥
+off_word : (labels : List Label) (p : Plan) (k : ℕ) (q r : Point) (xs : List ℕ) (y : ℕ) (v : Use) → Placed labels p → EmittedPoint labels k q r xs → is_in y xs ≡ true → (y ≡ v.value → ⊥) → Waits labels p k q v → Target labels p y (word_register p v) → ⊥
 off_word labels p k q r xs y v h s i n w (fill g) = general_not_written (word_register p v) (general_is p (word_register p v) g) (waits_register labels p k q v h w)
 off_word labels p k q r xs y v h s i n w (word u e same) =
-    waits_apart labels p k q v u h s.here w (early_waits labels p k q r xs y u h s i e) (λ k. n (sym e.value ∙ sym k)) same
+    waits_apart labels p k q v u h s.emit_context w (early_waits labels p k q r xs y u h s i e) (λ k. n (sym e.value ∙ sym k)) same
 
-pub safe_word : (labels : List Label) (p : Plan) (k : ℕ) (q r : Point) (xs : List ℕ) (y : ℕ) (v : Use) → Placed labels p → Spot labels k q r xs → is_in y xs ≡ true → (y ≡ v.value → ⊥) → Waits labels p k q v → Safe p k y (word_register p v)
+pub safe_word : (labels : List Label) (p : Plan) (k : ℕ) (q r : Point) (xs : List ℕ) (y : ℕ) (v : Use) → Placed labels p → EmittedPoint labels k q r xs → is_in y xs ≡ true → (y ≡ v.value → ⊥) → Waits labels p k q v → Safe p k y (word_register p v)
 safe_word labels p k q r xs y v h s i n w =
     safe_if labels p k y (word_register p v) h
     (λ u.
     safe_off labels p k y (word_register p v) (settled_spot labels p k q r xs y h s i u) (λ d c. off_word labels p k q r xs y v h s i n w d)
-    (λ c. waits_through labels p k q v h s.here w (any_comes labels p (values_at k q.place) y (ap (is_in y) (spot_vars labels k q r xs s) ∙ i) u c)))
+    (λ c. waits_through labels p k q v h s.emit_context w (any_comes labels p (values_at k q.place) y (ap (is_in y) (spot_vars labels k q r xs s) ∙ i) u c)))
 
 first_only : (u v : Use) (j : ℕ) → slice_get (v ∷ []) j ≡ Some u → u ≡ v
 first_only u v zero g = sym (same_Some v u g)
@@ -200,7 +200,7 @@ only_one us u v j e g = first_only u v j (sym (ap (λ l. slice_get l j) e) ∙ g
 pub early_use : (labels : List Label) (p : Plan) (x : ℕ) (g : IsPutEarly labels p x (home p x)) → Early labels p x g.use_
 early_use labels p x g = one_early labels p x (uses_of labels x) g.use_ g.one g.early (uses_of_each labels x)
 
-pub safe_defined : (labels : List Label) (p : Plan) (k : ℕ) (q r : Point) (xs : List ℕ) (x y : ℕ) → Placed labels p → Spot labels k q r xs → is_in x xs ≡ true → is_in x r.before ≡ true → Settled labels p x → is_in y xs ≡ true → (y ≡ x → ⊥) → Safe p k y (home p x).defined
+pub safe_defined : (labels : List Label) (p : Plan) (k : ℕ) (q r : Point) (xs : List ℕ) (x y : ℕ) → Placed labels p → EmittedPoint labels k q r xs → is_in x xs ≡ true → is_in x r.before ≡ true → Settled labels p x → is_in y xs ≡ true → (y ≡ x → ⊥) → Safe p k y (home p x).defined
 safe_defined labels p k q r xs x y h s j b (in_general g c) i n =
     let k' : is_general (home p x).defined ≡ true = general_is p (home p x).defined g in
     safe_general labels p k q r xs x y (home p x).defined h s b i n k'
@@ -211,11 +211,11 @@ safe_defined labels p k q r xs x y h s j b (put_early g) i n =
 safe_defined labels p k q r xs x y h s j b (fetched_to m l e c) i n =
     safe_read labels p k q r xs y (home p x).defined h s i (ap is_read_register e ∙ read_place_is m l)
 
-safe_lasting : (labels : List Label) (p : Plan) (k : ℕ) (q r : Point) (xs : List ℕ) (x y : ℕ) (t : Place) → Placed labels p → Spot labels k q r xs → is_in x r.before ≡ true → is_in y xs ≡ true → (y ≡ x → ⊥) → Lasts labels p x t → Safe p k y t
+safe_lasting : (labels : List Label) (p : Plan) (k : ℕ) (q r : Point) (xs : List ℕ) (x y : ℕ) (t : Place) → Placed labels p → EmittedPoint labels k q r xs → is_in x r.before ≡ true → is_in y xs ≡ true → (y ≡ x → ⊥) → Lasts labels p x t → Safe p k y t
 safe_lasting labels p k q r xs x y t h s b i n (in_place g m) = safe_general labels p k q r xs x y t h s b i n g m
 safe_lasting labels p k q r xs x y t h s b i n (in_read g m) = safe_read labels p k q r xs y t h s i g
 
--- ---- before the copies, and behind them
+-- ---- before the copies, and after them
 
 -- the values that are defined here have their words where they are defined; the others that are held on have them wherever they last; and
 -- the early words of others are in their registers
@@ -235,7 +235,7 @@ own_word labels p k xs x t w e i h s o =
     (λ (d : has_place t (home p x).copied ≡ true). copies_bring p k x t w xs e i h d s)
     o
 
-held_there : (labels : List Label) (p : Plan) (k : ℕ) (q r : Point) (xs : List ℕ) (env : Env) (e : Words) → Placed labels p → Spot labels k q r xs → Brought labels p k r xs env e
+held_there : (labels : List Label) (p : Plan) (k : ℕ) (q r : Point) (xs : List ℕ) (env : Env) (e : Words) → Placed labels p → EmittedPoint labels k q r xs → Brought labels p k r xs env e
     → (x : ℕ) → is_in x r.before ≡ true → (t : Place) → has_place t (lasting labels p x) ≡ true → one_by_one (all_copies p k xs) e t ≡ env x
 held_there labels p k q r xs env e h s b x i t m =
     let u = s.used_it x i in
@@ -260,7 +260,7 @@ early_own labels p x u (in_general g c) e = inr (early_copied labels p x u c e)
 early_own labels p x u (put_early g) e = inl (ap (word_register p) (early_only labels p x u g e) ∙ sym g.at)
 early_own labels p x u (fetched_to m l d c) e = inr (early_copied labels p x u c e)
 
-early_there : (labels : List Label) (p : Plan) (k : ℕ) (q r : Point) (xs : List ℕ) (env : Env) (e : Words) → Placed labels p → Spot labels k q r xs → Brought labels p k r xs env e
+early_there : (labels : List Label) (p : Plan) (k : ℕ) (q r : Point) (xs : List ℕ) (env : Env) (e : Words) → Placed labels p → EmittedPoint labels k q r xs → Brought labels p k r xs env e
     → (u : Use) → WaitsAt labels p (suc k) r u → one_by_one (all_copies p k xs) e (word_register p u) ≡ env u.value
 early_there labels p k q r xs env e h s b u w =
     let behind = waits_on labels p k q r xs u s w in
@@ -276,6 +276,6 @@ early_there labels p k q r xs env e h s b u w =
     copies_spare p k xs (word_register p u) e (λ y v. safe_word labels p k q r xs y u h s v (absent_other u.value y xs j v) behind) ∙ b.early u w j)
     (cases_Bool (is_in u.value xs))
 
-pub ready_behind : (labels : List Label) (p : Plan) (k : ℕ) (q r : Point) (xs : List ℕ) (env : Env) (e : Words) → Placed labels p → Spot labels k q r xs → Brought labels p k r xs env e
+pub ready_behind : (labels : List Label) (p : Plan) (k : ℕ) (q r : Point) (xs : List ℕ) (env : Env) (e : Words) → Placed labels p → EmittedPoint labels k q r xs → Brought labels p k r xs env e
     → Ready labels p (suc k) r env (one_by_one (all_copies p k xs) e)
 ready_behind labels p k q r xs env e h s b = record { held = held_there labels p k q r xs env e h s b; early = early_there labels p k q r xs env e h s b }

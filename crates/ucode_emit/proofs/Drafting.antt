@@ -6,18 +6,18 @@ use Rattle.std.specs.Prelude.{slice_index_or}
 use Rattle.ssu_ir.specs.Tree.{Label}
 use Rattle.ssu_ir.specs.View.{labels_view}
 use Rattle.ssu_ir.specs.declared.ssu.Ssu.{Ssu}
-use Rattle.slot_placement.specs.Plan.{Plan}
-use Rattle.ucode_emit.specs.declared.spots.Spot.{Spot}
+use Rattle.placement.specs.Plan.{Plan}
+use Rattle.ucode_emit.specs.declared.point_ids.EmittedPoint.{EmittedPoint}
 use Rattle.ucode_emit.specs.inner.Pieces.{Sequences, starts, parallel_moves}
 use Rattle.ucode_emit.specs.inner.Ready.{AreSequences}
 use Rattle.ucode_emit.specs.inner.DraftItems.{draft}
 use Rattle.ucode_emit.specs.inner.Marks.{marks, entries_from, pieces, joined, begins as piece_begins}
-use Rattle.ucode_emit.specs.inner.Spots.{spot_mark}
+use Rattle.ucode_emit.specs.inner.EmittedPoints.{point_mark}
 use Rattle.ucode_emit.specs.inner.Walk.{pieces_below, IsDrafted}
 use Rattle.ucode_emit.specs.inner.Drafted.{AreDrafted}
 use Rattle.ucode_emit.proofs.Marked.{all_joined, all_begins}
 
--- ---- behind the last point
+-- ---- after the last point
 
 pub drafted_all : (labels : List Label) (p : Plan) (mss : Sequences) (k : ℕ) (code : List Instr) (places points begins : List ℕ) → AreSequences (parallel_moves p labels) mss → k ≡ length (marks labels)
     → points ≡ entries_from 0 labels → begins ≡ map (λ j. slice_index_or places j 0) points → IsDrafted labels p mss k code places → AreDrafted labels p code places begins
@@ -33,5 +33,5 @@ drafted_all labels p mss k code places points begins s e at b h =
     }
 
 -- as many as there are points
-pub spots_many : (s : Ssu) (spots : List Spot) → map (spot_mark s) spots ≡ marks (labels_view s) → length spots ≡ length (marks (labels_view s))
-spots_many s spots e = sym (length-map spots (spot_mark s)) ∙ ap length e
+pub spots_many : (s : Ssu) (point_ids : List EmittedPoint) → map (point_mark s) point_ids ≡ marks (labels_view s) → length point_ids ≡ length (marks (labels_view s))
+spots_many s point_ids e = sym (length-map point_ids (point_mark s)) ∙ ap length e

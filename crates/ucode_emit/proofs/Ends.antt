@@ -8,34 +8,34 @@ use Rattle.nv_base.specs.Words.{Env}
 use Rattle.ssu_ir.specs.Tree.{Jump, Halt, End, Label}
 use Rattle.ssu_ir.specs.Single.{takes_as_many}
 use Rattle.ssu_ir.specs.Points.{Names, Point, points}
-use Rattle.slot_placement.specs.declared.place.Place.TheVariants.{A}
-use Rattle.slot_placement.specs.Plan.{Plan, home, serve, pass}
-use Rattle.slot_placement.specs.Uses.{Role, Argument, Ending, roles, place_roles, uses_at}
-use Rattle.place_checks.proofs.Walked.{some-there}
+use Rattle.placement.specs.declared.place.Place.TheVariants.{A}
+use Rattle.placement.specs.Plan.{Plan, home, serve, pass}
+use Rattle.placement.specs.Uses.{Role, Argument, Ending, roles, place_roles, uses_at}
+use Rattle.placement_checks.proofs.Walked.{some-there}
 use Rattle.par_move.specs.Moves.{Move, Words, one_by_one}
 use Rattle.ucode_emit.specs.inner.Pieces.{single_moves, served_moves}
 use Rattle.ucode_emit.specs.inner.Ready.{Ready, Entered, IsSequence}
-use Rattle.ucode_emit.specs.inner.Layers.{Placed, PointsAt, root_point, Behind}
+use Rattle.ucode_emit.specs.inner.Layers.{Placed, PointsAt, root_point, HoldsAfterMoves}
 use Rattle.ucode_emit.proofs.PointsLabels.{formed_at}
 use Rattle.ucode_emit.proofs.PointsUses.{in_at, at_in}
 use Rattle.ucode_emit.proofs.Entries.{IsMoved, general_moved, param_home}
 use Rattle.ucode_emit.proofs.EntriesMoves.{JumpTarget, param_is, jump_served, halt_served, role_at, map_get}
-use Rattle.ucode_emit.proofs.OperandsHomes.{Here, here_at, source_of, IsHere, uses_here}
+use Rattle.ucode_emit.proofs.OperandsHomes.{EmitContext, here_at, source_of, IsEmitContext, uses_here}
 use Rattle.ucode_emit.proofs.Bring.{Sent, all_sent}
 
 -- the use of this number, where all uses have one kind of role
 pub role_here : (labels : List Label) (p : Plan) (k : ℕ) (q : Point) (of : Names) (role : ℕ → Role) (xs : List ℕ) (j x : ℕ) → Placed labels p → slice_get (points labels) k ≡ Some q → q.uses ≡ map of xs → place_roles q.place ≡ roles role 0 xs
-    → slice_get xs j ≡ Some x → IsHere labels p k (record { point = k; operand = j; value = of x; role = role j })
+    → slice_get xs j ≡ Some x → IsEmitContext labels p k (record { point = k; operand = j; value = of x; role = role j })
 role_here labels p k q of role xs j x h e u r g =
-    let a = subst (λ us. AllByRecursion (IsHere labels p k) (uses_at k 0 us (place_roles q.place))) u (uses_here labels p k q h e) in
-    let b = subst (λ rs. AllByRecursion (IsHere labels p k) (uses_at k 0 (map of xs) rs)) r a in
+    let a = subst (λ us. AllByRecursion (IsEmitContext labels p k) (uses_at k 0 us (place_roles q.place))) u (uses_here labels p k q h e) in
+    let b = subst (λ rs. AllByRecursion (IsEmitContext labels p k) (uses_at k 0 (map of xs) rs)) r a in
     let z : 0 + j ≡ j = omega arith in
-    subst (λ n. IsHere labels p k (record { point = k; operand = n; value = of x; role = role n })) z (role_at (IsHere labels p k) k of role 0 0 xs j x b g)
+    subst (λ n. IsEmitContext labels p k (record { point = k; operand = n; value = of x; role = role n })) z (role_at (IsEmitContext labels p k) k of role 0 0 xs j x b g)
 
 -- ---- jumps
 
-argument_sent : (labels : List Label) (p : Plan) (k : ℕ) (q : Point) (of : Names) (l : ℕ) (xs : List ℕ) (to : Label) (j x y : ℕ) → Placed labels p → Here labels k q → q.uses ≡ map of xs → slice_get labels l ≡ Some to
-    → IsHere labels p k (record { point = k; operand = j; value = of x; role = Argument l j }) → slice_get xs j ≡ Some x → slice_get to.params j ≡ Some y → Sent labels p k q (of x) j
+argument_sent : (labels : List Label) (p : Plan) (k : ℕ) (q : Point) (of : Names) (l : ℕ) (xs : List ℕ) (to : Label) (j x y : ℕ) → Placed labels p → EmitContext labels k q → q.uses ≡ map of xs → slice_get labels l ≡ Some to
+    → IsEmitContext labels p k (record { point = k; operand = j; value = of x; role = Argument l j }) → slice_get xs j ≡ Some x → slice_get to.params j ≡ Some y → Sent labels p k q (of x) j
 argument_sent labels p k q of l xs to j x y h s u e i g f =
     let used = ap (is_in (of x)) u ∙ at_in (of x) (map of xs) j (map_get of xs j x g) in
     let at : (serve p k j).at ≡ (home p y).defined = i.0.0.1 ∙ ap (λ z. (home p z).defined) (param_is labels l to j y e f) in record {
@@ -50,7 +50,7 @@ target_of labels l count to e h = eqb-true (length to.params) count (sym (ap (ta
 pub jump : (labels : List Label) (p : Plan) → Placed labels p → (k : ℕ) (of : Names) (above : List ℕ) (l : ℕ) (xs : List ℕ) (to : Label) (ms : List Move) (env new : Env) (e : Words) → PointsAt labels k of above (End (Jump l xs)) → slice_get labels l ≡ Some to
     → ((i x y : ℕ) → slice_get xs i ≡ Some x → slice_get to.params i ≡ Some y → new y ≡ env (of x))
     → IsSequence (served_moves p k 0 (length xs)) ms → Ready labels p k (root_point of above (End (Jump l xs))) env e
-    → Behind p.slots (single_moves (pass p k).l ms) e (Entered p to.params new)
+    → HoldsAfterMoves p.slots (single_moves (pass p k).l ms) e (Entered p to.params new)
 jump labels p h k of above l xs to ms env new e a g v sq d =
     let q = root_point of above (End (Jump l xs)) in
     let s = here_at labels p k of above (End (Jump l xs)) h a in
@@ -79,8 +79,8 @@ jump labels p h k of above l xs to ms env new e a g v sq d =
 
 -- ---- ends
 
-ending_sent : (labels : List Label) (p : Plan) (k : ℕ) (q : Point) (of : Names) (xs : List ℕ) (j x : ℕ) → Placed labels p → Here labels k q → q.uses ≡ map of xs → j < 16
-    → IsHere labels p k (record { point = k; operand = j; value = of x; role = Ending j }) → slice_get xs j ≡ Some x → Sent labels p k q (of x) j
+ending_sent : (labels : List Label) (p : Plan) (k : ℕ) (q : Point) (of : Names) (xs : List ℕ) (j x : ℕ) → Placed labels p → EmitContext labels k q → q.uses ≡ map of xs → j < 16
+    → IsEmitContext labels p k (record { point = k; operand = j; value = of x; role = Ending j }) → slice_get xs j ≡ Some x → Sent labels p k q (of x) j
 ending_sent labels p k q of xs j x h s u n i g =
     let used = ap (is_in (of x)) u ∙ at_in (of x) (map of xs) j (map_get of xs j x g) in record {
       source = source_of labels p k q (record { point = k; operand = j; value = of x; role = Ending j }) h s i.0.1 used i.0.0.0;
@@ -90,7 +90,7 @@ ending_sent labels p k q of xs j x h s u n i g =
 
 pub halt : (labels : List Label) (p : Plan) → Placed labels p → (k : ℕ) (of : Names) (above : List ℕ) (c : ℕ) (xs : List ℕ) (ms : List Move) (env : Env) (e : Words) → PointsAt labels k of above (End (Halt c xs))
     → IsSequence (served_moves p k 0 (length xs)) ms → Ready labels p k (root_point of above (End (Halt c xs))) env e
-    → Behind p.slots (single_moves (pass p k).l ms) e (λ e'. (i x : ℕ) → slice_get xs i ≡ Some x → e' (A i) ≡ env (of x))
+    → HoldsAfterMoves p.slots (single_moves (pass p k).l ms) e (λ e'. (i x : ℕ) → slice_get xs i ≡ Some x → e' (A i) ≡ env (of x))
 halt labels p h k of above c xs ms env e a sq d =
     let q = root_point of above (End (Halt c xs)) in
     let s = here_at labels p k of above (End (Halt c xs)) h a in

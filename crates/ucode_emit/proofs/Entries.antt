@@ -9,19 +9,19 @@ use Rattle.nv_base.specs.Words.{Env}
 use Rattle.ssu_ir.specs.Tree.{Label}
 use Rattle.ssu_ir.specs.Single.{all_defined, is_entry, is_single}
 use Rattle.ssu_ir.specs.Points.{own, points}
-use Rattle.slot_placement.specs.declared.place.Place.{Place}
-use Rattle.slot_placement.specs.declared.place.Place.TheVariants.{A, B, L, LD, S, SD, Slot}
-use Rattle.slot_placement.specs.Places.{same_place}
-use Rattle.slot_placement.specs.Plan.{Plan, home}
-use Rattle.slot_placement.specs.Uses.{Parameter, numbered, place_values as values_at}
-use Rattle.slot_placement.specs.Fits.{IsGeneral, is_general, AreCopies, IsHoused, general_places, has_place}
-use Rattle.slot_placement.proofs.Places.{same_place-from}
+use Rattle.placement.specs.declared.place.Place.{Place}
+use Rattle.placement.specs.declared.place.Place.TheVariants.{A, B, L, LD, S, SD, Slot}
+use Rattle.placement.specs.Places.{same_place}
+use Rattle.placement.specs.Plan.{Plan, home}
+use Rattle.placement.specs.Uses.{Parameter, numbered, place_values as values_at}
+use Rattle.placement.specs.Fits.{IsGeneral, is_general, AreCopies, IsHoused, general_places, has_place}
+use Rattle.placement.proofs.Places.{same_place-from}
 use Rattle.par_move.specs.Moves.{Move, Words, put, one_by_one, all_at_once, temporary, StandFor, none, once, around, at_rest}
 use Rattle.par_move.proofs.Steps.{put-other}
 use Rattle.ucode_emit.specs.inner.Pieces.{entry_point, all_copies, entry_moves, single_move, single_moves}
 use Rattle.ucode_emit.specs.inner.Ready.{Ready, Entered, Begun, IsSequence}
 use Rattle.ucode_emit.specs.inner.Machine.{write_slot, copied as in_one}
-use Rattle.ucode_emit.specs.inner.Layers.{Placed, PointsAt, root_point, Behind}
+use Rattle.ucode_emit.specs.inner.Layers.{Placed, PointsAt, root_point, HoldsAfterMoves}
 use Rattle.ucode_emit.proofs.PointsEach.{each_here, all_left, all_right, all_both}
 use Rattle.ucode_emit.proofs.PointsLabels.{formed_at, entry_at, entry_there}
 use Rattle.ucode_emit.proofs.PointsUses.{in_at, at_in, numbered_at}
@@ -69,7 +69,7 @@ params_differ labels p l it h e = (formed_at labels (entry_point labels l) (entr
 -- ---- the entry
 
 pub entry : (labels : List Label) (p : Plan) → Placed labels p → (l : ℕ) (it : Label) (env : Env) (e : Words) → slice_get labels l ≡ Some it → PointsAt labels (suc (entry_point labels l)) own it.params it.body
-    → Entered p it.params env e → Behind p.slots (all_copies p (entry_point labels l) it.params) e (Ready labels p (suc (entry_point labels l)) (root_point own it.params it.body) env)
+    → Entered p it.params env e → HoldsAfterMoves p.slots (all_copies p (entry_point labels l) it.params) e (Ready labels p (suc (entry_point labels l)) (root_point own it.params it.body) env)
 entry labels p h l it env e f a d =
     let k = entry_point labels l in
     let q = entry_at l it in
@@ -223,7 +223,7 @@ few_params labels p it h e =
 
 pub begins : (labels : List Label) (p : Plan) → Placed labels p → (it : Label) (ms : List Move) (args : List ℕ) (env : Env) (e : Words) → slice_get labels 0 ≡ Some it → length args ≡ length it.params
     → ((i x w : ℕ) → slice_get it.params i ≡ Some x → slice_get args i ≡ Some w → env x ≡ w)
-    → IsSequence (entry_moves p 0 it.params) ms → Begun args e → Behind p.slots (single_moves None ms) e (Entered p it.params env)
+    → IsSequence (entry_moves p 0 it.params) ms → Begun args e → HoldsAfterMoves p.slots (single_moves None ms) e (Entered p it.params env)
 begins labels p h it ms args env e f n v sq b =
     let most : length it.params ≤ 8 = few_params labels p it h f in
     let few : 0 + length it.params ≤ 16 = omega arith in

@@ -9,15 +9,15 @@ use Rattle.nv_base.specs.declared.term.Mem.TheVariants.{Sram, Sdram, Scratch}
 use Rattle.nv_base.specs.Sets.{is_in, all_different}
 use Rattle.ssu_ir.specs.Tree.{Last, Jump, Halt, Tree, Do, If, End, Label, Ends, step_values, last_uses}
 use Rattle.ssu_ir.specs.Single.{takes_as_many}
-use Rattle.ssu_ir.specs.Points.{Names, own, names_after, Point, points, points_from, point, held, nodes, tree_points}
-use Rattle.slot_placement.specs.declared.place.Place.{Place}
-use Rattle.slot_placement.specs.declared.place.Place.TheVariants.{A, L, LD}
-use Rattle.slot_placement.specs.Places.{same_place}
-use Rattle.slot_placement.specs.Plan.{Plan, home, serve}
-use Rattle.slot_placement.specs.Uses.{Role, Argument, Ending, roles, place_roles, Use, uses_at, uses_from, uses}
-use Rattle.slot_placement.specs.Fits.{read_place, is_write_register, word_register, is_home, label_param, param_at, parameter, IsServed}
-use Rattle.slot_placement.proofs.Places.{same_place-true, same_place-from}
-use Rattle.place_checks.proofs.Walked.{some-there}
+use Rattle.ssu_ir.specs.Points.{Names, own, names_after, Point, points, points_from, point, live_of, nodes, tree_points}
+use Rattle.placement.specs.declared.place.Place.{Place}
+use Rattle.placement.specs.declared.place.Place.TheVariants.{A, L, LD}
+use Rattle.placement.specs.Places.{same_place}
+use Rattle.placement.specs.Plan.{Plan, home, serve}
+use Rattle.placement.specs.Uses.{Role, Argument, Ending, roles, place_roles, Use, uses_at, uses_from, uses}
+use Rattle.placement.specs.Fits.{read_place, is_write_register, word_register, is_home, label_param, param_at, parameter, IsServed}
+use Rattle.placement.proofs.Places.{same_place-true, same_place-from}
+use Rattle.placement_checks.proofs.Walked.{some-there}
 use Rattle.par_move.specs.Moves.{Move, temporary, HaveOwnTargets, SpareTemporary}
 use Rattle.ucode_emit.specs.inner.Pieces.{served_moves, entry_moves, last_moves, tree_moves, moves_from, parallel_moves}
 use Rattle.ucode_emit.specs.inner.Layers.{Placed}
@@ -222,14 +222,14 @@ halt_served labels p k of xs q h e u r few =
           absurd (omega arith);
     }
 
-last_good : (labels : List Label) (p : Plan) (k : ℕ) (of : Names) (above : List ℕ) (l : Last) → Placed labels p → slice_get (points labels) k ≡ Some (point of (Ends l) above (last_uses l) 0 (held of above (End l)) []) → Good (last_moves p k l)
+last_good : (labels : List Label) (p : Plan) (k : ℕ) (of : Names) (above : List ℕ) (l : Last) → Placed labels p → slice_get (points labels) k ≡ Some (point of (Ends l) above (last_uses l) 0 (live_of of above (End l)) []) → Good (last_moves p k l)
 last_good labels p k of above (Jump l xs) h e =
-    let q = point of (Ends (Jump l xs)) above xs 0 (held of above (End (Jump l xs))) [] in
+    let q = point of (Ends (Jump l xs)) above xs 0 (live_of of above (End (Jump l xs))) [] in
     let f = (formed_at labels k q h.single e).fits in
     let b = and_parts (nat_le 1 l) (takes_as_many (length xs) (slice_get labels l)) f in
     served_good p k (length xs) 0 (length xs) (jump_served labels p k of above l xs q h e refl refl (jump_target labels l (length xs) (slice_get labels l) refl b.1)) (omega arith)
 last_good labels p k of above (Halt c xs) h e =
-    let q = point of (Ends (Halt c xs)) above xs 0 (held of above (End (Halt c xs))) [] in
+    let q = point of (Ends (Halt c xs)) above xs 0 (live_of of above (End (Halt c xs))) [] in
     let f = (formed_at labels k q h.single e).fits in
     served_good p k (length xs) 0 (length xs) (halt_served labels p k of xs q h e refl refl (leb-true (length xs) 8 f)) (omega arith)
 
@@ -257,14 +257,14 @@ entry_good : (p : Plan) (i : ℕ) (xs : List ℕ) → i + length xs ≤ 8 → al
 entry_good p i [] n d g a = good_nil
 entry_good p i (x ∷ xs) n d g a =
     let q = and_parts (not (is_in x xs)) (all_different xs) d in
-    let here : is_in x (x ∷ xs) ≡ true = at_in x (x ∷ xs) zero refl in
+    let emit_context : is_in x (x ∷ xs) ≡ true = at_in x (x ∷ xs) zero refl in
     good_cons (A i, (home p x).defined) (entry_moves p (suc i) xs)
     (entry_apart p x (suc i) xs
-    (λ y j. a x y here (or_right (nat_eq y x) (is_in y xs) j) (λ s. false≢true (sym (not-true (is_in x xs) q.0) ∙ subst (λ v. is_in v xs ≡ true) (sym s) j))))
-    (λ c. let z : i ≡ 15 = a_same i 15 c in absurd (omega arith), g x here)
+    (λ y j. a x y emit_context (or_right (nat_eq y x) (is_in y xs) j) (λ s. false≢true (sym (not-true (is_in x xs) q.0) ∙ subst (λ v. is_in v xs ≡ true) (sym s) j))))
+    (λ c. let z : i ≡ 15 = a_same i 15 c in absurd (omega arith), g x emit_context)
     (entry_good p (suc i) xs (omega arith) q.1 (λ y j. g y (or_right (nat_eq y x) (is_in y xs) j)) (λ y z j k. a y z (or_right (nat_eq y x) (is_in y xs) j) (or_right (nat_eq z x) (is_in z xs) k)))
 
--- labels behind the first have no moves at their entries
+-- labels after the first have no moves at their entries
 rest_good : (labels : List Label) (p : Plan) (n k : ℕ) (ls : List Label) → Placed labels p → EachFrom (Stand labels) (suc n) (points_from k ls) → AllByRecursion Good (moves_from p (suc n) ls)
 rest_good labels p n k [] h e = tt
 rest_good labels p n k (l ∷ ls) h e =

@@ -7,10 +7,10 @@ use Rattle.std.proofs.lemmas.Cmp.{ranked}
 use Rattle.std.proofs.lemmas.List.{append-nil}
 use Rattle.std.proofs.lemmas.Bool.{eq-eqb, cases_lt}
 use Rattle.std.proofs.lemmas.Bool.Decides.{nat_tests, eqb_tells}
-use Rattle.slot_placement.specs.declared.place.Place.{Place}
-use Rattle.slot_placement.specs.declared.place.Home.{Home as KeptHome}
-use Rattle.slot_placement.specs.Fits.{Rises}
-use Rattle.slot_placement.specs.Plan.{Home, Plan, home, home_view, home_in}
+use Rattle.placement.specs.declared.place.Place.{Place}
+use Rattle.placement.specs.declared.place.Home.{Home as KeptHome}
+use Rattle.placement.specs.Fits.{Rises}
+use Rattle.placement.specs.Plan.{Home, Plan, home, home_view, home_in}
 use Rattle.ucode_emit.specs.inner.Pieces.{all_copied}
 use Rattle.ucode_emit.specs.inner.Given.{homeless, each_copied}
 

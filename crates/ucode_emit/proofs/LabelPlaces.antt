@@ -1,4 +1,4 @@
--- Where labels begin in the code: in rising order, each but the first behind a jump or an end, and none inside the code of another.
+-- Where labels begin in the code: in rising order, each but the first after a jump or an end, and none inside the code of another.
 use Rattle.std.proofs.Common.{◌≡◌, ℕ, zero, suc, ◌+◌, ◌-◌, ◌<◌, ◌≤◌, ◌⊎◌, inl, inr, List, [], ◌∷◌, ◌++◌, map, length, None, Some, refl, sym, ap, ◌∙◌, subst, arith, slice_get, slice_index_or}
 use Rattle.std.specs.Prelude.{slice_index}
 use Rattle.std.specs.List.{AllByRecursion}
@@ -8,11 +8,11 @@ use Rattle.std.proofs.lemmas.Option.{none-some, same_Some}
 use Rattle.uc_isa.specs.declared.instruction.Instr.{Instr}
 use Rattle.uc_isa.specs.declared.instruction.Instr.TheVariants as instr
 use Rattle.uc_isa.specs.Lawful.{IsLast}
-use Rattle.uc_runs.specs.Starts.{HasShape, AreInside, AreStarts}
+use Rattle.uc_executions.specs.Starts.{HasShape, AreInside, AreStarts}
 use Rattle.ssu_ir.specs.Tree.{Label}
 use Rattle.ssu_ir.specs.Points.{nodes}
-use Rattle.slot_placement.specs.Plan.{Plan}
-use Rattle.place_checks.proofs.Walked.{get-index, get-left, some-there}
+use Rattle.placement.specs.Plan.{Plan}
+use Rattle.placement_checks.proofs.Walked.{get-index, get-left, some-there}
 use Rattle.ucode_emit.specs.inner.Drafted.{label_starts}
 use Rattle.ucode_emit.specs.inner.Layers.{Placed, ReadyLayer}
 use Rattle.ucode_emit.specs.inner.Marks.{entries_from}
@@ -41,8 +41,8 @@ begins_in labels p mss at k (x ∷ ls) places h =
     let j = suc k + nodes x.body in
     let rest = starts_from labels p mss next j ls in
     let long : j ≡ k + length (at ∷ ts) = let a = starts_many labels p mss (at + front) (suc k) x.body in omega (arith, a) in
-    let here : slice_index_or places k 0 ≡ at = get-index places k at 0 (part_head k at ts places (part_left k (at ∷ ts) rest places h)) in
-    ap (λ s. s ∷ map (λ i. slice_index_or places i 0) (entries_from j ls)) here ∙ ap (λ l. at ∷ l) (begins_in labels p mss next j ls places (part_right k j (at ∷ ts) rest places long h))
+    let emit_context : slice_index_or places k 0 ≡ at = get-index places k at 0 (part_head k at ts places (part_left k (at ∷ ts) rest places h)) in
+    ap (λ s. s ∷ map (λ i. slice_index_or places i 0) (entries_from j ls)) emit_context ∙ ap (λ l. at ∷ l) (begins_in labels p mss next j ls places (part_right k j (at ∷ ts) rest places long h))
 
 pub starts_by_length : (labels : List Label) (p : Plan) (mss : Sequences) → label_starts labels p mss ≡ label_begins labels p mss 0 0 labels
 starts_by_length labels p mss = begins_in labels p mss 0 0 labels (starts labels p mss) (part_whole (starts labels p mss))
@@ -91,7 +91,7 @@ begins_within labels p mss at k m (x ∷ ls) h =
 begins_apart : (labels : List Label) (p : Plan) (mss : Sequences) (at k : ℕ) (ls : List Label) (l : ℕ) (it : Label) (b j s : ℕ) → slice_get ls l ≡ Some it → slice_get (label_begins labels p mss at k ls) l ≡ Some b
     → slice_get (label_begins labels p mss at k ls) j ≡ Some s → (s ≤ b) ⊎ (b + length (label_items labels p mss (k + entry_point ls l) it) ≤ s)
 begins_apart labels p mss at k [] l it b j s e f g = absurd (none-some it e)
-begins_apart labels p mss at k (x ∷ ls) zero it b zero s e f g = let same : at ≡ b = same_Some at b f in let here : at ≡ s = same_Some at s g in inl (omega (arith, same, here))
+begins_apart labels p mss at k (x ∷ ls) zero it b zero s e f g = let same : at ≡ b = same_Some at b f in let emit_context : at ≡ s = same_Some at s g in inl (omega (arith, same, emit_context))
 begins_apart labels p mss at k (x ∷ ls) zero it b (suc j) s e f g =
     let same : at ≡ b = same_Some at b f in
     let h : at + length (label_items labels p mss k x) ≤ s = begin_least labels p mss (at + length (label_items labels p mss k x)) (suc k + nodes x.body) ls j s g in
@@ -100,8 +100,8 @@ begins_apart labels p mss at k (x ∷ ls) zero it b (suc j) s e f g =
 begins_apart labels p mss at k (x ∷ ls) (suc l) it b zero s e f g =
     let next = at + length (label_items labels p mss k x) in
     let h : next ≤ b = begin_least labels p mss next (suc k + nodes x.body) ls l b f in
-    let here : at ≡ s = same_Some at s g in
-    inl (omega (arith, h, here))
+    let emit_context : at ≡ s = same_Some at s g in
+    inl (omega (arith, h, emit_context))
 begins_apart labels p mss at k (x ∷ ls) (suc l) it b (suc j) s e f g =
     let z : suc k + nodes x.body + entry_point ls l ≡ k + (suc (nodes x.body) + entry_point ls l) = omega arith in
     subst (λ n. (s ≤ b) ⊎ (b + length (label_items labels p mss n it) ≤ s)) z

@@ -14,7 +14,7 @@ use Rattle.uc_isa.specs.Lawful.{IsLawful, IsLawfulAt}
 use Rattle.ssu_ir.specs.Tree.{Last, Jump, Halt, Tree, Do, If, End, Label, step_values}
 use Rattle.ssu_ir.specs.Points.{Names, own, names_after, nodes}
 use Rattle.ssu_ir.specs.Single.{all_defined, is_entry, is_single}
-use Rattle.slot_placement.specs.Plan.{Plan, pass}
+use Rattle.placement.specs.Plan.{Plan, pass}
 use Rattle.par_move.specs.Moves.{Move, temporary}
 use Rattle.ucode_emit.specs.inner.Pieces.{Item, Moved, Plain, Branch, instr_of, single_moves, all_copies, moved, step_items, fork_items, last_items, last_moves, entry_point, Sequences, sequence_at, tree_items, label_items, items_from, items, tree_starts, starts_from, starts, parallel_moves}
 use Rattle.ucode_emit.specs.inner.Ready.{AreSequences}
@@ -64,10 +64,10 @@ labels_good labels p mss k l [] h r q e f = tt
 labels_good labels p mss k l (x ∷ ls) h r q e f =
     let z : l ≡ l + 0 = omega arith in
     let w : k + 0 ≡ k = omega arith in
-    let here : entry_point labels l ≡ k = ap (entry_point labels) z ∙ (e 0 ∙ w) in
+    let emit_context : entry_point labels l ≡ k = ap (entry_point labels) z ∙ (e 0 ∙ w) in
     let there : slice_get labels l ≡ Some x = ap (slice_get labels) z ∙ f 0 x refl in
     all_both (IsGood p.slots) (label_items labels p mss k x) (items_from labels p mss (suc k + nodes x.body) ls)
-    (subst (λ j. AreGood p.slots (label_items labels p mss j x)) here (label_good labels p mss l x h r q there))
+    (subst (λ j. AreGood p.slots (label_items labels p mss j x)) emit_context (label_good labels p mss l x h r q there))
     (labels_good labels p mss (suc k + nodes x.body) (suc l) ls h r q
     (λ j. let n : suc l + j ≡ l + suc j = omega arith in
     let m : k + (suc (nodes x.body) + entry_point ls j) ≡ suc k + nodes x.body + entry_point ls j = omega arith in

@@ -20,9 +20,9 @@ use Rattle.uc_isa.specs.declared.instruction.UnOp.{UnOp}
 use Rattle.uc_isa.specs.declared.instruction.UnOp.TheVariants.{Copy}
 use Rattle.uc_isa.specs.declared.instruction.Cond.TheVariants.{Always}
 use Rattle.uc_isa.specs.Lawful.{AreApart, Rule1, Rule2, Rule3, Rule4, Rule5, Rule6, IsRun, IsPaired, IsShift, IsLast, IsLawfulAt}
-use Rattle.slot_placement.specs.declared.place.Place.{Place}
-use Rattle.slot_placement.specs.declared.place.Place.TheVariants.{A, B, L, LD, S, SD, Slot}
-use Rattle.slot_placement.specs.Fits.{IsFirst, different_groups}
+use Rattle.placement.specs.declared.place.Place.{Place}
+use Rattle.placement.specs.declared.place.Place.TheVariants.{A, B, L, LD, S, SD, Slot}
+use Rattle.placement.specs.Fits.{IsFirst, different_groups}
 use Rattle.par_move.specs.Moves.{Move}
 use Rattle.ucode_emit.specs.SpillBase.{IsOtherSource, IsOtherTarget, KeepsToSlots, KeepsBase, SpillsByBase}
 use Rattle.ucode_emit.specs.inner.Pieces.{Item, Moved, Plain, Branch, move_instr, instr_of, moved, source, target, address_of, un_op, shift_of}
@@ -33,7 +33,7 @@ use Rattle.std.specs.Prelude.{slice_index_or, length}
 
 -- ---- instructions by themselves
 
--- what an instruction keeps in code of any length, with so many slots
+-- what an instruction keeps in code of any length, with N slots
 pub record KeepsOwn (slots : ℕ) (i : Instr) : Type 0 where
   pub operands : Rule1 i
   pub run_inside : Rule2 i
@@ -276,7 +276,7 @@ good_moves slots (m ∷ ms) h = (h.0, good_moves slots ms h.1)
 pub moves_good : (slots : ℕ) (ms : List Move) → AreDirect slots ms → AreGood slots (moved ms)
 moves_good slots ms h = good_moves slots ms (recursion_from_All (λ m. IsDirect slots m.0 m.1) ms h)
 
--- the engine never goes on behind this item
+-- the engine never goes on after this item
 abbrev pub IsEnd : Item → Type 0
 IsEnd (Moved from at) = ⊥
 IsEnd (Plain i) = IsLast i

@@ -18,12 +18,12 @@ use Rattle.ssu_ir.specs.Points.{nodes, points}
 use Rattle.ssu_ir.specs.Single.{defined, all_defined, is_entry, is_single}
 use Rattle.ssu_ir.specs.Measures.{node_size, tree_size, size}
 use Rattle.ssu_ir.proofs.PointLemmas.{total-from}
-use Rattle.slot_placement.specs.declared.place.Place.{Place}
-use Rattle.slot_placement.specs.declared.place.Place.TheVariants.{A, B, L, LD, S, SD, Slot}
-use Rattle.slot_placement.specs.Places.{same_place}
-use Rattle.slot_placement.specs.Plan.{Plan, home, first, serve, pass}
-use Rattle.slot_placement.specs.Uses.{uses}
-use Rattle.slot_placement.specs.Fits.{is_slot, is_read_register}
+use Rattle.placement.specs.declared.place.Place.{Place}
+use Rattle.placement.specs.declared.place.Place.TheVariants.{A, B, L, LD, S, SD, Slot}
+use Rattle.placement.specs.Places.{same_place}
+use Rattle.placement.specs.Plan.{Plan, home, first, serve, pass}
+use Rattle.placement.specs.Uses.{uses}
+use Rattle.placement.specs.Fits.{is_slot, is_read_register}
 use Rattle.par_move.specs.Moves.{Move, temporary, StandFor, none, once, around, at_rest}
 use Rattle.ucode_emit.specs.inner.Pieces.{Item, Plain, Branch, instr_of, named, bring, brought, to_temporary, to_read_register, each_operand, operands, operand_at, words, to_slot, copied, all_copied, copies, all_copies, single_move, single_moves, un_op, source, address_of, shift_of, defines, moved, step_items, fork_items, last_items, entry_point, Sequences, sequence_at, tree_items, label_items, items_from, items, starts, served_moves, entry_moves, last_moves, tree_moves, label_moves, moves_from, parallel_moves}
 use Rattle.ucode_emit.specs.inner.Ready.{AreSequences}
@@ -208,10 +208,10 @@ labels_short : (labels : List Label) (p : Plan) (mss : Sequences) (k : ℕ) (ls 
 labels_short labels p mss k [] q a = omega arith
 labels_short labels p mss k (l ∷ ls) q a =
     let j = suc k + nodes l.body in
-    let here = part_left k (label_moves p k l) (moves_from p j ls) (parallel_moves p labels) a in
+    let emit_context = part_left k (label_moves p k l) (moves_from p j ls) (parallel_moves p labels) a in
     let many = label_moves_many p k l in
     let later = part_right k j (label_moves p k l) (moves_from p j ls) (parallel_moves p labels) (omega (arith, many)) a in
-    let b = tree_short labels p mss (suc k) l.body q (body_part labels p k l here) in
+    let b = tree_short labels p mss (suc k) l.body q (body_part labels p k l emit_context) in
     let c = labels_short labels p mss j ls q later in
     let moves = front_moves mss k ++ all_copies p k l.params in
     let body = tree_items labels p mss (suc k) l.body in
@@ -219,7 +219,7 @@ labels_short labels p mss k (l ∷ ls) q a =
       arith,
       b,
       c,
-      fronts_short labels p mss k l q here,
+      fronts_short labels p mss k l q emit_context,
       all_copies_short p k l.params,
       length-append (front_moves mss k) (all_copies p k l.params),
       items_long moves,

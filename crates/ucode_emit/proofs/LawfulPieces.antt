@@ -15,9 +15,9 @@ use Rattle.uc_isa.specs.Registers.{failing}
 use Rattle.ssu_ir.specs.Tree.{Step, Lit, Una, Bin, Clone, Read, Write, Last, Jump, Halt, Tree, Do, If, End, Label}
 use Rattle.ssu_ir.specs.Points.{Names, own, Point}
 use Rattle.ssu_ir.specs.Single.{takes_as_many}
-use Rattle.slot_placement.specs.declared.place.Place.TheVariants.{A}
-use Rattle.slot_placement.specs.Plan.{Plan, first, pass}
-use Rattle.place_checks.proofs.Walked.{get-index}
+use Rattle.placement.specs.declared.place.Place.TheVariants.{A}
+use Rattle.placement.specs.Plan.{Plan, first, pass}
+use Rattle.placement_checks.proofs.Walked.{get-index}
 use Rattle.par_move.specs.Moves.{Move, Words, StandFor, none}
 use Rattle.ucode_emit.specs.Operations.{Reading, Writing}
 use Rattle.ucode_emit.specs.inner.Pieces.{Plain, Branch, operands, operand_at, words, result_place, to_slot, copies, all_copies, single_moves, un_op, source, target, address_of, shift_of, defines, moved, step_items, fork_items, last_items, entry_point, Sequences, sequence_at, label_moves, tree_moves, parallel_moves, last_moves, entry_moves}
@@ -168,7 +168,7 @@ front_good labels p mss l (suc k) it r s e n m =
     let there : slice_get (parallel_moves p labels) (suc k) ≡ Some [] = part_head (suc k) [] (tree_moves p (suc (suc k)) it.body) (parallel_moves p labels) m in
     nothing_moved p.slots mss (suc k) (none_stand (sequence_at mss (suc k)) (sequence_here (parallel_moves p labels) mss (suc k) [] s there).kinds)
 
--- the front of a label
+-- the prefix of a label
 pub entry_good : (labels : List Label) (p : Plan) (l : ℕ) (it : Label) → ReadyLayer labels p → slice_get labels l ≡ Some it → PointsAt labels (suc (entry_point labels l)) own it.params it.body
     → AreGood p.slots (moved (all_copies p (entry_point labels l) it.params))
 entry_good labels p l it r e a = let d = r.entry l it no_words no_places e a (λ x i. refl) in moves_good p.slots (all_copies p (entry_point labels l) it.params) d.0

@@ -11,11 +11,11 @@ use Rattle.uc_isa.specs.declared.instruction.Dst.TheVariants as dst
 use Rattle.uc_isa.specs.declared.instruction.Cond.TheVariants.{Always}
 use Rattle.uc_isa.specs.Registers.{failing}
 use Rattle.ssu_ir.specs.Tree.{Step, Lit, Una, Bin, Clone, Read, Write, Last, Jump, Halt, Tree, Do, If, End, Label, Does, Forks, Ends}
-use Rattle.ssu_ir.specs.Points.{Names, Place as PointPlace, Entry, At, Point, points, place_values as place_variables}
+use Rattle.ssu_ir.specs.Points.{Names, PointKind as PointPlace, Entry, At, Point, points, place_values as place_variables}
 use Rattle.ssu_ir.specs.Measures.{step_code, last_code}
-use Rattle.slot_placement.specs.Plan.{Plan, home, first, pass}
-use Rattle.slot_placement.specs.Uses.{Parameter, Fetched, Ending, numbered, place_values, uses_at, roles}
-use Rattle.slot_placement.specs.Fits.{is_slot, IsHoused, IsGeneral, AreCopies, IsPutEarly}
+use Rattle.placement.specs.Plan.{Plan, home, first, pass}
+use Rattle.placement.specs.Uses.{Parameter, Fetched, Ending, numbered, place_values, uses_at, roles}
+use Rattle.placement.specs.Fits.{is_slot, IsHoused, IsGeneral, AreCopies, IsPutEarly}
 use Rattle.par_move.specs.Moves.{Move}
 use Rattle.ucode_emit.specs.inner.Pieces.{Item, Plain, Branch, moved, operands, operand_at, words, to_slot, copies, all_copies, single_moves, un_op, source, address_of, shift_of, defines, step_items, entry_point, entry_moves, served_moves, last_moves}
 use Rattle.ucode_emit.specs.inner.Ready.{IsSequence}
@@ -26,7 +26,7 @@ use Rattle.ucode_emit.proofs.DefinitionsHomes.{housed_each}
 use Rattle.ucode_emit.proofs.Entries.{entry_here}
 use Rattle.ucode_emit.proofs.LawfulCopies.{sum_of}
 use Rattle.ucode_emit.proofs.LengthMoves.{operands_early, operands_room, words_room, stand_long, jump_room, end_room, entry_room, early_of, general_room, early_room, read_room}
-use Rattle.ucode_emit.proofs.OperandsHomes.{IsHere, uses_here}
+use Rattle.ucode_emit.proofs.OperandsHomes.{IsEmitContext, uses_here}
 use Rattle.ucode_emit.proofs.Placing.{items_long}
 use Rattle.ucode_emit.proofs.PointsEach.{each_here}
 use Rattle.ucode_emit.proofs.PointsLabels.{entry_at}
@@ -120,7 +120,7 @@ step_room labels p k of above (Write m y xs) t h a =
 
 -- ---- jumps and ends
 
-end_targets : (labels : List Label) (p : Plan) (k : ℕ) (of : Names) (i a : ℕ) (xs : List ℕ) → AllByRecursion (IsHere labels p k) (uses_at k i (map of xs) (roles Ending a xs)) → AllByRecursion (λ (m : Move). is_slot m.1 ≡ false) (served_moves p k i (length xs))
+end_targets : (labels : List Label) (p : Plan) (k : ℕ) (of : Names) (i a : ℕ) (xs : List ℕ) → AllByRecursion (IsEmitContext labels p k) (uses_at k i (map of xs) (roles Ending a xs)) → AllByRecursion (λ (m : Move). is_slot m.1 ≡ false) (served_moves p k i (length xs))
 end_targets labels p k of i a [] h = tt
 end_targets labels p k of i a (x ∷ xs) h = (ap is_slot h.0.0.0.1, end_targets labels p k of (suc i) (suc a) xs h.1)
 

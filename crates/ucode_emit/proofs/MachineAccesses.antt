@@ -25,9 +25,9 @@ use Rattle.uc_isa.specs.Straight.{Stands as InCode}
 use Rattle.uc_isa.proofs.PieceSteps.{leads-read, ends-read, leads-write, ends-write}
 use Rattle.uc_isa.proofs.RegisterLemmas.{written-run}
 use Rattle.uc_isa.proofs.States.{other-state, written-fits}
-use Rattle.slot_placement.specs.declared.place.Place.{Place}
-use Rattle.slot_placement.specs.declared.place.Place.TheVariants.{A, B, L, LD, S, SD, Slot}
-use Rattle.slot_placement.specs.Fits.{write_place}
+use Rattle.placement.specs.declared.place.Place.{Place}
+use Rattle.placement.specs.declared.place.Place.TheVariants.{A, B, L, LD, S, SD, Slot}
+use Rattle.placement.specs.Fits.{write_place}
 use Rattle.par_move.specs.Moves.{Words}
 use Rattle.ucode_emit.specs.inner.Pieces.{address_of}
 use Rattle.ucode_emit.specs.inner.Machine.{Stands, Led, Over, filled}
@@ -134,7 +134,7 @@ pub taken_fit : (mem : Mem) (f n : ℕ) (ws : List ℕ) (m : Moment) (base at : 
 taken_fit mem f n ws m base at e w h is =
     subst (λ l. All IsWord l) is (All-take IsWord n (drop f (write_registers mem m.engine)) (All-drop IsWord f (write_registers mem m.engine) (written-fits mem m.engine h.engine)))
 
--- the moment behind a write
+-- the moment after a write
 abbrev pub with_words_written : Mem → ℕ → List ℕ → Memories → Moment → Moment
 with_words_written mem a ws q m = record { engine = onward m.engine; packet = q; writes = m.writes ++ record { mem = mem; at = a; words = ws } ∷ [] }
 

@@ -23,8 +23,8 @@ use Rattle.uc_isa.proofs.Listing.{stands-left, stands-right}
 use Rattle.uc_isa.proofs.OwnWrites.{own-write, own-seen}
 use Rattle.uc_isa.proofs.PieceSteps.{leads-un, leads-read, leads-write}
 use Rattle.uc_isa.proofs.States.{operand-fits, other-state}
-use Rattle.slot_placement.specs.declared.place.Place.{Place}
-use Rattle.slot_placement.specs.declared.place.Place.TheVariants.{A, B, L, LD, S, SD, Slot}
+use Rattle.placement.specs.declared.place.Place.{Place}
+use Rattle.placement.specs.declared.place.Place.TheVariants.{A, B, L, LD, S, SD, Slot}
 use Rattle.par_move.specs.Moves.{Move, Words, put, one_by_one}
 use Rattle.ucode_emit.specs.inner.Pieces.{source, target, move_instr}
 use Rattle.ucode_emit.specs.inner.Machine.{IsReadable, IsWritable, IsDirect, read_slot, write_slot, copied, AreDirect, Stands, move_instrs, Led}
@@ -89,7 +89,7 @@ others_apart base k j ne =
     (λ (le : k ≤ j). inr (inr (omega (arith, le, ne))))
     (cases_lt j k)
 
--- the slots behind the write
+-- the slots after the write
 slot_put : (base at k j v : ℕ) (q : Memories) (e : Words) (w : World) (m : Moment) → k < 128 → j < 128 → Stands base at e w m → HasSizes q → stored Scratch (base + k) (v ∷ []) m.packet ≡ Some q
     → slice_index q.scratch (base + j) ≡ (if nat_eq j k then v else e (Slot j))
 slot_put base at k j v q e w m a b h sizes st =

@@ -31,8 +31,8 @@ use Rattle.uc_isa.proofs.Listing.{stands-right, stands-fetched}
 use Rattle.uc_isa.proofs.PieceSteps.{leads-alu, leads-un, leads-immed, leads-taken, leads-passed, ends-halt}
 use Rattle.uc_isa.proofs.RegisterLemmas.{halted-run, started-args}
 use Rattle.uc_isa.proofs.States.{operand-fits, start-state}
-use Rattle.slot_placement.specs.declared.place.Place.{Place}
-use Rattle.slot_placement.specs.declared.place.Place.TheVariants.{A}
+use Rattle.placement.specs.declared.place.Place.{Place}
+use Rattle.placement.specs.declared.place.Place.TheVariants.{A}
 use Rattle.par_move.specs.Moves.{Words, put}
 use Rattle.ucode_emit.specs.inner.Pieces.{source, target, un_op}
 use Rattle.ucode_emit.specs.inner.Ready.{Begun}
@@ -115,7 +115,7 @@ jump code base at to e w m c h = record {
   stands = flagged_stands base at to m.engine.z m.engine.c e w m h;
 }
 
--- behind the difference
+-- after the difference
 abbrev pub subtracted : Place → Place → Moment → Moment
 subtracted x y m =
     let a = operand (source x) m.engine in

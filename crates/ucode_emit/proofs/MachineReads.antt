@@ -1,4 +1,4 @@
--- What stands in the places behind a read, which fills a run of read registers.
+-- What stands in the places after a read, which fills a run of read registers.
 use Rattle.std.proofs.Common.{◌≡◌, ℕ, zero, suc, ◌+◌, ◌-◌, ◌<◌, ◌≤◌, List, [], ◌∷◌, false, length, All, refl, sym, ap, ◌∙◌, ⊎_elim, if◌then◌else◌, nat_eq, arith}
 use Rattle.std.proofs.lemmas.Bool.{cases_lt, eq-eqb, ne_eqb}
 use Rattle.std.specs.Prelude.{slice_index}
@@ -15,10 +15,10 @@ use Rattle.uc_isa.specs.Step.{with_read, onward}
 use Rattle.uc_isa.proofs.Places.{place-with_read}
 use Rattle.uc_isa.proofs.RegisterLemmas.{fills-run}
 use Rattle.uc_isa.proofs.States.{other-state, read-state}
-use Rattle.slot_placement.specs.declared.place.Place.{Place}
-use Rattle.slot_placement.specs.declared.place.Place.TheVariants.{A, B, L, LD, S, SD, Slot}
-use Rattle.slot_placement.specs.Places.{same_place}
-use Rattle.slot_placement.specs.Fits.{read_place}
+use Rattle.placement.specs.declared.place.Place.{Place}
+use Rattle.placement.specs.declared.place.Place.TheVariants.{A, B, L, LD, S, SD, Slot}
+use Rattle.placement.specs.Places.{same_place}
+use Rattle.placement.specs.Fits.{read_place}
 use Rattle.par_move.specs.Moves.{Words}
 use Rattle.ucode_emit.specs.inner.Machine.{word_at, Stands, filled}
 use Rattle.ucode_emit.proofs.MachineResults.{HasWords}
@@ -57,7 +57,7 @@ fill_other : (e : Words) (m : Mem) (f : ℕ) (ws : List ℕ) (q : Place) → ((i
 fill_other e m f [] q h = refl
 fill_other e m f (w ∷ ws) q h = ap (λ b. if b then w else filled e m (suc f) ws q) (h f) ∙ fill_other e m (suc f) ws q h
 
--- ---- registers behind the read
+-- ---- registers after the read
 
 abbrev number : Register → ℕ
 number (InA k) = k
@@ -95,9 +95,9 @@ run_word m f ws a b j h =
     (cases_lt j (f + length ws)))
     (cases_lt j f)
 
--- ---- places behind the read
+-- ---- places after the read
 
--- the moment behind it
+-- the moment after it
 abbrev pub with_words_read : Mem → ℕ → List ℕ → Moment → Moment
 with_words_read k f ws m = record m { engine = onward (with_read k f ws m.engine) }
 

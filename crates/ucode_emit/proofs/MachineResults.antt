@@ -1,4 +1,4 @@
--- Engines that can be, and what stands in the places behind an instruction that puts a word into a register.
+-- Engines that can be, and what stands in the places after an instruction that puts a word into a register.
 use Rattle.std.proofs.Common.{◌≡◌, ℕ, ◌+◌, ◌<◌, List, Bool, refl, sym, ap, ◌∙◌, subst, ⊎_elim, if◌then◌else◌, nat_eq, arith, get_or-set_same, get_or-set_other}
 use Rattle.std.proofs.lemmas.Bool.{cases_eq, eq-eqb, ne_eqb}
 use Rattle.std.specs.Prelude.{slice_index, slice_set}
@@ -10,8 +10,8 @@ use Rattle.uc_isa.specs.Pieces.{Moment}
 use Rattle.uc_isa.specs.Step.{operand, address, with_result}
 use Rattle.uc_isa.proofs.Places.{place-with_result}
 use Rattle.uc_isa.proofs.States.{bank-set, other-state}
-use Rattle.slot_placement.specs.declared.place.Place.{Place}
-use Rattle.slot_placement.specs.declared.place.Place.TheVariants.{A, B, L, LD, S, SD, Slot}
+use Rattle.placement.specs.declared.place.Place.{Place}
+use Rattle.placement.specs.declared.place.Place.TheVariants.{A, B, L, LD, S, SD, Slot}
 use Rattle.par_move.specs.Moves.{Words, put}
 use Rattle.ucode_emit.specs.inner.Pieces.{source, target, address_of}
 use Rattle.ucode_emit.specs.inner.Machine.{word_at, IsPlace, IsReadable, IsWritable, Stands}
@@ -54,7 +54,7 @@ address_word base (Slot k) e m i h = absurd i
 
 -- ---- a word that is put into a register
 
--- the moment behind an instruction that does so
+-- the moment after an instruction that does so
 abbrev pub resulted : Place → ℕ → Bool → Bool → Moment → Moment
 resulted d v z c m = record m { engine = record (with_result (target d) v m.engine) { z = z; c = c; place = (with_result (target d) v m.engine).place + 1 } }
 

@@ -10,12 +10,12 @@ use Rattle.nv_base.specs.Sets.{is_in}
 use Rattle.ssu_ir.specs.Tree.{Una, Bin, Read, Tree, Do, If, Label}
 use Rattle.ssu_ir.specs.Points.{Names}
 use Rattle.ssu_ir.proofs.Lists.{in-itself}
-use Rattle.slot_placement.specs.Plan.{Plan, first}
+use Rattle.placement.specs.Plan.{Plan, first}
 use Rattle.par_move.specs.Moves.{Words}
 use Rattle.ucode_emit.specs.inner.Pieces.{operands, operand_at}
 use Rattle.ucode_emit.specs.inner.Ready.{Ready}
 use Rattle.ucode_emit.specs.inner.Machine.{IsReadable}
-use Rattle.ucode_emit.specs.inner.Layers.{Placed, PointsAt, root_point, Behind, OperandsReady, IsAddress}
+use Rattle.ucode_emit.specs.inner.Layers.{Placed, PointsAt, root_point, HoldsAfterMoves, OperandsReady, IsAddress}
 use Rattle.ucode_emit.proofs.DefinitionsDirect.{access_at, first_bound}
 use Rattle.ucode_emit.proofs.OperandsHomes.{here_at, uses_here}
 use Rattle.ucode_emit.proofs.OperandsFetch.{fetch_operand, fetch_address, one_fetched, two_fetched}
@@ -24,7 +24,7 @@ second_in : (x y : ℕ) → is_in y (x ∷ y ∷ []) ≡ true
 second_in x y = or_right (nat_eq y x) (is_in y (y ∷ [])) (in-itself y [])
 
 pub one_operand : (labels : List Label) (p : Plan) → Placed labels p → (k : ℕ) (of : Names) (above : List ℕ) (x y : ℕ) (op : Unary) (t : Tree) (env : Env) (e : Words) → PointsAt labels k of above (Do (Una x op y) t)
-    → let q = root_point of above (Do (Una x op y) t) in Ready labels p k q env e → Behind p.slots (operands p k 1) e (λ e'. OperandsReady labels p k q (of y ∷ []) env e') × IsReadable (operand_at p k 0)
+    → let q = root_point of above (Do (Una x op y) t) in Ready labels p k q env e → HoldsAfterMoves p.slots (operands p k 1) e (λ e'. OperandsReady labels p k q (of y ∷ []) env e') × IsReadable (operand_at p k 0)
 one_operand labels p h k of above x y op t env e a d =
     let q = root_point of above (Do (Una x op y) t) in
     let s = here_at labels p k of above (Do (Una x op y) t) h a in
@@ -33,7 +33,7 @@ one_operand labels p h k of above x y op t env e a d =
 
 pub two_operands : (labels : List Label) (p : Plan) → Placed labels p → (k : ℕ) (of : Names) (above : List ℕ) (x y z : ℕ) (op : Binary) (t : Tree) (env : Env) (e : Words) → PointsAt labels k of above (Do (Bin x op y z) t)
     → let q = root_point of above (Do (Bin x op y z) t) in Ready labels p k q env e
-    → Behind p.slots (operands p k 2) e (λ e'. OperandsReady labels p k q (of y ∷ of z ∷ []) env e') × IsReadable (operand_at p k 0) × IsReadable (operand_at p k 1)
+    → HoldsAfterMoves p.slots (operands p k 2) e (λ e'. OperandsReady labels p k q (of y ∷ of z ∷ []) env e') × IsReadable (operand_at p k 0) × IsReadable (operand_at p k 1)
 two_operands labels p h k of above x y z op t env e a d =
     let q = root_point of above (Do (Bin x op y z) t) in
     let s = here_at labels p k of above (Do (Bin x op y z) t) h a in
@@ -43,7 +43,7 @@ two_operands labels p h k of above x y z op t env e a d =
 
 pub compared : (labels : List Label) (p : Plan) → Placed labels p → (k : ℕ) (of : Names) (above : List ℕ) (c : Cmp) (y z : ℕ) (t u : Tree) (env : Env) (e : Words) → PointsAt labels k of above (If c y z t u)
     → let q = root_point of above (If c y z t u) in Ready labels p k q env e
-    → Behind p.slots (operands p k 2) e (λ e'. OperandsReady labels p k q (of y ∷ of z ∷ []) env e') × IsReadable (operand_at p k 0) × IsReadable (operand_at p k 1)
+    → HoldsAfterMoves p.slots (operands p k 2) e (λ e'. OperandsReady labels p k q (of y ∷ of z ∷ []) env e') × IsReadable (operand_at p k 0) × IsReadable (operand_at p k 1)
 compared labels p h k of above c y z t u env e a d =
     let q = root_point of above (If c y z t u) in
     let s = here_at labels p k of above (If c y z t u) h a in
@@ -53,7 +53,7 @@ compared labels p h k of above c y z t u env e a d =
 
 pub read_address : (labels : List Label) (p : Plan) → Placed labels p → (k : ℕ) (of : Names) (above : List ℕ) (m : Mem) (xs : List ℕ) (y : ℕ) (t : Tree) (env : Env) (e : Words) → PointsAt labels k of above (Do (Read m xs y) t)
     → let q = root_point of above (Do (Read m xs y) t) in Ready labels p k q env e
-    → Behind p.slots (operands p k 1) e (λ e'. OperandsReady labels p k q (of y ∷ []) env e') × IsAddress (operand_at p k 0) × (first p k + length xs ≤ 8)
+    → HoldsAfterMoves p.slots (operands p k 1) e (λ e'. OperandsReady labels p k q (of y ∷ []) env e') × IsAddress (operand_at p k 0) × (first p k + length xs ≤ 8)
 read_address labels p h k of above m xs y t env e a d =
     let q = root_point of above (Do (Read m xs y) t) in
     let s = here_at labels p k of above (Do (Read m xs y) t) h a in

@@ -8,25 +8,25 @@ use Rattle.nv_base.specs.Sets.{is_in}
 use Rattle.nv_base.specs.Words.{Env}
 use Rattle.ssu_ir.specs.Tree.{Label}
 use Rattle.ssu_ir.specs.Points.{Point}
-use Rattle.slot_placement.specs.declared.place.Place.{Place}
-use Rattle.slot_placement.specs.declared.place.Place.TheVariants.{A, B, L, LD, S, SD, Slot}
-use Rattle.slot_placement.specs.Places.{same_place}
-use Rattle.slot_placement.specs.Plan.{Plan, home, serve, pass}
-use Rattle.slot_placement.specs.Uses.{Operand, Address}
-use Rattle.slot_placement.specs.Fits.{is_general, is_slot, is_write_register, is_read_register, word_register, is_home, IsOperandAt, IsAddressAt, read_places, has_place, maybe, different_groups}
-use Rattle.slot_placement.proofs.Places.{same_place-from, same_place-false}
+use Rattle.placement.specs.declared.place.Place.{Place}
+use Rattle.placement.specs.declared.place.Place.TheVariants.{A, B, L, LD, S, SD, Slot}
+use Rattle.placement.specs.Places.{same_place}
+use Rattle.placement.specs.Plan.{Plan, home, serve, pass}
+use Rattle.placement.specs.Uses.{Operand, Address}
+use Rattle.placement.specs.Fits.{is_general, is_slot, is_write_register, is_read_register, word_register, is_home, IsOperandAt, IsAddressAt, read_places, has_place, maybe, different_groups}
+use Rattle.placement.proofs.Places.{same_place-from, same_place-false}
 use Rattle.par_move.specs.Moves.{Move, Words, put, one_by_one, temporary}
 use Rattle.par_move.proofs.Steps.{put-other}
 use Rattle.ucode_emit.specs.inner.Pieces.{named, brought, operands, operand_at}
 use Rattle.ucode_emit.specs.inner.Ready.{Ready, lasting}
 use Rattle.ucode_emit.specs.inner.Machine.{IsReadable, IsDirect, copied as in_one}
-use Rattle.ucode_emit.specs.inner.Layers.{Placed, IsAddress, OperandsReady, Behind}
+use Rattle.ucode_emit.specs.inner.Layers.{Placed, IsAddress, OperandsReady, HoldsAfterMoves}
 use Rattle.ucode_emit.proofs.PointsEach.{all_both}
 use Rattle.ucode_emit.proofs.Copies.{put_here, one_append, place_head}
 use Rattle.ucode_emit.proofs.DefinitionsHomes.{general_not_written, none_both, early_register, Settled, Lasts, in_place, in_read, IsOwn, lasts_from}
 use Rattle.ucode_emit.proofs.DefinitionsDirect.{OneInstr, eighth_named}
 use Rattle.ucode_emit.proofs.EntriesMoves.{home_spare}
-use Rattle.ucode_emit.proofs.OperandsHomes.{Here, settled_held, CanServe, serves_spare, Source, source_word, source_of, IsHere}
+use Rattle.ucode_emit.proofs.OperandsHomes.{EmitContext, settled_held, CanServe, serves_spare, Source, source_word, source_of, IsEmitContext}
 
 -- ---- registers through which words pass
 
@@ -49,14 +49,14 @@ lasts_spare : (labels : List Label) (p : Plan) (x : ℕ) (t : Place) → Placed 
 lasts_spare labels p x t h d (in_place g m) o e = home_spare labels p x t h d (own_home p x t o (false_from_ne_true (is_write_register t) (λ w. general_not_written t g w))) e
 lasts_spare labels p x t h d (in_read g m) o e = false≢true (sym (ap is_read_register e) ∙ g)
 
-lasts_through : (labels : List Label) (p : Plan) (k : ℕ) (q : Point) (x n : ℕ) (t : Place) → Placed labels p → Here labels k q → is_in x q.before ≡ true → Lasts labels p x t → (pass p k).l ≡ Some n → t ≡ L n → ⊥
+lasts_through : (labels : List Label) (p : Plan) (k : ℕ) (q : Point) (x n : ℕ) (t : Place) → Placed labels p → EmitContext labels k q → is_in x q.before ≡ true → Lasts labels p x t → (pass p k).l ≡ Some n → t ≡ L n → ⊥
 lasts_through labels p k q x n t h s i (in_place g m) c e = false≢true (sym (ap is_general e) ∙ g)
 lasts_through labels p k q x n t h s i (in_read g m) c e =
     none_both (L n) (maybe L (pass p k).l) (read_places labels p x) ((h.fits.points k q s.at).held.through x i)
     (ap (λ o. has_place (L n) (maybe L o)) c ∙ place_head (L n) []) (subst (λ z. has_place z (read_places labels p x) ≡ true) e m)
 
 -- where a held value lasts, none passes
-pub held_apart : (labels : List Label) (p : Plan) (k : ℕ) (q : Point) (x : ℕ) (t r : Place) → Placed labels p → Here labels k q → is_in x q.before ≡ true → has_place t (lasting labels p x) ≡ true → Passing (pass p k).l r → t ≡ r → ⊥
+pub held_apart : (labels : List Label) (p : Plan) (k : ℕ) (q : Point) (x : ℕ) (t r : Place) → Placed labels p → EmitContext labels k q → is_in x q.before ≡ true → has_place t (lasting labels p x) ≡ true → Passing (pass p k).l r → t ≡ r → ⊥
 held_apart labels p k q x t r h s i m a e =
     let d = settled_held labels p k q x h s i in
     let l = lasts_from labels p x t (λ u. d) m in
@@ -69,7 +69,7 @@ pub written_apart : (l : Option ℕ) (t r : Place) → is_write_register t ≡ t
 written_apart l t r w a e =
     ⊎_elim (λ (c : r ≡ temporary). false≢true (sym (ap is_write_register (e ∙ c)) ∙ w)) (λ (c : (n : ℕ) × (l ≡ Some n) × (r ≡ L n)). false≢true (sym (ap is_write_register (e ∙ c.2)) ∙ w)) a
 
-ready_put : (labels : List Label) (p : Plan) (k : ℕ) (q : Point) (env : Env) (e : Words) (r : Place) (w : ℕ) → Placed labels p → Here labels k q → Passing (pass p k).l r → Ready labels p k q env e → Ready labels p k q env (put e r w)
+ready_put : (labels : List Label) (p : Plan) (k : ℕ) (q : Point) (env : Env) (e : Words) (r : Place) (w : ℕ) → Placed labels p → EmitContext labels k q → Passing (pass p k).l r → Ready labels p k q env e → Ready labels p k q env (put e r w)
 ready_put labels p k q env e r w h s a d = record {
   held = λ x i t m. put-other e r t w (held_apart labels p k q x t r h s i m a) ∙ d.held x i t m;
   early = λ u v. put-other e r (word_register p u) w (written_apart (pass p k).l (word_register p u) r (early_register labels p v.there.0 u h v.there.1 v.early) a) ∙ d.early u v;
@@ -79,7 +79,7 @@ ready_put labels p k q env e r w h s a d = record {
 abbrev pub Goes : ℕ → Option ℕ → Move → Type 0
 Goes slots l m = OneInstr slots m × Passing l m.1
 
-pub ready_moves : (labels : List Label) (p : Plan) (k : ℕ) (q : Point) (env : Env) (ms : List Move) (e : Words) → Placed labels p → Here labels k q → AllByRecursion (Goes p.slots (pass p k).l) ms → Ready labels p k q env e
+pub ready_moves : (labels : List Label) (p : Plan) (k : ℕ) (q : Point) (env : Env) (ms : List Move) (e : Words) → Placed labels p → EmitContext labels k q → AllByRecursion (Goes p.slots (pass p k).l) ms → Ready labels p k q env e
     → Ready labels p k q env (one_by_one ms e)
 ready_moves labels p k q env [] e h s a d = d
 ready_moves labels p k q env (m ∷ ms) e h s a d = ready_moves labels p k q env ms (put e m.1 (e m.0)) h s a.1 (ready_put labels p k q env e m.1 (e m.0) h s a.0.1 d)
@@ -193,7 +193,7 @@ pub record Fetch (labels : List Label) (p : Plan) (k : ℕ) (q : Point) (x j : �
   pub at_it : IsOperandAt (pass p k).l (serve p k j).from (serve p k j).at
   pub passes : is_slot (serve p k j).from ≡ true → is_some (pass p k).l ≡ true
 
-pub fetch_operand : (labels : List Label) (p : Plan) (k : ℕ) (q : Point) (x j : ℕ) → Placed labels p → Here labels k q → IsHere labels p k (record { point = k; operand = j; value = x; role = Operand }) → is_in x q.uses ≡ true → Fetch labels p k q x j
+pub fetch_operand : (labels : List Label) (p : Plan) (k : ℕ) (q : Point) (x j : ℕ) → Placed labels p → EmitContext labels k q → IsEmitContext labels p k (record { point = k; operand = j; value = x; role = Operand }) → is_in x q.uses ≡ true → Fetch labels p k q x j
 fetch_operand labels p k q x j h s u i = record {
   source = source_of labels p k q (record { point = k; operand = j; value = x; role = Operand }) h s u.0.1 i u.0.0.0;
   at_it = u.0.0.1;
@@ -218,7 +218,7 @@ pub record FetchAddress (labels : List Label) (p : Plan) (k : ℕ) (q : Point) (
   pub fetch : Fetch labels p k q x 0
   pub address : IsAddress (serve p k 0).at
 
-pub fetch_address : (labels : List Label) (p : Plan) (k : ℕ) (q : Point) (x : ℕ) → Placed labels p → Here labels k q → IsHere labels p k (record { point = k; operand = 0; value = x; role = Address }) → is_in x q.uses ≡ true
+pub fetch_address : (labels : List Label) (p : Plan) (k : ℕ) (q : Point) (x : ℕ) → Placed labels p → EmitContext labels k q → IsEmitContext labels p k (record { point = k; operand = 0; value = x; role = Address }) → is_in x q.uses ≡ true
     → FetchAddress labels p k q x
 fetch_address labels p k q x h s u i =
     let source = source_of labels p k q (record { point = k; operand = 0; value = x; role = Address }) h s u.0.1 i u.0.0.0 in record {
@@ -239,8 +239,8 @@ one_word slots l {from} {at} e w o c (to_own z) h0 h1 h2 =
     ap (one_by_one (read_moves from at) e1) z ∙ (read_spares_own from at e1 ∙ (temp_brings slots l o c e z ∙ h0))
 one_word slots l {from} {at} e w o c (to_read a b) h0 h1 h2 = read_brings from at (one_by_one (temp_moves l from at) e) a b ∙ h1
 
-pub one_fetched : (labels : List Label) (p : Plan) (k : ℕ) (q : Point) (x : ℕ) (env : Env) (e : Words) → Placed labels p → Here labels k q → Fetch labels p k q x 0 → Ready labels p k q env e
-    → Behind p.slots (operands p k 1) e (λ e'. OperandsReady labels p k q (x ∷ []) env e') × IsReadable (operand_at p k 0)
+pub one_fetched : (labels : List Label) (p : Plan) (k : ℕ) (q : Point) (x : ℕ) (env : Env) (e : Words) → Placed labels p → EmitContext labels k q → Fetch labels p k q x 0 → Ready labels p k q env e
+    → HoldsAfterMoves p.slots (operands p k 1) e (λ e'. OperandsReady labels p k q (x ∷ []) env e') × IsReadable (operand_at p k 0)
 one_fetched labels p k q x env e h s f d =
     let l = (pass p k).l in
     let from = (serve p k 0).from in
@@ -300,7 +300,7 @@ groups_read (LD i) (S j) h a b = false≢true b
 groups_read (LD i) (SD j) h a b = false≢true b
 groups_read (LD i) (Slot j) h a b = false≢true b
 
--- the words behind each of the four lists
+-- the words after each of the four lists
 abbrev after_first : Option ℕ → Place → Place → Words → Words
 after_first l from at e = one_by_one (temp_moves l from at) e
 
@@ -332,8 +332,8 @@ second_word slots l f0 a0 {f1} {a1} e1 w o c (to_own z) h1 h3 h4 =
     ap (after_read f1 a1 e3) z ∙ (read_spares_own f1 a1 e3 ∙ (read_spares_own f0 a0 e2 ∙ (temp_brings slots l o c e1 z ∙ h1)))
 second_word slots l f0 a0 {f1} {a1} e1 w o c (to_read a b) h1 h3 h4 = read_brings f1 a1 (after_read f0 a0 (after_first l f1 a1 e1)) a b ∙ h3
 
-pub two_fetched : (labels : List Label) (p : Plan) (k : ℕ) (q : Point) (x y : ℕ) (env : Env) (e : Words) → Placed labels p → Here labels k q → Fetch labels p k q x 0 → Fetch labels p k q y 1 → different_groups (serve p k 0).at (serve p k 1).at ≡ true
-    → Ready labels p k q env e → Behind p.slots (operands p k 2) e (λ e'. OperandsReady labels p k q (x ∷ y ∷ []) env e') × IsReadable (operand_at p k 0) × IsReadable (operand_at p k 1)
+pub two_fetched : (labels : List Label) (p : Plan) (k : ℕ) (q : Point) (x y : ℕ) (env : Env) (e : Words) → Placed labels p → EmitContext labels k q → Fetch labels p k q x 0 → Fetch labels p k q y 1 → different_groups (serve p k 0).at (serve p k 1).at ≡ true
+    → Ready labels p k q env e → HoldsAfterMoves p.slots (operands p k 2) e (λ e'. OperandsReady labels p k q (x ∷ y ∷ []) env e') × IsReadable (operand_at p k 0) × IsReadable (operand_at p k 1)
 two_fetched labels p k q x y env e h s f g apart d =
     let l = (pass p k).l in
     let f0 = (serve p k 0).from in

@@ -11,16 +11,16 @@ use Rattle.nv_base.specs.Sets.{is_in, Within}
 use Rattle.nv_base.specs.Words.{Env}
 use Rattle.nv_base.proofs.Sets.{within-left}
 use Rattle.ssu_ir.specs.Tree.{Lit, Una, Bin, Clone, Read, Write, Tree, Do, If, End, Label, Does, Forks, Ends, step_uses}
-use Rattle.ssu_ir.specs.Points.{Names, names_after, used, Place as PointPlace, Entry, At, Point, points, place_values}
-use Rattle.ssu_ir.proofs.Held.{filter_from, filter_in}
-use Rattle.slot_placement.specs.declared.place.Place.{Place}
-use Rattle.slot_placement.specs.declared.place.Place.TheVariants.{A, B, L, LD, S, SD, Slot}
-use Rattle.slot_placement.specs.Places.{same_place}
-use Rattle.slot_placement.specs.Plan.{Plan, home, first, pass}
-use Rattle.slot_placement.specs.Uses.{place_accesses, Value, Sort, Parameter, Result, Fetched, numbered, place_values as values_at, place_roles, Use, uses_at, uses, uses_of, is_used}
-use Rattle.slot_placement.specs.Fits.{read_place, IsGeneral, is_general, is_slot, is_write_register, is_read_register, served, AreCopies, IsPutEarly, IsHome, IsHoused, is_home, IsServed, stays, general_places, kept_register, read_places, has_place}
-use Rattle.slot_placement.proofs.Places.{same_place-true, same_place-from}
-use Rattle.slot_placement.proofs.Fitting.{vars-of-place}
+use Rattle.ssu_ir.specs.Points.{Names, names_after, used, PointKind as PointPlace, Entry, At, Point, points, place_values}
+use Rattle.ssu_ir.proofs.Liveness.{filter_from, filter_in}
+use Rattle.placement.specs.declared.place.Place.{Place}
+use Rattle.placement.specs.declared.place.Place.TheVariants.{A, B, L, LD, S, SD, Slot}
+use Rattle.placement.specs.Places.{same_place}
+use Rattle.placement.specs.Plan.{Plan, home, first, pass}
+use Rattle.placement.specs.Uses.{place_accesses, Value, ValueOrigin, Parameter, Result, Fetched, numbered, place_values as values_at, place_roles, Use, uses_at, uses, uses_of, is_used}
+use Rattle.placement.specs.Fits.{read_place, IsGeneral, is_general, is_slot, is_write_register, is_read_register, served, AreCopies, IsPutEarly, IsHome, IsHoused, is_home, IsServed, stays, general_places, kept_register, read_places, has_place}
+use Rattle.placement.proofs.Places.{same_place-true, same_place-from}
+use Rattle.placement.proofs.Fitting.{vars-of-place}
 use Rattle.par_move.specs.Moves.{Words, temporary}
 use Rattle.ucode_emit.specs.inner.Ready.{Ready, lasting}
 use Rattle.ucode_emit.specs.inner.Layers.{Placed, PointsAt, root_point}
@@ -35,13 +35,13 @@ use Rattle.ucode_emit.proofs.EntriesMoves.{uses_each}
 
 -- ---- the read registers of values are among the machine's eight
 
-abbrev pub SortFits : Plan → ℕ → Sort → Type 0
+abbrev pub SortFits : Plan → ℕ → ValueOrigin → Type 0
 SortFits p k (Parameter l i) = ⊤
 SortFits p k Result = ⊤
 SortFits p k (Fetched m i) = first p k + i < 8
 
 abbrev pub ValueFits : Plan → Value → Type 0
-ValueFits p v = SortFits p v.point v.sort
+ValueFits p v = SortFits p v.point v.origin
 
 fetched_fit : (p : Plan) (k : ℕ) (m : Mem) (j : ℕ) (xs : List ℕ) → first p k + (j + length xs) ≤ 8 → AllByRecursion (ValueFits p) (numbered k (Fetched m) j xs)
 fetched_fit p k m j [] h = tt
@@ -91,7 +91,7 @@ read_bounded Scratch k h = h
 general_bounded : (p : Plan) (r : Place) → IsGeneral p r → IsBounded r
 general_bounded p r g = other_bounded r (λ c. general_not_read r (general_is p r g) c)
 
-bounded_sort : (labels : List Label) (p : Plan) (v : Value) (s : Sort) → Placed labels p → IsHome labels p v (home p v.var) s → SortFits p v.point s → is_used labels v.var ≡ true → IsBounded (home p v.var).defined
+bounded_sort : (labels : List Label) (p : Plan) (v : Value) (s : ValueOrigin) → Placed labels p → IsHome labels p v (home p v.var) s → SortFits p v.point s → is_used labels v.var ≡ true → IsBounded (home p v.var).defined
 bounded_sort labels p v (Parameter l i) h g f u = general_bounded p (home p v.var).defined g.0
 bounded_sort labels p v Result h g f u =
     ⊎_elim (λ (c : IsGeneral p (home p v.var).defined × AreCopies labels p v.var (home p v.var)). general_bounded p (home p v.var).defined c.0)
@@ -115,7 +115,7 @@ bounded_here labels p k q h a e x i =
     let fits = values_fit p k q.place (access_at labels p k q h e) in
     let both = all_and (IsHoused labels p) (ValueFits p) (values_at k q.place) a fits in
     let v = value_of (λ w. IsHoused labels p w × ValueFits p w) (values_at k q.place) x both (ap (is_in x) (vars-of-place k q.place) ∙ i) in
-    subst (BoundedIfUsed labels p) v.2 (bounded_sort labels p v.0 v.0.sort h v.1.0 v.1.1)
+    subst (BoundedIfUsed labels p) v.2 (bounded_sort labels p v.0 v.0.origin h v.1.0 v.1.1)
 
 abbrev AreBounded : List Label → Plan → ℕ → Point → Type 0
 AreBounded labels p k q = (x : ℕ) → is_in x (place_values q.place) ≡ true → BoundedIfUsed labels p x
@@ -130,9 +130,9 @@ bounded_above : (labels : List Label) (p : Plan) (k : ℕ) (q : Point) (x : ℕ)
 bounded_above labels p k q x h e =
     each_here (λ k q. (x : ℕ) → is_in x q.above ≡ true → BoundedIfUsed labels p x) (points labels) k q (labels_above (BoundedIfUsed labels p) 0 0 labels (bounded_values labels p h)) e x
 
--- ---- what is held at a point
+-- ---- what is live at a point
 
-pub record Here (labels : List Label) (k : ℕ) (q : Point) : Type 0 where
+pub record EmitContext (labels : List Label) (k : ℕ) (q : Point) : Type 0 where
   pub at : slice_get (points labels) k ≡ Some q
   pub uses : Within q.uses q.before
   pub known : Within q.before q.above
@@ -143,7 +143,7 @@ root_uses of above (Do s t) x i = within-left (map of (step_uses s)) (used (name
 root_uses of above (If c y z t u) x i = within-left (of y ∷ of z ∷ []) (used of t ++ used of u) x i
 root_uses of above (End l) x i = i
 
-pub here_at : (labels : List Label) (p : Plan) (k : ℕ) (of : Names) (above : List ℕ) (t : Tree) → Placed labels p → PointsAt labels k of above t → Here labels k (root_point of above t)
+pub here_at : (labels : List Label) (p : Plan) (k : ℕ) (of : Names) (above : List ℕ) (t : Tree) → Placed labels p → PointsAt labels k of above t → EmitContext labels k (root_point of above t)
 here_at labels p k of above t h a =
     let q = root_point of above t in
     let e = root_at labels k of above t a in
@@ -156,7 +156,7 @@ here_at labels p k of above t h a =
       used_it = λ x i. used_there labels k of above t a x (split x i).1;
     }
 
-pub settled_held : (labels : List Label) (p : Plan) (k : ℕ) (q : Point) (x : ℕ) → Placed labels p → Here labels k q → is_in x q.before ≡ true → Settled labels p x
+pub settled_held : (labels : List Label) (p : Plan) (k : ℕ) (q : Point) (x : ℕ) → Placed labels p → EmitContext labels k q → is_in x q.before ≡ true → Settled labels p x
 settled_held labels p k q x h s i = settled_above labels p k q x h s.at (s.known x i) (s.used_it x i)
 
 -- ---- homes from which words are served
@@ -252,7 +252,7 @@ pub record Source (labels : List Label) (p : Plan) (q : Point) (x : ℕ) (from :
 pub source_word : (labels : List Label) (p : Plan) (k : ℕ) (q : Point) (x : ℕ) (from : Place) (env : Env) (e : Words) → Source labels p q x from → Ready labels p k q env e → e from ≡ env x
 source_word labels p k q x from env e s d = d.held x s.held from s.lasts
 
-pub source_of : (labels : List Label) (p : Plan) (k : ℕ) (q : Point) (u : Use) → Placed labels p → Here labels k q → ThereIn (uses labels) u → is_in u.value q.uses ≡ true → is_home p u.value (served p u).from ≡ true
+pub source_of : (labels : List Label) (p : Plan) (k : ℕ) (q : Point) (u : Use) → Placed labels p → EmitContext labels k q → ThereIn (uses labels) u → is_in u.value q.uses ≡ true → is_home p u.value (served p u).from ≡ true
     → Source labels p q u.value (served p u).from
 source_of labels p k q u h s t i g =
     let r = (served p u).from in
@@ -267,10 +267,10 @@ source_of labels p k q u h s t i g =
 -- ---- the uses of a point
 
 -- it is served, it is one of the form's uses, and where it is served from a slot there is a register for it
-abbrev pub IsHere : List Label → Plan → ℕ → Use → Type 0
-IsHere labels p k u = (IsServed labels p u × ThereIn (uses labels) u) × (is_slot (served p u).from ≡ true → is_some (pass p k).l ≡ true)
+abbrev pub IsEmitContext : List Label → Plan → ℕ → Use → Type 0
+IsEmitContext labels p k u = (IsServed labels p u × ThereIn (uses labels) u) × (is_slot (served p u).from ≡ true → is_some (pass p k).l ≡ true)
 
-pub uses_here : (labels : List Label) (p : Plan) (k : ℕ) (q : Point) → Placed labels p → slice_get (points labels) k ≡ Some q → AllByRecursion (IsHere labels p k) (uses_at k 0 q.uses (place_roles q.place))
+pub uses_here : (labels : List Label) (p : Plan) (k : ℕ) (q : Point) → Placed labels p → slice_get (points labels) k ≡ Some q → AllByRecursion (IsEmitContext labels p k) (uses_at k 0 q.uses (place_roles q.place))
 uses_here labels p k q h e =
     let P = λ (u : Use). IsServed labels p u × ThereIn (uses labels) u in
     let us = uses_at k 0 q.uses (place_roles q.place) in

@@ -14,8 +14,8 @@ use Rattle.uc_isa.proofs.Listing.{stands-left, stands-right}
 use Rattle.ssu_ir.specs.Tree.{Step, Tree, Do, If, End, Label, step_values}
 use Rattle.ssu_ir.specs.Points.{Names, own, names_after, points, points_from, tree_points, nodes}
 use Rattle.ssu_ir.proofs.PointLemmas.{length-tree_points}
-use Rattle.slot_placement.specs.Plan.{Plan}
-use Rattle.place_checks.proofs.Walked.{get-left}
+use Rattle.placement.specs.Plan.{Plan}
+use Rattle.placement_checks.proofs.Walked.{get-left}
 use Rattle.par_move.specs.Moves.{Move}
 use Rattle.ucode_emit.specs.inner.Pieces.{Item, Plain, Branch, operands, operand_at, source, moved, move_instr, instr_of, Sequences, sequence_at, step_items, fork_items, single_moves, all_copies, entry_point, tree_items, label_items, items_from, items, tree_starts, starts_from, starts, tree_moves, label_moves, moves_from, parallel_moves}
 use Rattle.ucode_emit.specs.inner.Machine.{move_instrs}
@@ -261,7 +261,7 @@ label_at labels p mss l to e =
     subst (λ j. LabelAt labels p mss (code_of labels p mss) (starts labels p mss) j to) z
     (label_from labels p mss (code_of labels p mss) (starts labels p mss) 0 0 0 labels l to (code_whole (code_of labels p mss)) (part_whole (starts labels p mss)) (part_whole (parallel_moves p labels)) (part_whole (points labels)) e)
 
--- a label that isn't the first begins behind the first point
+-- a label that isn't the first begins after the first point
 pub entry_later : (labels : List Label) (l : ℕ) (to : Label) → slice_get labels (suc l) ≡ Some to → 0 < entry_point labels (suc l)
 entry_later [] l to e = absurd (none-some to e)
 entry_later (x ∷ ls) l to e = omega arith

@@ -8,15 +8,15 @@ use Rattle.std.proofs.lemmas.Option.{none-some, same_Some}
 use Rattle.nv_base.specs.Sets.{is_in, all_different, Within}
 use Rattle.nv_base.proofs.Sets.{same-number, in-append, within-left, within-right}
 use Rattle.ssu_ir.specs.Tree.{Step, Lit, Una, Bin, Clone, Read, Write, Tree, Do, If, End, Label, Node, Does, Forks, Ends, step_values, step_clones, step_uses, last_uses}
-use Rattle.ssu_ir.specs.Points.{Names, own, names_after, used, held, Place, Entry, At, Point, place_values, nodes, tree_points, points_from, points}
+use Rattle.ssu_ir.specs.Points.{Names, own, names_after, used, live_of, PointKind, Entry, At, Point, place_values, nodes, tree_points, points_from, points}
 use Rattle.ssu_ir.specs.Single.{defined, all_defined, step_names, all_known, is_scoped, is_step, is_last, are_nodes, step_results, uses_once, clones_early, results_used, are_addressed, unknown, is_entry, is_single, single}
 use Rattle.ssu_ir.proofs.PointLemmas.{length-tree_points}
 use Rattle.ssu_ir.proofs.Lists.{image_from, all_at, in-itself}
-use Rattle.ssu_ir.proofs.Held.{filter_in}
+use Rattle.ssu_ir.proofs.Liveness.{filter_in}
 use Rattle.ucode_emit.specs.inner.Pieces.{entry_point}
 use Rattle.ucode_emit.proofs.PointsEach.{EachFrom, each_map, each_append, each_left, each_right, each_here, get_append}
 use Rattle.ucode_emit.proofs.PointsTree.{Disjoint, not_in_none, different_apart, different_left, different_right, InTree, in_tree, arms_at, above_each, IsBelow, Above, PairsOf, pairs_cons, pairs_append, no_pairs, tree_pairs, left_rest, rest_different}
-use Rattle.held_values.proofs.Scoped.{all-in, in-either}
+use Rattle.ssu_liveness.proofs.Scoped.{all-in, in-either}
 
 -- ---- lists of names
 
@@ -63,7 +63,7 @@ rest_known known s t d a x h g =
     (in-either x (step_values s) (step_clones s) k))
     (in-either x known (step_values s ++ step_clones s) h)
 
--- behind a step that makes no clones
+-- after a step that makes no clones
 plain_named : (of : Names) (known above vs rest : List ℕ) → Disjoint known (vs ++ rest) → ((z : ℕ) → is_in z known ≡ true → is_in (of z) above ≡ true) → ((z : ℕ) → is_in z known ≡ false → of z ≡ z)
     → (z : ℕ) → is_in z (known ++ (vs ++ [])) ≡ true → is_in (of z) (above ++ vs) ≡ true
 plain_named of known above vs rest d h o z e =
@@ -127,7 +127,7 @@ node_fits labels (Does s) = is_step s ≡ true
 node_fits labels (Forks c x y) = ⊤
 node_fits labels (Ends l) = is_last labels l ≡ true
 
-abbrev pub place_fits : List Label → Place → Type 0
+abbrev pub place_fits : List Label → PointKind → Type 0
 place_fits labels (Entry l ps) = ⊤
 place_fits labels (At n) = node_fits labels n
 
@@ -137,7 +137,7 @@ node_results (Does s) = step_results s
 node_results (Forks c x y) = []
 node_results (Ends l) = []
 
-abbrev pub place_results : Place → List ℕ
+abbrev pub place_results : PointKind → List ℕ
 place_results (Entry l ps) = []
 place_results (At n) = node_results n
 
@@ -200,7 +200,7 @@ result_own of (Read m xs y) x e = absurd (false≢true e)
 result_own of (Write m y xs) x e = absurd (false≢true e)
 
 results_after : (of : Names) (known above : List ℕ) (s : Step) (t : Tree) → Scope of known above (Do s t) → list_all (λ x. is_in x (used own t)) (step_results s) ≡ true
-    → Within (step_results s) (held (names_after of s) (above ++ step_values s) t)
+    → Within (step_results s) (live_of (names_after of s) (above ++ step_values s) t)
 results_after of known above s t h a x e =
     let v = result_value s x e in
     let new : is_in x known ≡ false = false_from_ne_true (is_in x known) (λ k. h.apart x k (within-left (step_values s) (step_clones s ++ defined t) x v)) in
@@ -261,7 +261,7 @@ formed_tree labels of known above (End l) n h a r = (
 -- ---- labels
 
 abbrev pub entry_at : ℕ → Label → Point
-entry_at k l = record { place = Entry k l.params; above = []; uses = []; below = nodes l.body; before = l.params; after = held own l.params l.body }
+entry_at k l = record { place = Entry k l.params; above = []; uses = []; below = nodes l.body; before = l.params; after = live_of own l.params l.body }
 
 pub labels_formed : (labels : List Label) (n k : ℕ) (ls : List Label) → all_different (all_defined ls) ≡ true → list_all (is_single labels) ls ≡ true → EachFrom (Formed labels) n (points_from k ls)
 labels_formed labels n k [] d h = tt

@@ -5,12 +5,12 @@ use Rattle.nv_base.specs.declared.term.Cmp.{Cmp}
 use Rattle.nv_base.specs.Sets.{is_in, all_different, Within}
 use Rattle.nv_base.proofs.Sets.{same-number, within-left, within-right}
 use Rattle.ssu_ir.specs.Tree.{Step, Tree, Do, If, End, Does, Forks, step_values, step_clones, step_uses}
-use Rattle.ssu_ir.specs.Points.{Names, names_after, used, held, union, Point, place_values, nodes, point, tree_points}
+use Rattle.ssu_ir.specs.Points.{Names, names_after, used, live_of, union, Point, place_values, nodes, point, tree_points}
 use Rattle.ssu_ir.specs.Single.{defined}
 use Rattle.ssu_ir.proofs.PointLemmas.{length-tree_points}
-use Rattle.ssu_ir.proofs.Held.{filter_in}
+use Rattle.ssu_ir.proofs.Liveness.{filter_in}
 use Rattle.ucode_emit.proofs.PointsEach.{EachFrom, each_map, each_both, each_append, each_left, each_right}
-use Rattle.held_values.proofs.Scoped.{in-either}
+use Rattle.ssu_liveness.proofs.Scoped.{in-either}
 
 -- ---- sets
 
@@ -172,7 +172,7 @@ pairs_cons n q a h g f p = ((h, g), each_both (λ i r. Above i r n q) (λ i r. E
 both_sides : (n m : ℕ) (a b : List Point) (i : ℕ) (q : Point) → m ≡ n + length a → EachFrom (Above i q) n a × EachFrom (Above i q) m b → EachFrom (Above i q) n (a ++ b)
 both_sides n m a b i q e h = each_append (Above i q) n m a b e h.0 h.1
 
--- two lists, one behind the other
+-- two lists, one after the other
 pub pairs_append : (n m : ℕ) (a b : List Point) → m ≡ n + length a → PairsOf n a → Pairs n a m b → Pairs m b n a → PairsOf m b → PairsOf n (a ++ b)
 pairs_append n m a b e aa ab ba bb =
     let F = λ (i : ℕ) (q : Point). EachFrom (Above i q) n a in
@@ -199,7 +199,7 @@ above_within of above t n =
     (λ i q h x e. ⊎_elim (λ (k : is_in x above ≡ true). within-left above (defined t) x k) (λ (k : is_in x (defined t) ≡ true). within-right above (defined t) x k) (h.above_it x e))
     (in_tree of above t n)
 
--- the values behind a step, none of which its rest defines
+-- the values after a step, none of which its rest defines
 rest_apart : (above : List ℕ) (s : Step) (t : Tree) → Disjoint above (defined (Do s t)) → all_different (defined (Do s t)) ≡ true → Disjoint (above ++ step_values s) (defined t)
 rest_apart above s t d a x h g =
     ⊎_elim
@@ -212,7 +212,7 @@ rest_different s t a = different_right (step_clones s) (defined t) (different_ri
 
 -- values of a step, above points of its rest
 step_pairs : (of : Names) (above : List ℕ) (s : Step) (t : Tree) (n j : ℕ) (r : Point) → InTree (names_after of s) (above ++ step_values s) t (suc n) j r
-    → Above n (point of (Does s) above (step_uses s) (nodes t) (held of above (Do s t)) (held (names_after of s) (above ++ step_values s) t)) j r
+    → Above n (point of (Does s) above (step_uses s) (nodes t) (live_of of above (Do s t)) (live_of (names_after of s) (above ++ step_values s) t)) j r
 step_pairs of above s t n j r h x e f = record {
   under = omega (arith, h.from);
   within = omega (arith, h.to);
@@ -223,7 +223,7 @@ pub tree_pairs : (of : Names) (above : List ℕ) (t : Tree) (n : ℕ) → Disjoi
 tree_pairs of above (Do s t) n d a =
     let of' = names_after of s in
     let above' = above ++ step_values s in
-    let q = point of (Does s) above (step_uses s) (nodes t) (held of above (Do s t)) (held of' above' t) in
+    let q = point of (Does s) above (step_uses s) (nodes t) (live_of of above (Do s t)) (live_of of' above' t) in
     pairs_cons n q (tree_points of' above' t)
     (λ x e f. absurd (d x f (within-left (step_values s) (step_clones s ++ defined t) x e)))
     (each_map (InTree of' above' t (suc n)) (Above n q) (suc n) (tree_points of' above' t) (step_pairs of above s t n) (in_tree of' above' t (suc n)))
@@ -232,7 +232,7 @@ tree_pairs of above (Do s t) n d a =
     (in_tree of' above' t (suc n)))
     (tree_pairs of' above' t (suc n) (rest_apart above s t d a) (rest_different s t a))
 tree_pairs of above (If c y z t u) n d a =
-    let q = point of (Forks c y z) above (y ∷ z ∷ []) (nodes t + nodes u) (held of above (If c y z t u)) (union (held of above t) (held of above u)) in
+    let q = point of (Forks c y z) above (y ∷ z ∷ []) (nodes t + nodes u) (live_of of above (If c y z t u)) (union (live_of of above t) (live_of of above u)) in
     let ts = tree_points of above t in
     let us = tree_points of above u in
     let tu = different_apart (defined t) (defined u) a in

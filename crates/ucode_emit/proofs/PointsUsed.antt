@@ -1,14 +1,14 @@
--- What is held at a point is used, and a point and the next one.
+-- What is live at a point is used, and a point and the next one.
 use Rattle.std.proofs.Common.{◌≡◌, ℕ, suc, ◌+◌, Bool, true, false, List, [], ◌∷◌, ◌++◌, map, Some, refl, sym, ap, ◌∙◌, ⊎_elim, arith, slice_get}
 use Rattle.std.proofs.lemmas.Bool.{false≢true}
 use Rattle.std.proofs.lemmas.List.{map-append}
 use Rattle.nv_base.specs.Sets.{is_in, Within}
 use Rattle.nv_base.proofs.Sets.{within-left, within-right}
 use Rattle.ssu_ir.specs.Tree.{Step, Lit, Una, Bin, Clone, Read, Write, Jump, Halt, Tree, Do, If, End, Label, Node, Does, Forks, Ends, step_values, step_uses, node_uses}
-use Rattle.ssu_ir.specs.Points.{Names, own, names_after, used, held, Point, place_values, nodes, tree_points, points_from, points}
-use Rattle.ssu_ir.proofs.Held.{filter_from, filter_in}
-use Rattle.slot_placement.specs.Uses.{Role, Written, Argument, Ending, roles, node_roles, place_roles, Use, uses_at, uses_from, uses, is_used}
-use Rattle.held_values.proofs.Scoped.{in-either}
+use Rattle.ssu_ir.specs.Points.{Names, own, names_after, used, live_of, Point, place_values, nodes, tree_points, points_from, points}
+use Rattle.ssu_ir.proofs.Liveness.{filter_from, filter_in}
+use Rattle.placement.specs.Uses.{Role, Written, Argument, Ending, roles, node_roles, place_roles, Use, uses_at, uses_from, uses, is_used}
+use Rattle.ssu_liveness.proofs.Scoped.{in-either}
 use Rattle.ucode_emit.specs.inner.Pieces.{entry_point}
 use Rattle.ucode_emit.specs.inner.Layers.{PointsAt, root_point}
 use Rattle.ucode_emit.proofs.PointsEach.{EachFrom, each_map, each_append, each_left, each_right, each_here, each_from}
@@ -60,11 +60,11 @@ uses_append x a b = ap (is_in x) (map-append (λ (u : Use). u.value) a b)
 used_each : (n : ℕ) (qs : List Point) → EachFrom HasUses n qs → EachFrom (λ j r. Within r.uses (values_of (uses_from n qs))) n qs
 used_each n [] h = tt
 used_each n (q ∷ qs) h =
-    let here = uses_at n 0 q.uses (place_roles q.place) in
+    let emit_context = uses_at n 0 q.uses (place_roles q.place) in
     let rest = uses_from (suc n) qs in (
-      λ x e. uses_append x here rest ∙ within-left (values_of here) (values_of rest) x (ap (is_in x) h.0 ∙ e),
-      each_map (λ j r. Within r.uses (values_of rest)) (λ j r. Within r.uses (values_of (here ++ rest))) (suc n) qs
-          (λ j r w x e. uses_append x here rest ∙ within-right (values_of here) (values_of rest) x (w x e))
+      λ x e. uses_append x emit_context rest ∙ within-left (values_of emit_context) (values_of rest) x (ap (is_in x) h.0 ∙ e),
+      each_map (λ j r. Within r.uses (values_of rest)) (λ j r. Within r.uses (values_of (emit_context ++ rest))) (suc n) qs
+          (λ j r w x e. uses_append x emit_context rest ∙ within-right (values_of emit_context) (values_of rest) x (w x e))
           (used_each (suc n) qs h.1),
     )
 
@@ -104,7 +104,7 @@ root_above of above (Do s t) = refl
 root_above of above (If c x y t u) = refl
 root_above of above (End l) = refl
 
-pub root_before : (of : Names) (above : List ℕ) (t : Tree) → (root_point of above t).before ≡ held of above t
+pub root_before : (of : Names) (above : List ℕ) (t : Tree) → (root_point of above t).before ≡ live_of of above t
 root_before of above (Do s t) = refl
 root_before of above (If c x y t u) = refl
 root_before of above (End l) = refl
@@ -123,8 +123,8 @@ points_rest labels k of above s t h = record { each = λ i q e. let z : suc k + 
 
 -- ---- a point that defines these values, and the next one
 
-pub record Spot (labels : List Label) (k : ℕ) (q r : Point) (xs : List ℕ) : Type 0 where
-  pub here : slice_get (points labels) k ≡ Some q
+pub record EmittedPoint (labels : List Label) (k : ℕ) (q r : Point) (xs : List ℕ) : Type 0 where
+  pub emit_context : slice_get (points labels) k ≡ Some q
   pub next : slice_get (points labels) (suc k) ≡ Some r
   pub values : place_values q.place ≡ xs
   pub above_it : r.above ≡ q.above ++ xs
@@ -143,7 +143,7 @@ root_held of above t x e = filter_from (holds_in of t) above x (sym (ap (is_in x
 root_known : (of : Names) (above : List ℕ) (t : Tree) (x : ℕ) → is_in x (root_point of above t).before ≡ true → is_in x (root_point of above t).above ≡ true
 root_known of above t x e = ap (is_in x) (root_above of above t) ∙ (root_held of above t x e).0
 
-step_before : (of : Names) (above : List ℕ) (s : Step) (t : Tree) (x : ℕ) → is_in x (root_point (names_after of s) (above ++ step_values s) t).before ≡ true → is_in x (step_values s) ≡ false → is_in x (held of above (Do s t)) ≡ true
+step_before : (of : Names) (above : List ℕ) (s : Step) (t : Tree) (x : ℕ) → is_in x (root_point (names_after of s) (above ++ step_values s) t).before ≡ true → is_in x (step_values s) ≡ false → is_in x (live_of of above (Do s t)) ≡ true
 step_before of above s t x e f =
     let d = root_held (names_after of s) (above ++ step_values s) t x e in
     ⊎_elim
@@ -152,12 +152,12 @@ step_before of above s t x e f =
     (in-either x above (step_values s) d.0)
 
 pub spot_step : (labels : List Label) (k : ℕ) (of : Names) (above : List ℕ) (s : Step) (t : Tree) → PointsAt labels k of above (Do s t)
-    → Spot labels k (root_point of above (Do s t)) (root_point (names_after of s) (above ++ step_values s) t) (step_values s)
+    → EmittedPoint labels k (root_point of above (Do s t)) (root_point (names_after of s) (above ++ step_values s) t) (step_values s)
 spot_step labels k of above s t h =
     let rest = points_rest labels k of above s t h in
     let of' = names_after of s in
     let above' = above ++ step_values s in record {
-      here = root_at labels k of above (Do s t) h;
+      emit_context = root_at labels k of above (Do s t) h;
       next = root_at labels (suc k) of' above' t rest;
       values = refl;
       above_it = root_above of' above' t;
@@ -169,10 +169,10 @@ spot_step labels k of above s t h =
     }
 
 pub spot_entry : (labels : List Label) (l : ℕ) (it : Label) → slice_get labels l ≡ Some it → PointsAt labels (suc (entry_point labels l)) own it.params it.body
-    → Spot labels (entry_point labels l) (entry_at l it) (root_point own it.params it.body) it.params
+    → EmittedPoint labels (entry_point labels l) (entry_at l it) (root_point own it.params it.body) it.params
 spot_entry labels l it e h =
     let z : 0 + l ≡ l = omega arith in record {
-      here = entry_there 0 l labels it e ∙ ap (λ j. Some (entry_at j it)) z;
+      emit_context = entry_there 0 l labels it e ∙ ap (λ j. Some (entry_at j it)) z;
       next = root_at labels (suc (entry_point labels l)) own it.params it.body h;
       values = refl;
       above_it = root_above own it.params it.body;

@@ -7,7 +7,7 @@ use Rattle.nv_base.specs.Sets.{is_in}
 use Rattle.nv_base.proofs.Sets.{same-number}
 use Rattle.ssu_ir.specs.Tree.{Label}
 use Rattle.ssu_ir.specs.Points.{Point, points}
-use Rattle.slot_placement.specs.Uses.{Value, Sort, numbered, place_values as values_at, values_from, Role, Use, uses_at, uses_from, uses, is_used, place_roles}
+use Rattle.placement.specs.Uses.{Value, ValueOrigin, numbered, place_values as values_at, values_from, Role, Use, uses_at, uses_from, uses, is_used, place_roles}
 use Rattle.ucode_emit.proofs.PointsEach.{EachFrom, each_of, all_left, all_right, all_both, all_get}
 
 -- ---- places in lists of names
@@ -109,15 +109,15 @@ used_by (v ∷ us) (suc i) u e = or_right (nat_eq u.value v.value) (is_in u.valu
 -- ---- values
 
 -- the elements of a list of numbered values
-pub numbered_at : (P : Value → Type 0) (k : ℕ) (sort : ℕ → Sort) (i : ℕ) (xs : List ℕ) (j : ℕ) (x : ℕ) → AllByRecursion P (numbered k sort i xs) → slice_get xs j ≡ Some x
-    → P (record { point = k; var = x; sort = sort (i + j) })
-numbered_at P k sort i [] j x h e = absurd (none-some x e)
-numbered_at P k sort i (y ∷ xs) zero x h e =
+pub numbered_at : (P : Value → Type 0) (k : ℕ) (origin : ℕ → ValueOrigin) (i : ℕ) (xs : List ℕ) (j : ℕ) (x : ℕ) → AllByRecursion P (numbered k origin i xs) → slice_get xs j ≡ Some x
+    → P (record { point = k; var = x; origin = origin (i + j) })
+numbered_at P k origin i [] j x h e = absurd (none-some x e)
+numbered_at P k origin i (y ∷ xs) zero x h e =
     let z : i ≡ i + zero = omega arith in
-    subst (λ n. P (record { point = k; var = x; sort = sort n })) z (subst (λ w. P (record { point = k; var = w; sort = sort i })) (same_Some y x e) h.0)
-numbered_at P k sort i (y ∷ xs) (suc j) x h e =
+    subst (λ n. P (record { point = k; var = x; origin = origin n })) z (subst (λ w. P (record { point = k; var = w; origin = origin i })) (same_Some y x e) h.0)
+numbered_at P k origin i (y ∷ xs) (suc j) x h e =
     let z : suc i + j ≡ i + suc j = omega arith in
-    subst (λ n. P (record { point = k; var = x; sort = sort n })) z (numbered_at P k sort (suc i) xs j x h.1 e)
+    subst (λ n. P (record { point = k; var = x; origin = origin n })) z (numbered_at P k origin (suc i) xs j x h.1 e)
 
 pub values_each : (P : Value → Type 0) (n : ℕ) (qs : List Point) → AllByRecursion P (values_from n qs) → EachFrom (λ k q. AllByRecursion P (values_at k q.place)) n qs
 values_each P n [] h = tt

@@ -18,7 +18,7 @@ use Rattle.ssu_ir.specs.Tree.{Label, Tree}
 use Rattle.ssu_ir.specs.Points.{Names}
 use Rattle.ssu_ir.specs.Meaning.{blank}
 use Rattle.ssu_ir.specs.Entered.{Exit, JumpsTo, EndsWith}
-use Rattle.slot_placement.specs.Plan.{Plan}
+use Rattle.placement.specs.Plan.{Plan}
 use Rattle.par_move.specs.Moves.{Move, Words, one_by_one}
 use Rattle.ucode_emit.specs.inner.Drafted.{label_starts}
 use Rattle.ucode_emit.specs.inner.Pieces.{Item, moved, move_instr, instr_of, tree_items, entry_point, Sequences, starts, parallel_moves}
@@ -55,7 +55,7 @@ Clear g at end = (x : ℕ) → at < x → x < end → IsOff (starts_in g) x
 pub clear_part : (g : Setting) (at end from to : ℕ) → Clear g at end → at ≤ from → to ≤ end → Clear g from to
 clear_part g at end from to h a b x lt le = h x (omega (arith, a, lt)) (omega (arith, b, le))
 
--- the place behind a tree
+-- the place after a tree
 abbrev pub tree_end : Setting → (k at : ℕ) → Tree → ℕ
 tree_end g k at t = at + length (tree_items g.labels g.plan g.mss k t)
 
@@ -130,7 +130,7 @@ after_steps g base i a b (EndsWith f) l off h = record {
 
 moves_lead : (g : Setting) (base at : ℕ) (ms : List Move) (e : Words) (w : World) (m : Moment) (j : ℕ) → AllByRecursion (λ q. IsDirect g.plan.slots q.0 q.1) ms → InCode (code_in g) at (move_instrs ms) → Stands base at e w m → j ≤ length ms
     → (after (code_in g) j m.engine m.packet).engine.place ≡ at + j
-moves_lead g base at ms e w m zero d h s le = let here : m.engine.place ≡ at = s.place in omega (arith, here)
+moves_lead g base at ms e w m zero d h s le = let emit_context : m.engine.place ≡ at = s.place in omega (arith, emit_context)
 moves_lead g base at [] e w m (suc j) d h s le = absurd (omega (arith, le))
 moves_lead g base at (x ∷ ms) e w m (suc j) d h s le =
     let i : Instr = move_instr x.0 x.1 in

@@ -1,4 +1,4 @@
--- The run of each kind of step: it ends, or goes on behind the step with all that has to stand there.
+-- The run of each kind of step: it ends, or goes on after the step with all that has to stand there.
 use Rattle.std.proofs.Common.{◌≡◌, ℕ, suc, ◌+◌, ◌/◌, ◌^◌, ◌<◌, ◌≤◌, nat_eq, true, false, List, [], ◌∷◌, ◌++◌, map, length, Option, Some, None, refl, sym, ◌∙◌, subst, ⊎_elim, arith, slice_get}
 use Rattle.std.proofs.lemmas.Bool.{and_parts, or_right, false_from_ne_true}
 use Rattle.std.proofs.lemmas.List.Elements.{All-nil}
@@ -25,9 +25,9 @@ use Rattle.ssu_ir.specs.Meaning.{assigned_each}
 use Rattle.ssu_ir.specs.Entered.{Exit, step_exit, exit_after_read, exit_after_write}
 use Rattle.ssu_ir.specs.Single.{Numbers, numbers_after, step_names, all_known, is_scoped, is_step, are_nodes, is_addressed, is_address, are_addressed, is_narrow, defined}
 use Rattle.ssu_ir.proofs.Lists.{in-itself}
-use Rattle.slot_placement.specs.Plan.{Plan, first}
-use Rattle.slot_placement.specs.Fits.{write_place}
-use Rattle.held_values.proofs.Scoped.{all-in, in-either}
+use Rattle.placement.specs.Plan.{Plan, first}
+use Rattle.placement.specs.Fits.{write_place}
+use Rattle.ssu_liveness.proofs.Scoped.{all-in, in-either}
 use Rattle.par_move.specs.Moves.{Move, Words, put, one_by_one}
 use Rattle.ucode_emit.specs.inner.Pieces.{Plain, moved, operands, operand_at, words, result_place, to_slot, copies, all_copies, un_op, source, target, address_of, shift_of, step_items, tree_items}
 use Rattle.ucode_emit.specs.inner.Ready.{Ready}
@@ -55,14 +55,14 @@ pub record State (labels : List Label) (p : Plan) (k : ℕ) (of : Names) (known 
   pub sizes : HasSizes w.packet
   pub ready : Ready labels p k (root_point of above t) vals e
 
--- what comes behind a step
+-- what comes after a step
 abbrev pub GoesOn : Setting → (base k at : ℕ) → Names → (known above : List ℕ) → Numbers → Step → Tree → (Env → World → Exit) → Type 0
 GoesOn g base k at of known above number s t go =
     (env vals : Env) (e : Words) (w : World) (b : Moment)
     → State g.labels g.plan (suc k) (names_after of s) (known ++ (step_values s ++ step_clones s)) (above ++ step_values s) (numbers_after number s) t env vals e w
     → Stands base (at + length (step_items g.plan k s)) e w b → Leaves g base b (go env w)
 
--- behind a step there is more of the tree
+-- after a step there is more of the tree
 step_within : (g : Setting) (k at : ℕ) (s : Step) (t : Tree) → at + length (step_items g.plan k s) < tree_end g k at (Do s t)
 step_within g k at s t =
     let a = length-append (step_items g.plan k s) (tree_items g.labels g.plan g.mss (suc k) t) in
@@ -179,7 +179,7 @@ clone_runs : (g : Setting) (base k at : ℕ) (of : Names) (known above : List �
     → AtTree g k at of above (Do (Clone xs y) t) → Rules g.labels of known above number (Do (Clone xs y) t) → State g.labels g.plan k of known above number (Do (Clone xs y) t) env vals e w → Stands base at e w m
     → GoesOn g base k at of known above number (Clone xs y) t go → Leaves g base m (step_exit (Clone xs y) go env w)
 clone_runs g base k at of known above number xs y t go env vals e w m tree rules st s next =
-    let here : at ≡ at + 0 = omega arith in
+    let emit_context : at ≡ at + 0 = omega arith in
     next (assigned_each env xs (env y)) vals e w m
     (record {
       fits = each_words env xs (env y) st.fits (st.fits y);
@@ -188,7 +188,7 @@ clone_runs g base k at of known above number xs y t go env vals e w m tree rules
       sizes = st.sizes;
       ready = g.layer.clone k of above xs y t vals e tree.tree.points_ st.ready;
     })
-    (subst (λ j. Stands base j e w m) here s)
+    (subst (λ j. Stands base j e w m) emit_context s)
 
 -- before an access: its address is in its register, with the word that the form says, and that is one that a source can use
 record AccessReady (g : Setting) (k n : ℕ) (c : Mem) (front : List Move) (at_word : ℕ) (r : Point) (vals : Env) (e : Words) : Type 0 where

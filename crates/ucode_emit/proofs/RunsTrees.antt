@@ -23,11 +23,11 @@ use Rattle.ssu_ir.specs.Meaning.{blank}
 use Rattle.ssu_ir.specs.Entered.{Exit, JumpsTo, last_exit, tree_exit}
 use Rattle.ssu_ir.specs.Single.{Numbers, numbers_after, all_known, is_scoped, are_nodes, takes_as_many, are_addressed, defined}
 use Rattle.ssu_ir.proofs.Lists.{in-itself}
-use Rattle.slot_placement.specs.declared.place.Place.{Place}
-use Rattle.slot_placement.specs.declared.place.Place.TheVariants.{A}
-use Rattle.slot_placement.specs.Plan.{Plan, pass}
-use Rattle.place_checks.proofs.Walked.{get-index}
-use Rattle.held_values.proofs.Scoped.{all-in}
+use Rattle.placement.specs.declared.place.Place.{Place}
+use Rattle.placement.specs.declared.place.Place.TheVariants.{A}
+use Rattle.placement.specs.Plan.{Plan, pass}
+use Rattle.placement_checks.proofs.Walked.{get-index}
+use Rattle.ssu_liveness.proofs.Scoped.{all-in}
 use Rattle.par_move.specs.Moves.{Words, one_by_one}
 use Rattle.ucode_emit.specs.inner.Pieces.{Plain, Branch, moved, operands, operand_at, source, single_moves, last_moves, step_items, fork_items, tree_items, entry_point, sequence_at, parallel_moves}
 use Rattle.ucode_emit.specs.inner.Ready.{Ready, IsSequence}
@@ -121,7 +121,7 @@ abbrev GoesInto : Setting → (base k to : ℕ) → Names → (known above : Lis
 GoesInto g base k to of known above number t env vals w o =
     (e : Words) (b : Moment) → State g.labels g.plan k of known above number t env vals e w → Stands base to e w b → Leaves g base b o
 
--- the front of a fork: its operands are fetched, and its two instructions follow
+-- the prefix of a fork: its operands are fetched, and its two instructions follow
 fork_front : (g : Setting) (base k at : ℕ) (of : Names) (known above : List ℕ) (number : Numbers) (c : Cmp) (x y : ℕ) (t u : Tree) (env vals : Env) (e : Words) (w : World) (m : Moment) (f : Exit)
     → AtTree g k at of above (If c x y t u) → Rules g.labels of known above number (If c x y t u)
     → State g.labels g.plan k of known above number (If c x y t u) env vals e w → Stands base at e w m

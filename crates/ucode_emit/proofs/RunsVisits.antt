@@ -4,13 +4,13 @@ use Rattle.std.proofs.lemmas.Bool.{cases_lt}
 use Rattle.std.specs.Prelude.{slice_index}
 use Rattle.nv_base.specs.World.{World, begun}
 use Rattle.uc_isa.specs.Pieces.{Moment}
-use Rattle.uc_runs.specs.Entries.{IsVisited}
-use Rattle.uc_runs.specs.Visits.{here, stood}
-use Rattle.uc_runs.proofs.Counting.{here-at, here-not}
+use Rattle.uc_executions.specs.Entries.{IsVisited}
+use Rattle.uc_executions.specs.Visits.{here, stood}
+use Rattle.uc_executions.proofs.Counting.{here-at, here-not}
 use Rattle.ssu_ir.specs.Tree.{Label}
 use Rattle.ssu_ir.specs.Meaning.{ssu_params}
 use Rattle.ssu_ir.specs.Entered.{Exit, JumpsTo, EndsWith, label_exit, is_entered, entered_behind, entered}
-use Rattle.slot_placement.specs.Plan.{Plan}
+use Rattle.placement.specs.Plan.{Plan}
 use Rattle.ucode_emit.specs.inner.Pieces.{entry_point, Sequences, parallel_moves}
 use Rattle.ucode_emit.specs.inner.Ready.{AreSequences}
 use Rattle.ucode_emit.specs.inner.Layers.{Placed, at_start}
@@ -19,7 +19,7 @@ use Rattle.ucode_emit.proofs.LabelPlaces.{start_at, code_starts}
 use Rattle.ucode_emit.proofs.Layer.{ready_layer}
 use Rattle.ucode_emit.proofs.MachineLayers.{machine}
 use Rattle.ucode_emit.proofs.MachineOperations.{got_index}
-use Rattle.place_checks.proofs.Walked.{get-index}
+use Rattle.placement_checks.proofs.Walked.{get-index}
 use Rattle.ucode_emit.proofs.Placing.{code_of}
 use Rattle.ucode_emit.proofs.RunsResults.{Setting, code_in, places_in, starts_in, Jumps, Leaves}
 use Rattle.ucode_emit.proofs.RunsWhole.{jumped_runs, start_runs, starts_first, label_first}

@@ -33,8 +33,8 @@ use Rattle.ssu_ir.specs.Single.{unknown, defined, all_defined, is_entry, is_sing
 use Rattle.ssu_ir.proofs.Exits.{enter_by_exit, meaning_by_exit}
 use Rattle.ssu_ir.proofs.Growth.{meaning-follows}
 use Rattle.ssu_ir.proofs.Rules.{single_label_parts}
-use Rattle.slot_placement.specs.Plan.{Plan}
-use Rattle.place_checks.proofs.Walked.{get-index}
+use Rattle.placement.specs.Plan.{Plan}
+use Rattle.placement_checks.proofs.Walked.{get-index}
 use Rattle.par_move.specs.Moves.{Move, Words, one_by_one, StandFor, none, once, around, at_rest}
 use Rattle.ucode_emit.specs.inner.Pieces.{Sequences, moved, instr_of, items, starts, starts_from, single_moves, all_copies, entry_point, entry_moves, sequence_at, tree_items, label_items, tree_moves, label_moves, moves_from, parallel_moves}
 use Rattle.ucode_emit.specs.inner.Ready.{Ready, Entered, IsSequence, AreSequences}
@@ -91,35 +91,35 @@ abbrev front_of : Setting → ℕ → Label → List Move → List Move
 front_of g k to ms = single_moves None ms ++ all_copies g.plan k to.params
 
 -- no other label begins inside the code of a label
-label_clear : (g : Setting) (l : ℕ) (to : Label) → slice_get g.labels l ≡ Some to → (here : AtLabel g (entry_point g.labels l) to)
-    → Clear g here.at (here.at + length (label_items g.labels g.plan g.mss (entry_point g.labels l) to))
-label_clear g l to found here x lt le k within same =
-    let begins : slice_get (starts_in g) l ≡ Some here.at = start_at g.labels g.plan g.mss l to found ∙ ap (λ n. Some n) (get-index (places_in g) (entry_point g.labels l) here.at 0 here.begins) in
+label_clear : (g : Setting) (l : ℕ) (to : Label) → slice_get g.labels l ≡ Some to → (emit_context : AtLabel g (entry_point g.labels l) to)
+    → Clear g emit_context.at (emit_context.at + length (label_items g.labels g.plan g.mss (entry_point g.labels l) to))
+label_clear g l to found emit_context x lt le k within same =
+    let begins : slice_get (starts_in g) l ≡ Some emit_context.at = start_at g.labels g.plan g.mss l to found ∙ ap (λ n. Some n) (get-index (places_in g) (entry_point g.labels l) emit_context.at 0 emit_context.begins) in
     ⊎_elim
     (λ low. absurd (omega (arith, low, lt, same)))
     (λ high. absurd (omega (arith, high, le, same)))
-    (starts_apart g.labels g.plan g.mss l to here.at k found begins within)
+    (starts_apart g.labels g.plan g.mss l to emit_context.at k found begins within)
 
 body_runs : (g : Setting) (base l : ℕ) (to : Label) (ws : List ℕ) (e : Words) (w : World) (m : Moment) → slice_get g.labels l ≡ Some to → All IsWord ws → HasSizes w.packet
-    → (here : AtLabel g (entry_point g.labels l) to)
+    → (emit_context : AtLabel g (entry_point g.labels l) to)
     → AreDirect g.plan.slots (front_of g (entry_point g.labels l) to (sequence_at g.mss (entry_point g.labels l)))
     → Ready g.labels g.plan (suc (entry_point g.labels l)) (root_point own to.params to.body) (assigned_all blank to.params ws) (one_by_one (front_of g (entry_point g.labels l) to (sequence_at g.mss (entry_point g.labels l))) e)
-    → Stands base here.at e w m → Leaves g base m (tree_exit to.body (assigned_all blank to.params ws) w)
-body_runs g base l to ws e w m found fit sizes here direct ready s =
+    → Stands base emit_context.at e w m → Leaves g base m (tree_exit to.body (assigned_all blank to.params ws) w)
+body_runs g base l to ws e w m found fit sizes emit_context direct ready s =
     let k = entry_point g.labels l in
     let env = assigned_all blank to.params ws in
     let front = front_of g k to (sequence_at g.mss k) in
     let body = tree_items g.labels g.plan g.mss (suc k) to.body in
-    let end = here.at + length (label_items g.labels g.plan g.mss k to) in
-    let clear = label_clear g l to found here in
+    let end = emit_context.at + length (label_items g.labels g.plan g.mss k to) in
+    let clear = label_clear g l to found emit_context in
     let whole = length-append (moved front) body in
     let many = items_long front in
     let some = tree_long g.labels g.plan g.mss (suc k) to.body in
-    let to_body = here.at + length (moved front) in
-    run_back g base here.at end front e w m (tree_exit to.body env w) here.in_code direct s clear (omega (arith, whole, many, some))
+    let to_body = emit_context.at + length (moved front) in
+    run_back g base emit_context.at end front e w m (tree_exit to.body env w) emit_context.in_code direct s clear (omega (arith, whole, many, some))
     (λ b there.
     tree_runs g base to.body (suc k) to_body own to.params to.params unknown env env (one_by_one front e) w b
-    (record { tree = here.body; clear = clear_part g here.at end to_body (tree_end g (suc k) to_body to.body) clear (omega arith) (omega (arith, whole)) })
+    (record { tree = emit_context.body; clear = clear_part g emit_context.at end to_body (tree_end g (suc k) to_body to.body) clear (omega arith) (omega (arith, whole)) })
     (rules_there g l to found)
     (record {
       fits = assigned-all-env blank to.params ws blank-env fit;
@@ -142,9 +142,9 @@ label_silent p zero l all lt h = absurd (omega arith)
 label_silent p (suc k) l all lt h = part_head (suc k) [] (tree_moves p (suc (suc k)) l.body) all h
 
 no_moves : (g : Setting) (l : ℕ) (to : Label) → slice_get g.labels (suc l) ≡ Some to → AtLabel g (entry_point g.labels (suc l)) to → sequence_at g.mss (entry_point g.labels (suc l)) ≡ []
-no_moves g l to found here =
+no_moves g l to found emit_context =
     let k = entry_point g.labels (suc l) in
-    let there = label_silent g.plan k to (parallel_moves g.plan g.labels) (entry_later g.labels l to found) here.moves in
+    let there = label_silent g.plan k to (parallel_moves g.plan g.labels) (entry_later g.labels l to found) emit_context.moves in
     silent (g.sequences.each k [] (sequence_at g.mss k) there (there_by_length (parallel_moves g.plan g.labels) g.mss k [] [] g.sequences.as_many there)).kinds refl
 
 label_runs : (g : Setting) (base l : ℕ) (to : Label) (ws : List ℕ) (e : Words) (w : World) (m : Moment) → slice_get g.labels (suc l) ≡ Some to → All IsWord ws → HasSizes w.packet
@@ -153,15 +153,15 @@ label_runs : (g : Setting) (base l : ℕ) (to : Label) (ws : List ℕ) (e : Word
 label_runs g base l to ws e w m found fit sizes entered s =
     let k = entry_point g.labels (suc l) in
     let env = assigned_all blank to.params ws in
-    let here = label_at g.labels g.plan g.mss (suc l) to found in
-    let still : [] ≡ sequence_at g.mss k = sym (no_moves g l to found here) in
-    let r = g.layer.entry (suc l) to env e found here.body.points_ entered in
-    body_runs g base (suc l) to ws e w m found fit sizes here
+    let emit_context = label_at g.labels g.plan g.mss (suc l) to found in
+    let still : [] ≡ sequence_at g.mss k = sym (no_moves g l to found emit_context) in
+    let r = g.layer.entry (suc l) to env e found emit_context.body.points_ entered in
+    body_runs g base (suc l) to ws e w m found fit sizes emit_context
     (subst (λ z. AreDirect g.plan.slots (front_of g k to z)) still r.0)
     (subst (λ z. Ready g.labels g.plan (suc k) (root_point own to.params to.body) env (one_by_one (front_of g k to z) e)) still r.1)
-    (subst (λ j. Stands base j e w m) (get-index (places_in g) k here.at 0 here.begins) s)
+    (subst (λ j. Stands base j e w m) (get-index (places_in g) k emit_context.at 0 emit_context.begins) s)
 
--- behind a jump
+-- after a jump
 pub jumped_runs : (g : Setting) (base : ℕ) (a : Moment) (l : ℕ) (ws : List ℕ) (w : World) → (r : Jumps g base a l ws w) → Leaves g base r.later (label_exit (slice_get g.labels (suc l)) ws w)
 jumped_runs g base a l ws w r =
     subst (λ o. Leaves g base r.later (label_exit o ws w)) (sym r.there) (label_runs g base l r.to ws r.words w r.later r.there r.fits r.sizes r.entered r.stands)
@@ -188,15 +188,15 @@ start_runs g base args p it found start =
     let behind = all_copies g.plan k it.params in
     let many : length args ≡ length it.params = start.words.0 ∙ ap params_of found in
     let s = g.machine.starts (length it.params) base args p (few_params g.labels g.plan it g.placed found) (record { words = (many, start.words.1); memories = start.memories; spills = start.spills }) in
-    let here = label_at g.labels g.plan g.mss 0 it found in
+    let emit_context = label_at g.labels g.plan g.mss 0 it found in
     let there = moves_first g.plan g.labels it found in
     let sequence : IsSequence (entry_moves g.plan 0 it.params) ms = g.sequences.each k (entry_moves g.plan 0 it.params) ms there
     (there_by_length (parallel_moves g.plan g.labels) g.mss k (entry_moves g.plan 0 it.params) [] g.sequences.as_many there) in
     let b = g.layer.begins it ms args env e found many (λ i x w a c. each_its_word blank it.params args i x w (params_differ g.labels g.plan 0 it g.placed found) a c) sequence s.1 in
-    let r = g.layer.entry 0 it env (one_by_one first e) found here.body.points_ b.1 in
-    let at : here.at ≡ 0 = same_Some here.at 0 (sym here.begins ∙ starts_first g.labels g.plan g.mss g.labels it found) in
+    let r = g.layer.entry 0 it env (one_by_one first e) found emit_context.body.points_ b.1 in
+    let at : emit_context.at ≡ 0 = same_Some emit_context.at 0 (sym emit_context.begins ∙ starts_first g.labels g.plan g.mss g.labels it found) in
     subst (λ o. Leaves g base m (label_exit o args (begun p))) (sym found)
-    (body_runs g base 0 it args e (begun p) m found start.words.1 start.memories here
+    (body_runs g base 0 it args e (begun p) m found start.words.1 start.memories emit_context
     (All-append (λ q. IsDirect g.plan.slots q.0 q.1) first behind b.0 r.0)
     (subst (λ x. Ready g.labels g.plan (suc k) (root_point own it.params it.body) env x) (sym (one_append first behind e)) r.1)
     (subst (λ j. Stands base j e (begun p) m) (sym at) s.0))

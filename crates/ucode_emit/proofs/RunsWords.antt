@@ -20,7 +20,7 @@ use Rattle.ssu_ir.specs.Single.{Numbers, numbered, is_address, fits_scratch, is_
 use Rattle.ssu_ir.proofs.Narrow.{narrow_is}
 use Rattle.ucode_emit.specs.inner.Pieces.{shift_of}
 use Rattle.ucode_emit.proofs.PointsTree.{different_right}
-use Rattle.held_values.proofs.Scoped.{in-either}
+use Rattle.ssu_liveness.proofs.Scoped.{in-either}
 
 -- ---- assignments
 

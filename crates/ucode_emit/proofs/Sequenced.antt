@@ -6,19 +6,19 @@ use Rattle.std.proofs.lemmas.List.{drop_more, map-append, length-map, length-app
 use Rattle.std.proofs.lemmas.Option.{none-some, same_Some, slice_get-get_or}
 use Rattle.ssu_ir.specs.declared.ssu.Ssu.{Ssu}
 use Rattle.ssu_ir.specs.Tree.{Last, Jump, Halt, Label, Does, Forks, Ends, last_uses}
-use Rattle.ssu_ir.specs.Points.{Place, Entry, At}
+use Rattle.ssu_ir.specs.Points.{PointKind, Entry, At}
 use Rattle.ssu_ir.specs.View.{labels_view}
-use Rattle.slot_placement.specs.declared.place.Serve.{Serve}
-use Rattle.slot_placement.specs.Plan.{Plan, serve}
+use Rattle.placement.specs.declared.place.Serve.{Serve}
+use Rattle.placement.specs.Plan.{Plan, serve}
 use Rattle.par_move.specs.Moves.{Move, HaveOwnTargets, SpareTemporary, none}
-use Rattle.ucode_emit.specs.declared.spots.Spot.{Spot}
-use Rattle.ucode_emit.specs.declared.spots.Spot.TheVariants.{Entry as EntrySpot}
+use Rattle.ucode_emit.specs.declared.point_ids.EmittedPoint.{EmittedPoint}
+use Rattle.ucode_emit.specs.declared.point_ids.EmittedPoint.TheVariants.{Entry as EntrySpot}
 use Rattle.ucode_emit.specs.inner.Pieces.{Sequences, parallel_moves, last_moves}
 use Rattle.ucode_emit.specs.inner.Ready.{IsSequence, AreSequences}
 use Rattle.ucode_emit.specs.inner.Layers.{Placed}
-use Rattle.ucode_emit.specs.inner.Here.{ends}
+use Rattle.ucode_emit.specs.inner.EmitContext.{ends}
 use Rattle.ucode_emit.specs.inner.Marks.{Mark, mark, marks, place_moves, marks_moves}
-use Rattle.ucode_emit.specs.inner.Spots.{spot_mark}
+use Rattle.ucode_emit.specs.inner.EmittedPoints.{point_mark}
 use Rattle.ucode_emit.specs.inner.Cursors.{place_operands, AreServed}
 use Rattle.ucode_emit.specs.inner.Walk.{place_ends, HasFew, moves_of, mark_at}
 use Rattle.ucode_emit.proofs.Entries.{few_params}
@@ -59,14 +59,14 @@ last_by : (p : Plan) (k : ℕ) (ss : List Serve) (l : Last) → length ss ≡ le
 last_by p k ss (Jump l xs) n h = ends_served p k (length xs) ss n h
 last_by p k ss (Halt e xs) n h = ends_served p k (length xs) ss n h
 
-pub place_by : (p : Plan) (k : ℕ) (ss : List Serve) (q : Place) → length ss ≡ place_operands q → ((i : ℕ) (s : Serve) → slice_get ss i ≡ Some s → serve p k i ≡ s) → place_ends p ss q ≡ place_moves p k q
+pub place_by : (p : Plan) (k : ℕ) (ss : List Serve) (q : PointKind) → length ss ≡ place_operands q → ((i : ℕ) (s : Serve) → slice_get ss i ≡ Some s → serve p k i ≡ s) → place_ends p ss q ≡ place_moves p k q
 place_by p k ss (Entry zero params) n h = refl
 place_by p k ss (Entry (suc l) params) n h = refl
 place_by p k ss (At (Does s)) n h = refl
 place_by p k ss (At (Forks c x y)) n h = refl
 place_by p k ss (At (Ends l)) n h = last_by p k ss l n h
 
-few_at : (labels : List Label) (p : Plan) (k n : ℕ) (q : Place) → Placed labels p → StoodPlace labels p k q n → HasFew q
+few_at : (labels : List Label) (p : Plan) (k n : ℕ) (q : PointKind) → Placed labels p → StoodPlace labels p k q n → HasFew q
 few_at labels p k n (Entry zero params) h s = subst (λ xs. length xs ≤ 8) s.params_ (few_params labels p s.it h s.there)
 few_at labels p k n (Entry (suc l) params) h s = tt
 few_at labels p k n (At it) h s = tt
@@ -78,8 +78,8 @@ got_map f [] k x d e = absurd (none-some x e)
 got_map f (y ∷ xs) zero x d e = ap f (sym (same_Some y x e))
 got_map f (y ∷ xs) (suc k) x d e = got_map f xs k x d e
 
-pub mark_of : (s : Ssu) (spots : List Spot) (k : ℕ) (spot : Spot) → map (spot_mark s) spots ≡ marks (labels_view s) → slice_get spots k ≡ Some spot → spot_mark s spot ≡ mark_at (labels_view s) k
-mark_of s spots k spot e f = got_map (spot_mark s) spots k spot (mark (Entry 0 []) 0) f ∙ ap (λ l. get_or l k (mark (Entry 0 []) 0)) e
+pub mark_of : (s : Ssu) (point_ids : List EmittedPoint) (k : ℕ) (point_id : EmittedPoint) → map (point_mark s) point_ids ≡ marks (labels_view s) → slice_get point_ids k ≡ Some point_id → point_mark s point_id ≡ mark_at (labels_view s) k
+mark_of s point_ids k point_id e f = got_map (point_mark s) point_ids k point_id (mark (Entry 0 []) 0) f ∙ ap (λ l. get_or l k (mark (Entry 0 []) 0)) e
 
 -- what is known where a point's serves are taken
 pub record Come (labels : List Label) (p : Plan) (k at n : ℕ) (ss : List Serve) (q : Mark) : Type 0 where
@@ -120,32 +120,32 @@ come labels p k at n ss h l c e f =
     }
 
 -- the same, by the point that the walk has before it
-abbrev pub spot_at : List Spot → ℕ → Spot
-spot_at spots k = get_or spots k (EntrySpot 0)
+abbrev pub point_id_at : List EmittedPoint → ℕ → EmittedPoint
+point_id_at point_ids k = get_or point_ids k (EntrySpot 0)
 
-pub below_marks : (s : Ssu) (spots : List Spot) (k : ℕ) → map (spot_mark s) spots ≡ marks (labels_view s) → k < length spots → k < length (marks (labels_view s))
-below_marks s spots k e l = let m = length-map spots (spot_mark s) in let n = ap length e in omega (arith, m, n, l)
+pub below_marks : (s : Ssu) (point_ids : List EmittedPoint) (k : ℕ) → map (point_mark s) point_ids ≡ marks (labels_view s) → k < length point_ids → k < length (marks (labels_view s))
+below_marks s point_ids k e l = let m = length-map point_ids (point_mark s) in let n = ap length e in omega (arith, m, n, l)
 
-pub mark_here : (s : Ssu) (spots : List Spot) (k : ℕ) → map (spot_mark s) spots ≡ marks (labels_view s) → k < length spots → spot_mark s (spot_at spots k) ≡ mark_at (labels_view s) k
-mark_here s spots k e l = mark_of s spots k (spot_at spots k) e (slice_get-get_or spots k (EntrySpot 0) l)
+pub mark_here : (s : Ssu) (point_ids : List EmittedPoint) (k : ℕ) → map (point_mark s) point_ids ≡ marks (labels_view s) → k < length point_ids → point_mark s (point_id_at point_ids k) ≡ mark_at (labels_view s) k
+mark_here s point_ids k e l = mark_of s point_ids k (point_id_at point_ids k) e (slice_get-get_or point_ids k (EntrySpot 0) l)
 
-pub spot_within : (s : Ssu) (p : Plan) (spots : List Spot) (k at m : ℕ) (all : List Serve) → map (spot_mark s) spots ≡ marks (labels_view s) → k < length spots → AreServed p.serves at k (drop k (marks (labels_view s)))
-    → m ≡ place_operands (spot_mark s (spot_at spots k)).place → all ≡ p.serves → at + m ≤ length all
-spot_within s p spots k at m all e l c f g =
-    let x = come_within (labels_view s) p k at (below_marks s spots k e l) c in
+pub spot_within : (s : Ssu) (p : Plan) (point_ids : List EmittedPoint) (k at m : ℕ) (all : List Serve) → map (point_mark s) point_ids ≡ marks (labels_view s) → k < length point_ids → AreServed p.serves at k (drop k (marks (labels_view s)))
+    → m ≡ place_operands (point_mark s (point_id_at point_ids k)).place → all ≡ p.serves → at + m ≤ length all
+spot_within s p point_ids k at m all e l c f g =
+    let x = come_within (labels_view s) p k at (below_marks s point_ids k e l) c in
     let w = x.within in
-    let same : m ≡ place_operands (mark_at (labels_view s) k).place = f ∙ ap (λ (q : Mark). place_operands q.place) (mark_here s spots k e l) in
+    let same : m ≡ place_operands (mark_at (labels_view s) k).place = f ∙ ap (λ (q : Mark). place_operands q.place) (mark_here s point_ids k e l) in
     let long = ap length g in
     omega (arith, w, same, long)
 
-pub spot_comes : (s : Ssu) (p : Plan) (spots : List Spot) (k at n m : ℕ) (ss all : List Serve) → Placed (labels_view s) p → map (spot_mark s) spots ≡ marks (labels_view s) → k < length spots
-    → AreServed p.serves at k (drop k (marks (labels_view s))) → m ≡ place_operands (spot_mark s (spot_at spots k)).place → n ≡ at + m → all ≡ p.serves → ss ≡ take m (drop at all)
-    → Come (labels_view s) p k at n ss (spot_mark s (spot_at spots k))
-spot_comes s p spots k at n m ss all h e l c f g a b =
-    let here = mark_here s spots k e l in
-    let same : m ≡ place_operands (mark_at (labels_view s) k).place = f ∙ ap (λ (q : Mark). place_operands q.place) here in
-    subst (λ q. Come (labels_view s) p k at n ss q) (sym here)
-    (come (labels_view s) p k at n ss h (below_marks s spots k e l) c (g ∙ ap (λ i. at + i) same) (b ∙ ap (λ r. take m (drop at r)) a ∙ ap (λ i. take i (drop at p.serves)) same))
+pub spot_comes : (s : Ssu) (p : Plan) (point_ids : List EmittedPoint) (k at n m : ℕ) (ss all : List Serve) → Placed (labels_view s) p → map (point_mark s) point_ids ≡ marks (labels_view s) → k < length point_ids
+    → AreServed p.serves at k (drop k (marks (labels_view s))) → m ≡ place_operands (point_mark s (point_id_at point_ids k)).place → n ≡ at + m → all ≡ p.serves → ss ≡ take m (drop at all)
+    → Come (labels_view s) p k at n ss (point_mark s (point_id_at point_ids k))
+spot_comes s p point_ids k at n m ss all h e l c f g a b =
+    let emit_context = mark_here s point_ids k e l in
+    let same : m ≡ place_operands (mark_at (labels_view s) k).place = f ∙ ap (λ (q : Mark). place_operands q.place) emit_context in
+    subst (λ q. Come (labels_view s) p k at n ss q) (sym emit_context)
+    (come (labels_view s) p k at n ss h (below_marks s point_ids k e l) c (g ∙ ap (λ i. at + i) same) (b ∙ ap (λ r. take m (drop at r)) a ∙ ap (λ i. take i (drop at p.serves)) same))
 
 -- ---- the sequences of the points so far
 
@@ -179,12 +179,12 @@ so_far_more labels p k mss mss' new l h e n =
     let m = h.as_many_ in
     let long = length-append mss (new ∷ []) in
     let many = as_many_moves labels p in
-    let here : slice_get (parallel_moves p labels) k ≡ Some (place_moves p k (mark_at labels k).place) =
+    let emit_context : slice_get (parallel_moves p labels) k ≡ Some (place_moves p k (mark_at labels k).place) =
     slice_get-get_or (parallel_moves p labels) k [] (omega (arith, many, l)) ∙ ap (λ ws. Some ws) (moves_at labels p k l) in
     record {
       as_many_ = ap length e ∙ omega (arith, long, m);
       each = λ i moves ms f g. last_case labels p k mss new h
-          (λ ws d. subst (λ w. IsSequence w new) (same_Some (place_moves p k (mark_at labels k).place) ws (sym here ∙ d)) n)
+          (λ ws d. subst (λ w. IsSequence w new) (same_Some (place_moves p k (mark_at labels k).place) ws (sym emit_context ∙ d)) n)
           i moves ms f (ap (λ w. slice_get w i) (sym e) ∙ g);
     }
 

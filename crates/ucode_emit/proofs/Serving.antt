@@ -9,17 +9,17 @@ use Rattle.uc_isa.specs.declared.instruction.Dst.TheVariants as dst
 use Rattle.uc_isa.specs.declared.instruction.Cond.TheVariants.{Always}
 use Rattle.uc_isa.specs.Registers.{failing}
 use Rattle.ssu_ir.specs.Tree.{Step, Lit, Una, Bin, Clone, Read, Write, Jump, Halt, Node, Does, Forks, Ends, node_uses}
-use Rattle.slot_placement.specs.declared.place.Place.{Place}
-use Rattle.slot_placement.specs.declared.place.Place.TheVariants.{Slot}
-use Rattle.slot_placement.specs.declared.place.Serve.{Serve}
-use Rattle.slot_placement.specs.Plan.{Plan, home, first, serve, pass}
+use Rattle.placement.specs.declared.place.Place.{Place}
+use Rattle.placement.specs.declared.place.Place.TheVariants.{Slot}
+use Rattle.placement.specs.declared.place.Serve.{Serve}
+use Rattle.placement.specs.Plan.{Plan, home, first, serve, pass}
 use Rattle.par_move.specs.Moves.{Move}
-use Rattle.ucode_emit.specs.declared.here.Here.{Here}
+use Rattle.ucode_emit.specs.declared.emit_context.EmitContext.{EmitContext}
 use Rattle.ucode_emit.specs.inner.Pieces.{Item, Plain, Branch, moved, operands, operand_at, words, all_copied, all_copies, single_moves, un_op, source, address_of, shift_of}
 use Rattle.ucode_emit.specs.inner.Machine.{IsReadable}
 use Rattle.ucode_emit.specs.inner.Layers.{IsAddress}
 use Rattle.ucode_emit.specs.inner.DraftItems.{fetches}
-use Rattle.ucode_emit.specs.inner.Here.{IsHere, CanAll, CanNode, node_items}
+use Rattle.ucode_emit.specs.inner.EmitContext.{IsEmitContext, CanAll, CanNode, node_items}
 use Rattle.ucode_emit.specs.inner.Given.{at_of, write_moves, each_copied, result_items, CanResult, given_node, CanGiven}
 use Rattle.ucode_emit.proofs.Fetching.{operands_served, words_served}
 
@@ -53,30 +53,30 @@ two f a c b d e g = ap (λ x. f x b) e ∙ ap (f c) g
 
 -- ---- what is given
 
-served : (p : Plan) (n : ℕ) (here : Here) → IsHere p n here → AreServes p here.point 0 here.serves.now
-served p n here h j s e = let z : 0 + j ≡ j = omega arith in ap (serve p here.point) z ∙ h.serves j s e
+served : (p : Plan) (n : ℕ) (emit_context : EmitContext) → IsEmitContext p n emit_context → AreServes p emit_context.point 0 emit_context.serves.now
+served p n emit_context h j s e = let z : 0 + j ≡ j = omega arith in ap (serve p emit_context.point) z ∙ h.serves j s e
 
-l_is : (p : Plan) (n : ℕ) (here : Here) → IsHere p n here → here.pass.l ≡ (pass p here.point).l
-l_is p n here h = ap (λ q. q.l) h.pass
+l_is : (p : Plan) (n : ℕ) (emit_context : EmitContext) → IsEmitContext p n emit_context → emit_context.pass.l ≡ (pass p emit_context.point).l
+l_is p n emit_context h = ap (λ q. q.l) h.pass
 
-s_is : (p : Plan) (n : ℕ) (here : Here) → IsHere p n here → here.pass.s ≡ (pass p here.point).s
-s_is p n here h = ap (λ q. q.s) h.pass
+s_is : (p : Plan) (n : ℕ) (emit_context : EmitContext) → IsEmitContext p n emit_context → emit_context.pass.s ≡ (pass p emit_context.point).s
+s_is p n emit_context h = ap (λ q. q.s) h.pass
 
-fetched : (p : Plan) (n : ℕ) (here : Here) → IsHere p n here → fetches here.pass.l here.serves.now ≡ operands p here.point n
-fetched p n here h =
-    ap (λ l. fetches l here.serves.now) (l_is p n here h) ∙ (sym (operands_served p here.point here.serves.now (served p n here h)) ∙ ap (operands p here.point) h.as_many)
+fetched : (p : Plan) (n : ℕ) (emit_context : EmitContext) → IsEmitContext p n emit_context → fetches emit_context.pass.l emit_context.serves.now ≡ operands p emit_context.point n
+fetched p n emit_context h =
+    ap (λ l. fetches l emit_context.serves.now) (l_is p n emit_context h) ∙ (sym (operands_served p emit_context.point emit_context.serves.now (served p n emit_context h)) ∙ ap (operands p emit_context.point) h.as_many)
 
-at_is : (p : Plan) (n : ℕ) (here : Here) (i : ℕ) → IsHere p n here → i < n → at_of here.serves.now i ≡ operand_at p here.point i
-at_is p n here i h lt =
+at_is : (p : Plan) (n : ℕ) (emit_context : EmitContext) (i : ℕ) → IsEmitContext p n emit_context → i < n → at_of emit_context.serves.now i ≡ operand_at p emit_context.point i
+at_is p n emit_context i h lt =
     let z : 0 + i ≡ i = omega arith in
-    at_served p here.point 0 here.serves.now i (served p n here h) (subst (λ m. i < m) (sym h.as_many) lt) ∙ ap (operand_at p here.point) z
+    at_served p emit_context.point 0 emit_context.serves.now i (served p n emit_context h) (subst (λ m. i < m) (sym h.as_many) lt) ∙ ap (operand_at p emit_context.point) z
 
 pub copies_are : (p : Plan) (k : ℕ) (xs : List ℕ) → each_copied p (pass p k).s xs ≡ all_copies p k xs
 copies_are p k [] = refl
 copies_are p k (x ∷ xs) = ap (λ l. all_copied (pass p k).s (home p x).defined (home p x).copied ++ l) (copies_are p k xs)
 
-pub copied_here : (p : Plan) (n : ℕ) (here : Here) (xs : List ℕ) → IsHere p n here → each_copied p here.pass.s xs ≡ all_copies p here.point xs
-copied_here p n here xs h = ap (λ s. each_copied p s xs) (s_is p n here h) ∙ copies_are p here.point xs
+pub copied_here : (p : Plan) (n : ℕ) (emit_context : EmitContext) (xs : List ℕ) → IsEmitContext p n emit_context → each_copied p emit_context.pass.s xs ≡ all_copies p emit_context.point xs
+copied_here p n emit_context xs h = ap (λ s. each_copied p s xs) (s_is p n emit_context h) ∙ copies_are p emit_context.point xs
 
 first_alone : (p : Plan) (k : ℕ) (s : Serve) (ss : List Serve) → AreServes p k 0 (s ∷ ss) → AreServes p k 0 (s ∷ [])
 first_alone p k s ss h zero r e = h zero r e
@@ -89,76 +89,76 @@ write_served p k n (s ∷ ss) h e =
     two (λ (a b : List Move). a ++ b) _ (operands p k 1) _ (words p k 1 n) (sym (operands_served p k (s ∷ []) (first_alone p k s ss h)))
     (sym (words_served p k 1 ss (λ j r g. let z : 1 + j ≡ 0 + suc j = omega arith in ap (serve p k) z ∙ h (suc j) r g)) ∙ ap (words p k 1) m)
 
-written : (p : Plan) (n : ℕ) (here : Here) → IsHere p (suc n) here → write_moves here.pass.l here.serves.now ≡ operands p here.point 1 ++ words p here.point 1 n
-written p n here h = ap (λ l. write_moves l here.serves.now) (l_is p (suc n) here h) ∙ write_served p here.point n here.serves.now (served p (suc n) here h) h.as_many
+written : (p : Plan) (n : ℕ) (emit_context : EmitContext) → IsEmitContext p (suc n) emit_context → write_moves emit_context.pass.l emit_context.serves.now ≡ operands p emit_context.point 1 ++ words p emit_context.point 1 n
+written p n emit_context h = ap (λ l. write_moves l emit_context.serves.now) (l_is p (suc n) emit_context h) ∙ write_served p emit_context.point n emit_context.serves.now (served p (suc n) emit_context h) h.as_many
 
 -- ---- the piece
 
-given_step_is : (p : Plan) (here : Here) (s : Step) → IsHere p (length (node_uses (Does s))) here → given_node p here (Does s) ≡ node_items p here.point here.to here.singles.now (Does s)
-given_step_is p here (Lit x v) h = ap (λ s. result_items p s x (λ d. instr.Immed d (v / 2 ^ shift_of v) (shift_of v))) (s_is p 0 here h)
-given_step_is p here (Una x op y) h =
-    two (λ (a : List Move) (is : List Item). moved a ++ is) _ (operands p here.point 1) _ _ (fetched p 1 here h)
-    (two (λ s (q : Place). result_items p s x (λ d. instr.Un d (un_op op) (source q))) _ (pass p here.point).s _ (operand_at p here.point 0) (s_is p 1 here h) (at_is p 1 here 0 h (omega arith)))
-given_step_is p here (Bin x op y z) h =
-    let k = here.point in
-    two (λ (a : List Move) (is : List Item). moved a ++ is) _ (operands p k 2) _ _ (fetched p 2 here h)
-    (two (λ s (f : Place × Place). result_items p s x (λ d. instr.Alu d op (source f.0) (source f.1))) _ (pass p k).s (at_of here.serves.now 0, at_of here.serves.now 1) (operand_at p k 0, operand_at p k 1) (s_is p 2 here h)
-    (two (λ (a b : Place). (a, b)) _ (operand_at p k 0) _ (operand_at p k 1) (at_is p 2 here 0 h (omega arith)) (at_is p 2 here 1 h (omega arith))))
-given_step_is p here (Clone xs y) h = refl
-given_step_is p here (Read m xs y) h =
-    let k = here.point in
-    two (λ (a : List Move) (is : List Item). moved a ++ is) _ (operands p k 1) _ _ (fetched p 1 here h)
+given_step_is : (p : Plan) (emit_context : EmitContext) (s : Step) → IsEmitContext p (length (node_uses (Does s))) emit_context → given_node p emit_context (Does s) ≡ node_items p emit_context.point emit_context.to emit_context.singles.now (Does s)
+given_step_is p emit_context (Lit x v) h = ap (λ s. result_items p s x (λ d. instr.Immed d (v / 2 ^ shift_of v) (shift_of v))) (s_is p 0 emit_context h)
+given_step_is p emit_context (Una x op y) h =
+    two (λ (a : List Move) (is : List Item). moved a ++ is) _ (operands p emit_context.point 1) _ _ (fetched p 1 emit_context h)
+    (two (λ s (q : Place). result_items p s x (λ d. instr.Un d (un_op op) (source q))) _ (pass p emit_context.point).s _ (operand_at p emit_context.point 0) (s_is p 1 emit_context h) (at_is p 1 emit_context 0 h (omega arith)))
+given_step_is p emit_context (Bin x op y z) h =
+    let k = emit_context.point in
+    two (λ (a : List Move) (is : List Item). moved a ++ is) _ (operands p k 2) _ _ (fetched p 2 emit_context h)
+    (two (λ s (f : Place × Place). result_items p s x (λ d. instr.Alu d op (source f.0) (source f.1))) _ (pass p k).s (at_of emit_context.serves.now 0, at_of emit_context.serves.now 1) (operand_at p k 0, operand_at p k 1) (s_is p 2 emit_context h)
+    (two (λ (a b : Place). (a, b)) _ (operand_at p k 0) _ (operand_at p k 1) (at_is p 2 emit_context 0 h (omega arith)) (at_is p 2 emit_context 1 h (omega arith))))
+given_step_is p emit_context (Clone xs y) h = refl
+given_step_is p emit_context (Read m xs y) h =
+    let k = emit_context.point in
+    two (λ (a : List Move) (is : List Item). moved a ++ is) _ (operands p k 1) _ _ (fetched p 1 emit_context h)
     (two (λ (i : Instr) (a : List Move). Plain i ∷ moved a) _ (instr.Read m (first p k) (length xs) (address_of (operand_at p k 0)) 0) _ (all_copies p k xs)
-    (two (λ (f : ℕ) (q : Place). instr.Read m f (length xs) (address_of q) 0) _ (first p k) _ (operand_at p k 0) h.first (at_is p 1 here 0 h (omega arith)))
-    (copied_here p 1 here xs h))
-given_step_is p here (Write m y xs) h =
-    let k = here.point in
+    (two (λ (f : ℕ) (q : Place). instr.Read m f (length xs) (address_of q) 0) _ (first p k) _ (operand_at p k 0) h.first (at_is p 1 emit_context 0 h (omega arith)))
+    (copied_here p 1 emit_context xs h))
+given_step_is p emit_context (Write m y xs) h =
+    let k = emit_context.point in
     let n = length xs in
-    two (λ (a : List Move) (is : List Item). moved a ++ is) _ (operands p k 1 ++ words p k 1 n) _ _ (written p n here h)
-    (two (λ (f : ℕ) (q : Place). Plain (instr.Write m f n (address_of q) 0) ∷ []) _ (first p k) _ (operand_at p k 0) h.first (at_is p (suc n) here 0 h (omega arith)))
+    two (λ (a : List Move) (is : List Item). moved a ++ is) _ (operands p k 1 ++ words p k 1 n) _ _ (written p n emit_context h)
+    (two (λ (f : ℕ) (q : Place). Plain (instr.Write m f n (address_of q) 0) ∷ []) _ (first p k) _ (operand_at p k 0) h.first (at_is p (suc n) emit_context 0 h (omega arith)))
 
-pub given_is : (p : Plan) (here : Here) (n : Node) → IsHere p (length (node_uses n)) here → given_node p here n ≡ node_items p here.point here.to here.singles.now n
-given_is p here (Does s) h = given_step_is p here s h
-given_is p here (Forks c x y) h =
-    let k = here.point in
-    two (λ (a : List Move) (is : List Item). moved a ++ is) _ (operands p k 2) _ _ (fetched p 2 here h)
-    (two (λ (a b : Place). Plain (instr.Alu dst.Nowhere Sub (source a) (source b)) ∷ Branch (failing c) here.to ∷ []) _ (operand_at p k 0) _ (operand_at p k 1) (at_is p 2 here 0 h (omega arith)) (at_is p 2 here 1 h (omega arith)))
-given_is p here (Ends (Jump l xs)) h = ap (λ r. moved (single_moves r here.singles.now) ++ Branch Always here.to ∷ []) (l_is p (length xs) here h)
-given_is p here (Ends (Halt e xs)) h = ap (λ r. moved (single_moves r here.singles.now) ++ Plain (instr.Halt e (length xs)) ∷ []) (l_is p (length xs) here h)
+pub given_is : (p : Plan) (emit_context : EmitContext) (n : Node) → IsEmitContext p (length (node_uses n)) emit_context → given_node p emit_context n ≡ node_items p emit_context.point emit_context.to emit_context.singles.now n
+given_is p emit_context (Does s) h = given_step_is p emit_context s h
+given_is p emit_context (Forks c x y) h =
+    let k = emit_context.point in
+    two (λ (a : List Move) (is : List Item). moved a ++ is) _ (operands p k 2) _ _ (fetched p 2 emit_context h)
+    (two (λ (a b : Place). Plain (instr.Alu dst.Nowhere Sub (source a) (source b)) ∷ Branch (failing c) emit_context.to ∷ []) _ (operand_at p k 0) _ (operand_at p k 1) (at_is p 2 emit_context 0 h (omega arith)) (at_is p 2 emit_context 1 h (omega arith)))
+given_is p emit_context (Ends (Jump l xs)) h = ap (λ r. moved (single_moves r emit_context.singles.now) ++ Branch Always emit_context.to ∷ []) (l_is p (length xs) emit_context h)
+given_is p emit_context (Ends (Halt e xs)) h = ap (λ r. moved (single_moves r emit_context.singles.now) ++ Plain (instr.Halt e (length xs)) ∷ []) (l_is p (length xs) emit_context h)
 
 -- ---- what is asked
 
-fetches_can : (p : Plan) (n : ℕ) (here : Here) → IsHere p n here → CanAll (operands p here.point n) → CanAll (fetches here.pass.l here.serves.now)
-fetches_can p n here h c = subst CanAll (sym (fetched p n here h)) c
+fetches_can : (p : Plan) (n : ℕ) (emit_context : EmitContext) → IsEmitContext p n emit_context → CanAll (operands p emit_context.point n) → CanAll (fetches emit_context.pass.l emit_context.serves.now)
+fetches_can p n emit_context h c = subst CanAll (sym (fetched p n emit_context h)) c
 
-readable_can : (p : Plan) (n : ℕ) (here : Here) (i : ℕ) → IsHere p n here → i < n → IsReadable (operand_at p here.point i) → IsReadable (at_of here.serves.now i)
-readable_can p n here i h lt c = subst IsReadable (sym (at_is p n here i h lt)) c
+readable_can : (p : Plan) (n : ℕ) (emit_context : EmitContext) (i : ℕ) → IsEmitContext p n emit_context → i < n → IsReadable (operand_at p emit_context.point i) → IsReadable (at_of emit_context.serves.now i)
+readable_can p n emit_context i h lt c = subst IsReadable (sym (at_is p n emit_context i h lt)) c
 
-address_can : (p : Plan) (n : ℕ) (here : Here) → IsHere p n here → 0 < n → IsAddress (operand_at p here.point 0) → IsAddress (at_of here.serves.now 0)
-address_can p n here h lt c = subst IsAddress (sym (at_is p n here 0 h lt)) c
+address_can : (p : Plan) (n : ℕ) (emit_context : EmitContext) → IsEmitContext p n emit_context → 0 < n → IsAddress (operand_at p emit_context.point 0) → IsAddress (at_of emit_context.serves.now 0)
+address_can p n emit_context h lt c = subst IsAddress (sym (at_is p n emit_context 0 h lt)) c
 
-result_can : (p : Plan) (n : ℕ) (here : Here) (x : ℕ) → IsHere p n here → CanResult p (pass p here.point).s x → CanResult p here.pass.s x
-result_can p n here x h c = subst (λ s. CanResult p s x) (sym (s_is p n here h)) c
+result_can : (p : Plan) (n : ℕ) (emit_context : EmitContext) (x : ℕ) → IsEmitContext p n emit_context → CanResult p (pass p emit_context.point).s x → CanResult p emit_context.pass.s x
+result_can p n emit_context x h c = subst (λ s. CanResult p s x) (sym (s_is p n emit_context h)) c
 
-singles_can : (p : Plan) (n : ℕ) (here : Here) → IsHere p n here → CanAll (single_moves (pass p here.point).l here.singles.now) → CanAll (single_moves here.pass.l here.singles.now)
-singles_can p n here h c = subst (λ r. CanAll (single_moves r here.singles.now)) (sym (l_is p n here h)) c
+singles_can : (p : Plan) (n : ℕ) (emit_context : EmitContext) → IsEmitContext p n emit_context → CanAll (single_moves (pass p emit_context.point).l emit_context.singles.now) → CanAll (single_moves emit_context.pass.l emit_context.singles.now)
+singles_can p n emit_context h c = subst (λ r. CanAll (single_moves r emit_context.singles.now)) (sym (l_is p n emit_context h)) c
 
-given_step_can : (p : Plan) (here : Here) (s : Step) → IsHere p (length (node_uses (Does s))) here → CanNode p here.point here.singles.now (Does s) → CanGiven p here (Does s)
-given_step_can p here (Lit x v) h c = (c.0, result_can p 0 here x h c.1)
-given_step_can p here (Una x op y) h c = (fetches_can p 1 here h c.0, readable_can p 1 here 0 h (omega arith) c.1, result_can p 1 here x h c.2)
-given_step_can p here (Bin x op y z) h c =
-    (fetches_can p 2 here h c.0, readable_can p 2 here 0 h (omega arith) c.1, readable_can p 2 here 1 h (omega arith) c.2, result_can p 2 here x h c.3)
-given_step_can p here (Clone xs y) h c = tt
-given_step_can p here (Read m xs y) h c =
-    (fetches_can p 1 here h c.0, address_can p 1 here h (omega arith) c.1, c.2, subst CanAll (sym (copied_here p 1 here xs h)) c.3)
-given_step_can p here (Write m y xs) h c =
-    (subst CanAll (sym (written p (length xs) here h)) c.0, address_can p (suc (length xs)) here h (omega arith) c.1, c.2)
+given_step_can : (p : Plan) (emit_context : EmitContext) (s : Step) → IsEmitContext p (length (node_uses (Does s))) emit_context → CanNode p emit_context.point emit_context.singles.now (Does s) → CanGiven p emit_context (Does s)
+given_step_can p emit_context (Lit x v) h c = (c.0, result_can p 0 emit_context x h c.1)
+given_step_can p emit_context (Una x op y) h c = (fetches_can p 1 emit_context h c.0, readable_can p 1 emit_context 0 h (omega arith) c.1, result_can p 1 emit_context x h c.2)
+given_step_can p emit_context (Bin x op y z) h c =
+    (fetches_can p 2 emit_context h c.0, readable_can p 2 emit_context 0 h (omega arith) c.1, readable_can p 2 emit_context 1 h (omega arith) c.2, result_can p 2 emit_context x h c.3)
+given_step_can p emit_context (Clone xs y) h c = tt
+given_step_can p emit_context (Read m xs y) h c =
+    (fetches_can p 1 emit_context h c.0, address_can p 1 emit_context h (omega arith) c.1, c.2, subst CanAll (sym (copied_here p 1 emit_context xs h)) c.3)
+given_step_can p emit_context (Write m y xs) h c =
+    (subst CanAll (sym (written p (length xs) emit_context h)) c.0, address_can p (suc (length xs)) emit_context h (omega arith) c.1, c.2)
 
-pub given_can : (p : Plan) (here : Here) (n : Node) → IsHere p (length (node_uses n)) here → CanNode p here.point here.singles.now n → CanGiven p here n
-given_can p here (Does s) h c = given_step_can p here s h c
-given_can p here (Forks k x y) h c = (fetches_can p 2 here h c.0, readable_can p 2 here 0 h (omega arith) c.1, readable_can p 2 here 1 h (omega arith) c.2)
-given_can p here (Ends (Jump l xs)) h c = singles_can p (length xs) here h c
-given_can p here (Ends (Halt e xs)) h c = (singles_can p (length xs) here h c.0, c.1)
+pub given_can : (p : Plan) (emit_context : EmitContext) (n : Node) → IsEmitContext p (length (node_uses n)) emit_context → CanNode p emit_context.point emit_context.singles.now n → CanGiven p emit_context n
+given_can p emit_context (Does s) h c = given_step_can p emit_context s h c
+given_can p emit_context (Forks k x y) h c = (fetches_can p 2 emit_context h c.0, readable_can p 2 emit_context 0 h (omega arith) c.1, readable_can p 2 emit_context 1 h (omega arith) c.2)
+given_can p emit_context (Ends (Jump l xs)) h c = singles_can p (length xs) emit_context h c
+given_can p emit_context (Ends (Halt e xs)) h c = (singles_can p (length xs) emit_context h c.0, c.1)
 
 -- ---- where labels begin
 

@@ -10,18 +10,18 @@ use Rattle.ssu_ir.specs.declared.node.SsuNode.{SsuNode}
 use Rattle.ssu_ir.specs.declared.ssu.Ssu.{Ssu}
 use Rattle.ssu_ir.specs.Tree.{Label, Node, Does, Forks, Ends}
 use Rattle.ssu_ir.specs.Points.{Entry, At, nodes}
-use Rattle.ssu_ir.specs.Slots.{Placed, DoAt, IfAt, EndAt, bare, bare_all, kids, weight, over, node_of, slot}
+use Rattle.ssu_ir.specs.Slots.{Placed, DoAt, IfAt, EndAt, bare, bare_all, successor_list, weight, over, node_of, slot}
 use Rattle.ssu_ir.specs.View.{labels_view}
 use Rattle.ssu_ir.proofs.Trees.{arity}
 use Rattle.ssu_ir.proofs.Reading.{Below}
-use Rattle.held_values.specs.inner.Live.{label_tree}
-use Rattle.held_values.specs.inner.Spots.{slot_node, params_of}
-use Rattle.held_values.proofs.Labels.{tree-at}
-use Rattle.held_values.proofs.Kept.{length-view}
-use Rattle.ucode_emit.specs.declared.spots.Spot.{Spot}
-use Rattle.ucode_emit.specs.declared.spots.Spot.TheVariants.{Entry as EntrySpot, Node as NodeSpot}
+use Rattle.ssu_liveness.specs.inner.Live.{label_tree}
+use Rattle.ssu_liveness.specs.inner.PointIds.{slot_node, params_of}
+use Rattle.ssu_liveness.proofs.Labels.{tree-at}
+use Rattle.ssu_liveness.proofs.Kept.{length-view}
+use Rattle.ucode_emit.specs.declared.point_ids.EmittedPoint.{EmittedPoint}
+use Rattle.ucode_emit.specs.declared.point_ids.EmittedPoint.TheVariants.{Entry as EntrySpot, Node as NodeSpot}
 use Rattle.ucode_emit.specs.inner.Marks.{Mark, mark, tree_marks, marks_from}
-use Rattle.ucode_emit.specs.inner.Spots.{spot_mark, on_stack, Counts, spot_entries}
+use Rattle.ucode_emit.specs.inner.EmittedPoints.{point_mark, on_stack, Counts, entries_of_points}
 
 -- ---- stacks
 
@@ -49,10 +49,10 @@ weighs_as (EndAt i l) = refl
 -- one node more over trees that are made
 pub record Grown (m : Node) (n : ℕ) (top : Placed) (rest : List Placed) (new : List ℕ) : Type 0 where
   pub counts : reverse new ≡ weights (top ∷ rest)
-  pub marks_ : mark (At m) n ∷ all_marks (kids top ++ rest) ≡ all_marks (top ∷ rest)
+  pub marks_ : mark (At m) n ∷ all_marks (successor_list top ++ rest) ≡ all_marks (top ∷ rest)
 
-grown_at : (top : Placed) (m : Node) (rest : List Placed) (old new : List ℕ) (n : ℕ) → bare top ≡ over m (bare_all (kids top)) → length (kids top) ≡ arity m
-    → reverse old ≡ weights (kids top ++ rest) → Counts m old new n → Grown m n top rest new
+grown_at : (top : Placed) (m : Node) (rest : List Placed) (old new : List ℕ) (n : ℕ) → bare top ≡ over m (bare_all (successor_list top)) → length (successor_list top) ≡ arity m
+    → reverse old ≡ weights (successor_list top ++ rest) → Counts m old new n → Grown m n top rest new
 grown_at (DoAt i r p) (Does s) rest old new n e l o h =
     let same : r ≡ s = cc in
     let one : suc (weight p) ≡ 1 + weight p = omega arith in
@@ -85,20 +85,20 @@ grown_at (EndAt i v) (Ends w) rest old new n e l o h =
     }
 
 -- the same, with the point on the stack
-pub record Spotted (s : Ssu) (top : Placed) (rest : List Placed) (counts : List ℕ) (spots : List Spot) : Type 0 where
+pub record Spotted (s : Ssu) (top : Placed) (rest : List Placed) (counts : List ℕ) (point_ids : List EmittedPoint) : Type 0 where
   pub counts_ : reverse counts ≡ weights (top ∷ rest)
-  pub marks_ : on_stack s spots ≡ all_marks (top ∷ rest)
+  pub marks_ : on_stack s point_ids ≡ all_marks (top ∷ rest)
 
-pub spotted : (s : Ssu) (top : Placed) (rest made : List Placed) (id : NodeId) (it : SsuNode) (old new : List ℕ) (n : ℕ) (spots spots' : List Spot)
-    → made ≡ kids top ++ rest → Below s.nodes.slots top it → slot s.nodes.slots id.0 ≡ Some it → reverse old ≡ weights made → on_stack s spots ≡ all_marks made
-    → Counts (node_of it) old new n → spots' ≡ spots ++ NodeSpot id n ∷ [] → Spotted s top rest new spots'
-spotted s top rest made id it old new n spots spots' u b f w h c e =
+pub spotted : (s : Ssu) (top : Placed) (rest made : List Placed) (id : NodeId) (it : SsuNode) (old new : List ℕ) (n : ℕ) (point_ids point_ids' : List EmittedPoint)
+    → made ≡ successor_list top ++ rest → Below s.nodes.slots top it → slot s.nodes.slots id.0 ≡ Some it → reverse old ≡ weights made → on_stack s point_ids ≡ all_marks made
+    → Counts (node_of it) old new n → point_ids' ≡ point_ids ++ NodeSpot id n ∷ [] → Spotted s top rest new point_ids'
+spotted s top rest made id it old new n point_ids point_ids' u b f w h c e =
     let g = grown_at top (node_of it) rest old new n b.tree b.many (w ∙ ap weights u) c in
-    let here : spot_mark s (NodeSpot id n) ≡ mark (At (node_of it)) n = ap (λ o. mark (At (slot_node o)) n) f in
+    let emit_context : point_mark s (NodeSpot id n) ≡ mark (At (node_of it)) n = ap (λ o. mark (At (slot_node o)) n) f in
     record {
       counts_ = g.counts;
-      marks_ = ap (on_stack s) e ∙ ap (map (spot_mark s)) (top_of spots (NodeSpot id n))
-          ∙ ap (λ q. q ∷ on_stack s spots) here ∙ ap (λ l. mark (At (node_of it)) n ∷ l) (h ∙ ap all_marks u) ∙ g.marks_;
+      marks_ = ap (on_stack s) e ∙ ap (map (point_mark s)) (top_of point_ids (NodeSpot id n))
+          ∙ ap (λ q. q ∷ on_stack s point_ids) emit_context ∙ ap (λ l. mark (At (node_of it)) n ∷ l) (h ∙ ap all_marks u) ∙ g.marks_;
     }
 
 -- ---- labels
@@ -108,10 +108,10 @@ some_label [] k l = absurd (omega (arith, l))
 some_label (m ∷ ls) k l = m
 
 -- one label more
-pub label_more : (s : Ssu) (k : ℕ) (d : SsuLabel) (spots pushed new stack : List Spot) (goal : List Mark) → k < length s.labels.items → pushed ≡ spots ++ EntrySpot k ∷ []
+pub label_more : (s : Ssu) (k : ℕ) (d : SsuLabel) (point_ids pushed new stack : List EmittedPoint) (goal : List Mark) → k < length s.labels.items → pushed ≡ point_ids ++ EntrySpot k ∷ []
     → on_stack s stack ≡ tree_marks (bare (label_tree s k)) → new ≡ pushed ++ reverse stack
-    → map (spot_mark s) spots ++ marks_from k (drop k (labels_view s)) ≡ goal → map (spot_mark s) new ++ marks_from (k + 1) (drop (k + 1) (labels_view s)) ≡ goal
-label_more s k d spots pushed new stack goal l p o n h =
+    → map (point_mark s) point_ids ++ marks_from k (drop k (labels_view s)) ≡ goal → map (point_mark s) new ++ marks_from (k + 1) (drop (k + 1) (labels_view s)) ≡ goal
+label_more s k d point_ids pushed new stack goal l p o n h =
     let view = labels_view s in
     let t = tree-at s k l in
     let it : Label = record { params = (get_or s.labels.items k d).params.items; body = bare (label_tree s k) } in
@@ -119,33 +119,33 @@ label_more s k d spots pushed new stack goal l p o n h =
     let first : drop k view ≡ it ∷ drop (k + 1) view = drop_more view k it (omega (arith, long, l)) ∙ ap (λ x. x ∷ drop (k + 1) view) (t.view_is d it) in
     let next : suc k ≡ k + 1 = omega arith in
     let rest = marks_from (k + 1) (drop (k + 1) view) in
-    let entry : map (spot_mark s) pushed ≡ map (spot_mark s) spots ++ mark (Entry k it.params) 0 ∷ [] =
-    ap (map (spot_mark s)) p ∙ map-append (spot_mark s) spots (EntrySpot k ∷ [])
-    ∙ ap (λ w. map (spot_mark s) spots ++ mark (Entry k (params_of w)) 0 ∷ []) (slice_get-get_or s.labels.items k d l) in
+    let entry : map (point_mark s) pushed ≡ map (point_mark s) point_ids ++ mark (Entry k it.params) 0 ∷ [] =
+    ap (map (point_mark s)) p ∙ map-append (point_mark s) point_ids (EntrySpot k ∷ [])
+    ∙ ap (λ w. map (point_mark s) point_ids ++ mark (Entry k (params_of w)) 0 ∷ []) (slice_get-get_or s.labels.items k d l) in
     let mine : marks_from k (drop k view) ≡ mark (Entry k it.params) 0 ∷ (tree_marks it.body ++ rest) =
     ap (marks_from k) first ∙ ap (λ j. mark (Entry k it.params) 0 ∷ (tree_marks it.body ++ marks_from j (drop (k + 1) view))) next in
-    ap (λ m. m ++ rest) (ap (map (spot_mark s)) n ∙ map-append (spot_mark s) pushed (reverse stack) ∙ ap (λ m. map (spot_mark s) pushed ++ m) o ∙ ap (λ m. m ++ tree_marks it.body) entry)
-    ∙ append_assoc (map (spot_mark s) spots ++ mark (Entry k it.params) 0 ∷ []) (tree_marks it.body) rest
-    ∙ append_assoc (map (spot_mark s) spots) (mark (Entry k it.params) 0 ∷ []) (tree_marks it.body ++ rest)
-    ∙ ap (λ m. map (spot_mark s) spots ++ m) (sym mine) ∙ h
+    ap (λ m. m ++ rest) (ap (map (point_mark s)) n ∙ map-append (point_mark s) pushed (reverse stack) ∙ ap (λ m. map (point_mark s) pushed ++ m) o ∙ ap (λ m. m ++ tree_marks it.body) entry)
+    ∙ append_assoc (map (point_mark s) point_ids ++ mark (Entry k it.params) 0 ∷ []) (tree_marks it.body) rest
+    ∙ append_assoc (map (point_mark s) point_ids) (mark (Entry k it.params) 0 ∷ []) (tree_marks it.body ++ rest)
+    ∙ ap (λ m. map (point_mark s) point_ids ++ m) (sym mine) ∙ h
 
-pub labels_done : (s : Ssu) (k : ℕ) (spots : List Spot) (goal : List Mark) → length s.labels.items ≤ k → map (spot_mark s) spots ++ marks_from k (drop k (labels_view s)) ≡ goal → map (spot_mark s) spots ≡ goal
-labels_done s k spots goal l h =
+pub labels_done : (s : Ssu) (k : ℕ) (point_ids : List EmittedPoint) (goal : List Mark) → length s.labels.items ≤ k → map (point_mark s) point_ids ++ marks_from k (drop k (labels_view s)) ≡ goal → map (point_mark s) point_ids ≡ goal
+labels_done s k point_ids goal l h =
     let long = length-view s in
-    sym (append-nil (map (spot_mark s) spots)) ∙ ap (λ m. map (spot_mark s) spots ++ marks_from k m) (sym (drop_all k (labels_view s) (omega (arith, long, l)))) ∙ h
+    sym (append-nil (map (point_mark s) point_ids)) ∙ ap (λ m. map (point_mark s) point_ids ++ marks_from k m) (sym (drop_all k (labels_view s) (omega (arith, long, l)))) ∙ h
 
 -- ---- where labels begin
 
-pub entries_both : (k n : ℕ) (a b : List Spot) → n ≡ k + length a → spot_entries k (a ++ b) ≡ spot_entries k a ++ spot_entries n b
-entries_both k n [] b e = let z : k ≡ n = omega (arith, e) in ap (λ j. spot_entries j b) z
+pub entries_both : (k n : ℕ) (a b : List EmittedPoint) → n ≡ k + length a → entries_of_points k (a ++ b) ≡ entries_of_points k a ++ entries_of_points n b
+entries_both k n [] b e = let z : k ≡ n = omega (arith, e) in ap (λ j. entries_of_points j b) z
 entries_both k n (EntrySpot l ∷ a) b e = let z : n ≡ suc k + length a = omega (arith, e) in ap (λ l. k ∷ l) (entries_both (suc k) n a b z)
 entries_both k n (NodeSpot id m ∷ a) b e = let z : n ≡ suc k + length a = omega (arith, e) in entries_both (suc k) n a b z
 
-pub entries_turn : (spots : List Spot) (k : ℕ) (d : Spot) (old new : List ℕ) → k < length spots → old ≡ spot_entries 0 (take k spots) → new ≡ old ++ spot_entries k (get_or spots k d ∷ []) → new ≡ spot_entries 0 (take (k + 1) spots)
-entries_turn spots k d old new l o n =
-    let long : length (take k spots) ≡ k = length-take-le k spots (omega (arith, l)) in
-    let z : k ≡ 0 + length (take k spots) = omega (arith, long) in
-    n ∙ ap (λ m. m ++ spot_entries k (get_or spots k d ∷ [])) o ∙ sym (entries_both 0 k (take k spots) (get_or spots k d ∷ []) z) ∙ ap (spot_entries 0) (sym (take_more spots k d l))
+pub entries_turn : (point_ids : List EmittedPoint) (k : ℕ) (d : EmittedPoint) (old new : List ℕ) → k < length point_ids → old ≡ entries_of_points 0 (take k point_ids) → new ≡ old ++ entries_of_points k (get_or point_ids k d ∷ []) → new ≡ entries_of_points 0 (take (k + 1) point_ids)
+entries_turn point_ids k d old new l o n =
+    let long : length (take k point_ids) ≡ k = length-take-le k point_ids (omega (arith, l)) in
+    let z : k ≡ 0 + length (take k point_ids) = omega (arith, long) in
+    n ∙ ap (λ m. m ++ entries_of_points k (get_or point_ids k d ∷ [])) o ∙ sym (entries_both 0 k (take k point_ids) (get_or point_ids k d ∷ []) z) ∙ ap (entries_of_points 0) (sym (take_more point_ids k d l))
 
 pub all_reverse : {X : Type 0} (P : X → Type 0) (xs : List X) → All P xs → All P (reverse xs)
 all_reverse P [] h = All-nil P

@@ -8,17 +8,17 @@ use Rattle.nv_base.specs.Words.{Env}
 use Rattle.nv_base.proofs.Sets.{within-left, within-right}
 use Rattle.ssu_ir.specs.Tree.{Clone, Write, Tree, Do, If, Label}
 use Rattle.ssu_ir.specs.Points.{Names, names_after, used, Point, nodes}
-use Rattle.ssu_ir.proofs.Held.{filter_from, filter_in}
-use Rattle.slot_placement.specs.Plan.{Plan}
+use Rattle.ssu_ir.proofs.Liveness.{filter_from, filter_in}
+use Rattle.placement.specs.Plan.{Plan}
 use Rattle.par_move.specs.Moves.{Words}
 use Rattle.ucode_emit.specs.inner.Ready.{Ready}
 use Rattle.ucode_emit.specs.inner.Layers.{Placed, PointsAt, root_point}
-use Rattle.ucode_emit.proofs.PointsUsed.{Spot, spot_step, root_above, root_before, root_below}
+use Rattle.ucode_emit.proofs.PointsUsed.{EmittedPoint, spot_step, root_above, root_before, root_below}
 use Rattle.ucode_emit.proofs.DefinitionsResult.{waits_before}
 
 -- ---- a step that defines nothing
 
-pass_on : (labels : List Label) (p : Plan) (k : ℕ) (q r : Point) (env : Env) (e : Words) → Spot labels k q r [] → Ready labels p k q env e → Ready labels p (suc k) r env e
+pass_on : (labels : List Label) (p : Plan) (k : ℕ) (q r : Point) (env : Env) (e : Words) → EmittedPoint labels k q r [] → Ready labels p k q env e → Ready labels p (suc k) r env e
 pass_on labels p k q r env e s d = record {
   held = λ x i t m. d.held x (s.before_it x i refl) t m;
   early = λ u w. d.early u (waits_before labels p k q r [] u s w refl);
@@ -54,7 +54,7 @@ arm_ready labels p of above whole t k j env e a d = record {
   early = λ u w.
       let q = root_point of above whole in
       let r = root_point of above t in
-      let n : j ≤ u.point = leb-true j u.point w.here in
+      let n : j ≤ u.point = leb-true j u.point w.emit_context in
       let m : u.point ≤ j + r.below = leb-true u.point (j + r.below) w.below in
       let l : k ≤ j = a.later in
       let z : j + nodes t ≤ k + nodes whole = a.under in
@@ -65,7 +65,7 @@ arm_ready labels p of above whole t k j env e a d = record {
         there = w.there;
         early = w.early;
         defined = ap (is_in u.value) (root_above of above whole) ∙ (sym (ap (is_in u.value) (root_above of above t)) ∙ w.defined);
-        here = le-leb k u.point (omega arith);
+        emit_context = le-leb k u.point (omega arith);
         below = le-leb u.point (k + q.below) (omega arith);
       });
 }

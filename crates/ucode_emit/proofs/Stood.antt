@@ -4,8 +4,8 @@ use Rattle.std.proofs.lemmas.Option.{slice_get-get_or}
 use Rattle.uc_isa.specs.declared.instruction.Instr.{Instr}
 use Rattle.uc_isa.specs.Registers.{failing}
 use Rattle.ssu_ir.specs.Tree.{Tree, Do, If, End, Label, Node, Does, Forks, Ends, step_values}
-use Rattle.ssu_ir.specs.Points.{Names, own, names_after, Place, Entry, At, nodes}
-use Rattle.slot_placement.specs.Plan.{Plan}
+use Rattle.ssu_ir.specs.Points.{Names, own, names_after, PointKind, Entry, At, nodes}
+use Rattle.placement.specs.Plan.{Plan}
 use Rattle.ucode_emit.specs.inner.Pieces.{entry_point, Sequences, step_items, fork_items, tree_items, label_moves, parallel_moves}
 use Rattle.ucode_emit.specs.inner.Layers.{PointsAt}
 use Rattle.ucode_emit.specs.inner.Marks.{Mark, mark, tree_marks, marks_from, marks}
@@ -41,7 +41,7 @@ pub record StoodEntry (labels : List Label) (p : Plan) (k l : ℕ) (params : Lis
   pub moves : Part k (label_moves p k it) (parallel_moves p labels)
   pub body : PointsAt labels (suc k) own it.params it.body
 
-abbrev pub StoodPlace : List Label → Plan → ℕ → Place → ℕ → Type 0
+abbrev pub StoodPlace : List Label → Plan → ℕ → PointKind → ℕ → Type 0
 StoodPlace labels p k (Entry l params) n = StoodEntry labels p k l params
 StoodPlace labels p k (At it) n = StoodNode labels k it n
 
@@ -72,12 +72,12 @@ labels_stood labels p k l [] e f = tt
 labels_stood labels p k l (x ∷ ls) e f =
     let z : l ≡ l + 0 = omega arith in
     let w : k + 0 ≡ k = omega arith in
-    let here : entry_point labels l ≡ k = ap (entry_point labels) z ∙ (e 0 ∙ w) in
+    let emit_context : entry_point labels l ≡ k = ap (entry_point labels) z ∙ (e 0 ∙ w) in
     let there : slice_get labels l ≡ Some x = ap (slice_get labels) z ∙ f 0 x refl in
-    let a : LabelAt labels p [] (code_of labels p []) (starts labels p []) k x = subst (λ j. LabelAt labels p [] (code_of labels p []) (starts labels p []) j x) here (label_at labels p [] l x there) in
+    let a : LabelAt labels p [] (code_of labels p []) (starts labels p []) k x = subst (λ j. LabelAt labels p [] (code_of labels p []) (starts labels p []) j x) emit_context (label_at labels p [] l x there) in
     let m = marks_many x.body in
     let long : suc k + nodes x.body ≡ suc k + length (tree_marks x.body) = omega (arith, m) in (
-      record { it = x; there = there; params_ = refl; begins_ = here; moves = a.moves; body = a.body.points_ },
+      record { it = x; there = there; params_ = refl; begins_ = emit_context; moves = a.moves; body = a.body.points_ },
       each_append (Stood labels p) (suc k) (suc k + nodes x.body) (tree_marks x.body) (marks_from (suc l) ls) long
           (tree_stood labels p [] (code_of labels p []) (starts labels p []) (suc k) _ own x.params x.body a.body)
           (labels_stood labels p (suc k + nodes x.body) (suc l) ls

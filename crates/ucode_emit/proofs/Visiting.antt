@@ -15,11 +15,11 @@ use Rattle.uc_isa.specs.Step.{Next, EndsRun, step}
 use Rattle.uc_isa.specs.Engine.{run, continue_run, halted, after}
 use Rattle.uc_isa.specs.Pieces.{Moment, Leads}
 use Rattle.uc_isa.proofs.Leading.{leads-reached}
-use Rattle.uc_runs.specs.Visits.{here, continue_count, stood}
-use Rattle.uc_runs.proofs.Counting.{here-not}
+use Rattle.uc_executions.specs.Visits.{here, continue_count, stood}
+use Rattle.uc_executions.proofs.Counting.{here-not}
 use Rattle.ucode_emit.specs.inner.Machine.{Over}
 
--- ---- one run of steps behind another
+-- ---- one run of steps after another
 
 after_both : (code : List Instr) (n m : ℕ) (e : Engine) (p : Memories) → after code (n + m) e p ≡ after code m (after code n e p).engine (after code n e p).packet
 after_both code zero m e p = let z : 0 + m ≡ m = omega arith in ap (λ k. after code k e p) z
@@ -167,7 +167,7 @@ over_ends code base b f o h =
     let same : (run code 1 b.engine b.packet b.writes).outcome ≡ f.outcome = ap (λ (g : FullOutcome). g.outcome) ran ∙ ap (λ (g : FullOutcome). g.outcome) o.alike in
     ends_by code (step code b.engine b.packet).stepped (step code b.engine b.packet).engine (step code b.engine b.packet).packet b.writes (subst IsOver (sym same) h)
 
--- and where the run ends behind them
+-- and where the run ends after them
 pub stood_over : (places : List ℕ) (code : List Instr) (base n m k : ℕ) (a b : Moment) (f : FullOutcome) → Leads code base n a b → StaysOff places code n a → Over code base 1 b f → IsOver f.outcome → k < length places
     → stood code (slice_index places k) m a.engine a.packet ≡ here (slice_index places k) a.engine.place
 stood_over places code base n m k a b f l off o over lt =

@@ -9,35 +9,35 @@ use Rattle.std.proofs.lemmas.Option.{slice_get-get_or, slice_get_within}
 use Rattle.uc_isa.specs.declared.instruction.Instr.{Instr}
 use Rattle.ssu_ir.specs.declared.ssu.Ssu.{Ssu}
 use Rattle.ssu_ir.specs.Tree.{Jump, Halt, Tree, Do, If, End, Label, Node, Does, Forks, Ends}
-use Rattle.ssu_ir.specs.Points.{Names, Place, Entry, At, nodes}
+use Rattle.ssu_ir.specs.Points.{Names, PointKind, Entry, At, nodes}
 use Rattle.ssu_ir.specs.Single.{takes_as_many}
 use Rattle.ssu_ir.specs.View.{labels_view}
-use Rattle.slot_placement.specs.declared.place.First.{First}
-use Rattle.slot_placement.specs.declared.place.Serve.{Serve}
-use Rattle.slot_placement.specs.declared.place.Pass.{Pass}
-use Rattle.slot_placement.specs.Plan.{Plan, serve, first_in, pass_in}
+use Rattle.placement.specs.declared.place.First.{First}
+use Rattle.placement.specs.declared.place.Serve.{Serve}
+use Rattle.placement.specs.declared.place.Pass.{Pass}
+use Rattle.placement.specs.Plan.{Plan, serve, first_in, pass_in}
 use Rattle.par_move.specs.Moves.{Move}
-use Rattle.ucode_emit.specs.declared.spots.Spot.{Spot}
-use Rattle.ucode_emit.specs.declared.spots.Spot.TheVariants.{Entry as EntrySpot, Node as NodeSpot}
+use Rattle.ucode_emit.specs.declared.point_ids.EmittedPoint.{EmittedPoint}
+use Rattle.ucode_emit.specs.declared.point_ids.EmittedPoint.TheVariants.{Entry as EntrySpot, Node as NodeSpot}
 use Rattle.ucode_emit.specs.inner.Pieces.{single_moves, all_copies, entry_point, Sequences, sequence_at, parallel_moves}
 use Rattle.ucode_emit.specs.inner.Ready.{IsSequence, AreSequences}
 use Rattle.ucode_emit.specs.inner.Layers.{Placed, PointsAt}
 use Rattle.ucode_emit.specs.inner.DraftItems.{draft}
 use Rattle.ucode_emit.specs.declared.walk.Points.{Points}
 use Rattle.ucode_emit.specs.inner.Cursors.{place_operands, IsCut, AreServed}
-use Rattle.ucode_emit.specs.inner.Here.{IsHere, CanAll, CanNode, end_items}
+use Rattle.ucode_emit.specs.inner.EmitContext.{IsEmitContext, CanAll, CanNode, end_items}
 use Rattle.ucode_emit.specs.inner.Marks.{Mark, mark, tree_marks, marks_from, marks, entries_from, node_moves, place_moves, point_piece, pieces, joined, begins}
-use Rattle.ucode_emit.specs.inner.Spots.{spot_mark, spot_entries}
+use Rattle.ucode_emit.specs.inner.EmittedPoints.{point_mark, entries_of_points}
 use Rattle.ucode_emit.specs.inner.Walk.{AreKnown, mark_at, moves_of, place_branch, place_items, CanPlace, pieces_below, IsDrafted}
 use Rattle.ucode_emit.proofs.CanPieces.{can_step, can_fork, can_last, can_front}
 use Rattle.ucode_emit.proofs.LawfulPieces.{node_here, takes_some, sequence_here}
 use Rattle.ucode_emit.proofs.Marked.{pieces_both, joined_both, begins_both, entry_there}
-use Rattle.ucode_emit.proofs.Sequenced.{moves_at, as_many_moves, got_map, Come, spot_at, below_marks, mark_here, spot_within, spot_comes}
+use Rattle.ucode_emit.proofs.Sequenced.{moves_at, as_many_moves, got_map, Come, point_id_at, below_marks, mark_here, spot_within, spot_comes}
 use Rattle.ucode_emit.proofs.Stood.{root_node, StoodPlace, stood_at}
 
 -- ---- where labels begin
 
-abbrev place_entries : ℕ → Place → List ℕ
+abbrev place_entries : ℕ → PointKind → List ℕ
 place_entries k (Entry l params) = k ∷ []
 place_entries k (At n) = []
 
@@ -45,10 +45,10 @@ abbrev mark_entries : ℕ → List Mark → List ℕ
 mark_entries k [] = []
 mark_entries k (q ∷ qs) = place_entries k q.place ++ mark_entries (suc k) qs
 
-by_marks : (s : Ssu) (k : ℕ) (spots : List Spot) → spot_entries k spots ≡ mark_entries k (map (spot_mark s) spots)
+by_marks : (s : Ssu) (k : ℕ) (point_ids : List EmittedPoint) → entries_of_points k point_ids ≡ mark_entries k (map (point_mark s) point_ids)
 by_marks s k [] = refl
-by_marks s k (EntrySpot l ∷ spots) = ap (λ m. k ∷ m) (by_marks s (suc k) spots)
-by_marks s k (NodeSpot id n ∷ spots) = by_marks s (suc k) spots
+by_marks s k (EntrySpot l ∷ point_ids) = ap (λ m. k ∷ m) (by_marks s (suc k) point_ids)
+by_marks s k (NodeSpot id n ∷ point_ids) = by_marks s (suc k) point_ids
 
 none_in : (k : ℕ) (t : Tree) (rest : List Mark) → mark_entries k (tree_marks t ++ rest) ≡ mark_entries (k + nodes t) rest
 none_in k (Do s t) rest = let z : suc k + nodes t ≡ k + (1 + nodes t) = omega arith in none_in (suc k) t rest ∙ ap (λ j. mark_entries j rest) z
@@ -62,8 +62,8 @@ entries_in : (k l : ℕ) (ls : List Label) → mark_entries k (marks_from l ls) 
 entries_in k l [] = refl
 entries_in k l (x ∷ ls) = ap (λ m. k ∷ m) (none_in (suc k) x.body (marks_from (suc l) ls) ∙ entries_in (suc k + nodes x.body) (suc l) ls)
 
-pub entries_known : (s : Ssu) (spots spots' : List Spot) (entries : List ℕ) → map (spot_mark s) spots ≡ marks (labels_view s) → spots' ≡ spots → entries ≡ spot_entries 0 spots' → entries ≡ entries_from 0 (labels_view s)
-entries_known s spots spots' entries e f g = g ∙ ap (spot_entries 0) f ∙ by_marks s 0 spots ∙ ap (mark_entries 0) e ∙ entries_in 0 0 (labels_view s)
+pub entries_known : (s : Ssu) (point_ids point_ids' : List EmittedPoint) (entries : List ℕ) → map (point_mark s) point_ids ≡ marks (labels_view s) → point_ids' ≡ point_ids → entries ≡ entries_of_points 0 point_ids' → entries ≡ entries_from 0 (labels_view s)
+entries_known s point_ids point_ids' entries e f g = g ∙ ap (entries_of_points 0) f ∙ by_marks s 0 point_ids ∙ ap (mark_entries 0) e ∙ entries_in 0 0 (labels_view s)
 
 -- ---- what is asked of a point's piece
 
@@ -72,7 +72,7 @@ can_tree labels p k of above (Do s t) ms h a q = can_step labels p k of above s 
 can_tree labels p k of above (If c x y t u) ms h a q = can_fork labels p k of above c x y t u ms h a
 can_tree labels p k of above (End l) ms h a q = can_last labels p k of above l ms h a q
 
-pub can_place : (labels : List Label) (p : Plan) (mss : Sequences) (k n : ℕ) (q : Place) → Placed labels p → AreSequences (parallel_moves p labels) mss → StoodPlace labels p k q n → IsSequence (place_moves p k q) (sequence_at mss k)
+pub can_place : (labels : List Label) (p : Plan) (mss : Sequences) (k n : ℕ) (q : PointKind) → Placed labels p → AreSequences (parallel_moves p labels) mss → StoodPlace labels p k q n → IsSequence (place_moves p k q) (sequence_at mss k)
     → CanPlace p k (sequence_at mss k) q
 can_place labels p mss k n (Entry l params) h r s i =
     subst (λ xs. CanAll (single_moves None (sequence_at mss k) ++ all_copies p k xs)) s.params_ (can_front labels p mss l k s.it h r s.there s.begins_ s.moves s.body)
@@ -103,7 +103,7 @@ node_same labels p k n (Ends (Jump l xs)) entries ms h s e =
     ap (λ to. end_items p k to ms (Jump l xs)) (ap (λ m. slice_index_or m l 0) e ∙ entry_there 0 l labels l' ∙ z)
 node_same labels p k n (Ends (Halt c xs)) entries ms h s e = refl
 
-pub place_same : (labels : List Label) (p : Plan) (k n : ℕ) (q : Place) (entries : List ℕ) (ms : List Move) → Placed labels p → StoodPlace labels p k q n → entries ≡ entries_from 0 labels
+pub place_same : (labels : List Label) (p : Plan) (k n : ℕ) (q : PointKind) (entries : List ℕ) (ms : List Move) → Placed labels p → StoodPlace labels p k q n → entries ≡ entries_from 0 labels
     → place_items p k (place_branch k n entries q) ms q ≡ point_piece labels p k (mark q n) ms
 place_same labels p k n (Entry l params) entries ms h s e = refl
 place_same labels p k n (At it) entries ms h s e = node_same labels p k n it entries ms h s e
@@ -137,35 +137,35 @@ drafted_more labels p mss k code code' places places' at l h e a f =
     let split : pieces_below labels p mss (k + 1) ≡ was ++ x ∷ [] =
     ap (pieces labels p mss 0) (take_more (marks labels) k (mark (Entry 0 []) 0) l) ∙ pieces_both labels p mss 0 k (take k (marks labels)) (q ∷ []) z in
     let items : joined (pieces_below labels p mss (k + 1)) ≡ joined was ++ x = ap joined split ∙ joined_both was (x ∷ []) ∙ ap (λ m. joined was ++ m) (append-nil x) in
-    let here : 0 + length (joined was) ≡ at = let m = length-map (joined was) draft in let n = ap length h.code_ in omega (arith, m, n, a) in
+    let emit_context : 0 + length (joined was) ≡ at = let m = length-map (joined was) draft in let n = ap length h.code_ in omega (arith, m, n, a) in
     record {
       code_ = e ∙ ap (λ m. m ++ map draft x) h.code_ ∙ sym (map-append draft (joined was) x) ∙ ap (map draft) (sym items);
-      places_ = f ∙ ap (λ m. m ++ at ∷ []) h.places_ ∙ ap (λ n. begins 0 was ++ n ∷ []) (sym here) ∙ sym (begins_both 0 was (x ∷ [])) ∙ ap (begins 0) (sym split);
+      places_ = f ∙ ap (λ m. m ++ at ∷ []) h.places_ ∙ ap (λ n. begins 0 was ++ n ∷ []) (sym emit_context) ∙ sym (begins_both 0 was (x ∷ [])) ∙ ap (begins 0) (sym split);
     }
 
 -- ---- a point as the code comes to it
 
-pub spot_same : (spots : List Spot) (k : ℕ) (spot : Spot) → k < length spots → spot ≡ get_or spots k spot → spot ≡ spot_at spots k
-spot_same spots k spot l e = e ∙ get_or_default spots k spot (EntrySpot 0) l
+pub spot_same : (point_ids : List EmittedPoint) (k : ℕ) (point_id : EmittedPoint) → k < length point_ids → point_id ≡ get_or point_ids k point_id → point_id ≡ point_id_at point_ids k
+spot_same point_ids k point_id l e = e ∙ get_or_default point_ids k point_id (EntrySpot 0) l
 
-pub mark_now : (s : Ssu) (p : Plan) (points : Points) (k : ℕ) (spot : Spot) → AreKnown s p points → k < length points.spots.items → spot ≡ get_or points.spots.items k spot → spot_mark s spot ≡ mark_at (labels_view s) k
-mark_now s p points k spot h l e = ap (spot_mark s) (spot_same points.spots.items k spot l e) ∙ mark_here s points.spots.items k h.spots l
+pub mark_now : (s : Ssu) (p : Plan) (points : Points) (k : ℕ) (point_id : EmittedPoint) → AreKnown s p points → k < length points.point_ids.items → point_id ≡ get_or points.point_ids.items k point_id → point_mark s point_id ≡ mark_at (labels_view s) k
+mark_now s p points k point_id h l e = ap (point_mark s) (spot_same points.point_ids.items k point_id l e) ∙ mark_here s points.point_ids.items k h.point_ids l
 
-pub now_within : (s : Ssu) (p : Plan) (points : Points) (k at m : ℕ) (spot : Spot) (all : List Serve) → AreKnown s p points → k < length points.spots.items → spot ≡ get_or points.spots.items k spot
-    → AreServed p.serves at k (drop k (marks (labels_view s))) → m ≡ place_operands (spot_mark s spot).place → all ≡ p.serves → at + m ≤ length all
-now_within s p points k at m spot all h l e c f g =
-    spot_within s p points.spots.items k at m all h.spots l c (f ∙ ap (λ r. place_operands (spot_mark s r).place) (spot_same points.spots.items k spot l e)) g
+pub now_within : (s : Ssu) (p : Plan) (points : Points) (k at m : ℕ) (point_id : EmittedPoint) (all : List Serve) → AreKnown s p points → k < length points.point_ids.items → point_id ≡ get_or points.point_ids.items k point_id
+    → AreServed p.serves at k (drop k (marks (labels_view s))) → m ≡ place_operands (point_mark s point_id).place → all ≡ p.serves → at + m ≤ length all
+now_within s p points k at m point_id all h l e c f g =
+    spot_within s p points.point_ids.items k at m all h.point_ids l c (f ∙ ap (λ r. place_operands (point_mark s r).place) (spot_same points.point_ids.items k point_id l e)) g
 
-pub now_comes : (s : Ssu) (p : Plan) (points : Points) (k at n m : ℕ) (spot : Spot) (ss all : List Serve) → Placed (labels_view s) p → AreKnown s p points → k < length points.spots.items → spot ≡ get_or points.spots.items k spot
-    → AreServed p.serves at k (drop k (marks (labels_view s))) → m ≡ place_operands (spot_mark s spot).place → n ≡ at + m → all ≡ p.serves → ss ≡ take m (drop at all) → Come (labels_view s) p k at n ss (spot_mark s spot)
-now_comes s p points k at n m spot ss all h a l e c f g b d =
-    let same = spot_same points.spots.items k spot l e in
-    subst (λ r. Come (labels_view s) p k at n ss (spot_mark s r)) (sym same)
-    (spot_comes s p points.spots.items k at n m ss all h a.spots l c (f ∙ ap (λ r. place_operands (spot_mark s r).place) same) g b d)
+pub now_comes : (s : Ssu) (p : Plan) (points : Points) (k at n m : ℕ) (point_id : EmittedPoint) (ss all : List Serve) → Placed (labels_view s) p → AreKnown s p points → k < length points.point_ids.items → point_id ≡ get_or points.point_ids.items k point_id
+    → AreServed p.serves at k (drop k (marks (labels_view s))) → m ≡ place_operands (point_mark s point_id).place → n ≡ at + m → all ≡ p.serves → ss ≡ take m (drop at all) → Come (labels_view s) p k at n ss (point_mark s point_id)
+now_comes s p points k at n m point_id ss all h a l e c f g b d =
+    let same = spot_same points.point_ids.items k point_id l e in
+    subst (λ r. Come (labels_view s) p k at n ss (point_mark s r)) (sym same)
+    (spot_comes s p points.point_ids.items k at n m ss all h a.point_ids l c (f ∙ ap (λ r. place_operands (point_mark s r).place) same) g b d)
 
 pub now_here : (p : Plan) (labels : List Label) (k at n m point first to : ℕ) (ss : Bor (List Serve)) (q : Mark) (singles : Bor (List Move)) (firsts : List First) (passes : List Pass) (it : Pass)
     → Come labels p k at n ss.now q → point ≡ k → first ≡ first_in firsts point → firsts ≡ p.firsts → it ≡ pass_in passes point → passes ≡ p.passes
-    → IsHere p (place_operands q.place) (record { point = point; serves = ss; first = first; pass = it; singles = singles; to = to })
+    → IsEmitContext p (place_operands q.place) (record { point = point; serves = ss; first = first; pass = it; singles = singles; to = to })
 now_here p labels k at n m point first to ss q singles firsts passes it c e f a g b = record {
   as_many = c.long;
   serves = λ i s h. ap (λ j. serve p j i) e ∙ c.each i s h;
@@ -173,22 +173,22 @@ now_here p labels k at n m point first to ss q singles firsts passes it c e f a 
   pass = g ∙ ap (λ l. pass_in l point) b;
 }
 
-pub now_can : (s : Ssu) (p : Plan) (points : Points) (k point : ℕ) (q : Mark) (ms : List Move) → Placed (labels_view s) p → AreKnown s p points → k < length points.spots.items → q ≡ mark_at (labels_view s) k → point ≡ k
+pub now_can : (s : Ssu) (p : Plan) (points : Points) (k point : ℕ) (q : Mark) (ms : List Move) → Placed (labels_view s) p → AreKnown s p points → k < length points.point_ids.items → q ≡ mark_at (labels_view s) k → point ≡ k
     → ms ≡ sequence_at (moves_of points.sequences.items) k → CanPlace p point ms q.place
 now_can s p points k point q ms h a l e f g =
     let labels = labels_view s in
-    let within = below_marks s points.spots.items k a.spots l in
+    let within = below_marks s points.point_ids.items k a.point_ids l in
     let it = mark_at labels k in
     let mss = moves_of points.sequences.items in
     let can = can_place labels p mss k it.first_arm it.place h a.sequences (stood_at labels p k within) (sequence_there labels p mss k a.sequences within) in
     subst (λ r. CanPlace p point ms r.place) (sym e) (subst (λ j. CanPlace p j ms it.place) (sym f) (subst (λ m. CanPlace p k m it.place) (sym g) can))
 
-pub now_same : (s : Ssu) (p : Plan) (points : Points) (k point to : ℕ) (q : Mark) (entries : List ℕ) (ms : List Move) → Placed (labels_view s) p → AreKnown s p points → k < length points.spots.items → q ≡ mark_at (labels_view s) k → point ≡ k
+pub now_same : (s : Ssu) (p : Plan) (points : Points) (k point to : ℕ) (q : Mark) (entries : List ℕ) (ms : List Move) → Placed (labels_view s) p → AreKnown s p points → k < length points.point_ids.items → q ≡ mark_at (labels_view s) k → point ≡ k
     → ms ≡ sequence_at (moves_of points.sequences.items) k → entries ≡ points.entries.items → to ≡ place_branch point q.first_arm entries q.place
     → place_items p point to ms q.place ≡ point_piece (labels_view s) p k (mark_at (labels_view s) k) (sequence_at (moves_of points.sequences.items) k)
 now_same s p points k point to q entries ms h a l e f g b d =
     let labels = labels_view s in
-    let within = below_marks s points.spots.items k a.spots l in
+    let within = below_marks s points.point_ids.items k a.point_ids l in
     let it = mark_at labels k in
     ap (λ t. place_items p point t ms q.place) d
     ∙ ap (λ r. place_items p point (place_branch point r.first_arm entries r.place) ms r.place) e

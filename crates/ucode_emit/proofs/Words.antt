@@ -13,19 +13,19 @@ use Rattle.nv_base.proofs.Sets.{same-number, within-left}
 use Rattle.ssu_ir.specs.Tree.{Write, Tree, Do, Label}
 use Rattle.ssu_ir.specs.Points.{Names, Point, points}
 use Rattle.ssu_ir.proofs.Lists.{in-itself}
-use Rattle.slot_placement.specs.declared.place.Place.{Place}
-use Rattle.slot_placement.specs.declared.place.Place.TheVariants.{A, B, L, LD, S, SD, Slot}
-use Rattle.slot_placement.specs.Places.{same_place}
-use Rattle.slot_placement.specs.Plan.{Plan, first, serve, pass}
-use Rattle.slot_placement.specs.Uses.{Access, Role, Address, Written, roles, place_roles, Use, uses_at}
-use Rattle.slot_placement.specs.Fits.{write_place, is_slot, is_write_register, role_register, word_register, run_of, has_place, is_home, point_values}
-use Rattle.slot_placement.proofs.Places.{same_place-true, same_place-from}
-use Rattle.place_checks.proofs.Walked.{some-there}
+use Rattle.placement.specs.declared.place.Place.{Place}
+use Rattle.placement.specs.declared.place.Place.TheVariants.{A, B, L, LD, S, SD, Slot}
+use Rattle.placement.specs.Places.{same_place}
+use Rattle.placement.specs.Plan.{Plan, first, serve, pass}
+use Rattle.placement.specs.Uses.{Access, Role, Address, Written, roles, place_roles, Use, uses_at}
+use Rattle.placement.specs.Fits.{write_place, is_slot, is_write_register, role_register, word_register, run_of, has_place, is_home, point_values}
+use Rattle.placement.proofs.Places.{same_place-true, same_place-from}
+use Rattle.placement_checks.proofs.Walked.{some-there}
 use Rattle.par_move.specs.Moves.{Move, Words, one_by_one}
 use Rattle.ucode_emit.specs.inner.Pieces.{named, bring, brought, operands, operand_at, words}
 use Rattle.ucode_emit.specs.inner.Ready.{Ready, WaitsAt, lasting}
 use Rattle.ucode_emit.specs.inner.Machine.{IsWritable}
-use Rattle.ucode_emit.specs.inner.Layers.{Placed, PointsAt, root_point, IsAddress, OperandsReady, Behind}
+use Rattle.ucode_emit.specs.inner.Layers.{Placed, PointsAt, root_point, IsAddress, OperandsReady, HoldsAfterMoves}
 use Rattle.ucode_emit.proofs.PointsEach.{all_both}
 use Rattle.ucode_emit.proofs.PointsUses.{at_in, use_at}
 use Rattle.ucode_emit.proofs.Copies.{one_append}
@@ -33,7 +33,7 @@ use Rattle.ucode_emit.proofs.DefinitionsHomes.{general_not_written, read_not_wri
 use Rattle.ucode_emit.proofs.DefinitionsReady.{waits_from}
 use Rattle.ucode_emit.proofs.DefinitionsDirect.{OneInstr, eighth_named, access_at, first_bound}
 use Rattle.ucode_emit.proofs.EntriesMoves.{role_at, map_get}
-use Rattle.ucode_emit.proofs.OperandsHomes.{Here, here_at, settled_held, Source, source_of, IsHere, uses_here}
+use Rattle.ucode_emit.proofs.OperandsHomes.{EmitContext, here_at, settled_held, Source, source_of, IsEmitContext, uses_here}
 use Rattle.ucode_emit.proofs.OperandsFetch.{named_some, held_apart, fetch_address, one_fetched}
 use Rattle.ucode_emit.proofs.Bring.{bring_brings, bring_spares, bring_direct, source_is}
 
@@ -75,7 +75,7 @@ record Word (labels : List Label) (p : Plan) (k : ℕ) (q : Point) (m : Mem) (v 
   passes : is_slot (serve p k (suc i)).from ≡ true → is_some (pass p k).l ≡ true
   waits : (serve p k (suc i)).from ≡ (serve p k (suc i)).at → WaitsAt labels p k q (record { point = k; operand = suc i; value = v; role = Written m i })
 
-word_of : (labels : List Label) (p : Plan) (k : ℕ) (q : Point) (m : Mem) (v i : ℕ) → Placed labels p → Here labels k q → IsHere labels p k (record { point = k; operand = suc i; value = v; role = Written m i }) → is_in v q.uses ≡ true → Word labels p k q m v i
+word_of : (labels : List Label) (p : Plan) (k : ℕ) (q : Point) (m : Mem) (v i : ℕ) → Placed labels p → EmitContext labels k q → IsEmitContext labels p k (record { point = k; operand = suc i; value = v; role = Written m i }) → is_in v q.uses ≡ true → Word labels p k q m v i
 word_of labels p k q m v i h s u c =
     let it : Use = record { point = k; operand = suc i; value = v; role = Written m i } in
     let from = (serve p k (suc i)).from in
@@ -87,7 +87,7 @@ word_of labels p k q m v i h s u c =
         there = u.0.1;
         early = ap is_write_register (g ∙ u.0.0.0) ∙ write_place_is m (first p k + i);
         defined = s.known v (s.uses v c);
-        here = le-leb k k (omega arith);
+        emit_context = le-leb k k (omega arith);
         below = le-leb k (k + q.below) (omega arith);
       };
     }
@@ -101,7 +101,7 @@ lasts_unwritten labels p x t (in_place g m) w = general_not_written t g w
 lasts_unwritten labels p x t (in_read g m) w = read_not_written t g w
 
 -- where a held value lasts, no written word goes
-lasting_unwritten : (labels : List Label) (p : Plan) (k : ℕ) (q : Point) (x : ℕ) (t r : Place) → Placed labels p → Here labels k q → is_in x q.before ≡ true → has_place t (lasting labels p x) ≡ true → is_write_register r ≡ true → t ≡ r → ⊥
+lasting_unwritten : (labels : List Label) (p : Plan) (k : ℕ) (q : Point) (x : ℕ) (t r : Place) → Placed labels p → EmitContext labels k q → is_in x q.before ≡ true → has_place t (lasting labels p x) ≡ true → is_write_register r ≡ true → t ≡ r → ⊥
 lasting_unwritten labels p k q x t r h s i m w e =
     let d = settled_held labels p k q x h s i in
     let l = lasts_from labels p x t (λ u. d) m in
@@ -117,7 +117,7 @@ below_suc zero (suc j) h = inl (omega arith)
 below_suc (suc i) zero h = absurd (omega arith)
 below_suc (suc i) (suc j) h = let less : i < suc j = omega arith in ⊎_elim (λ (a : i < j). let b : suc i < suc j = omega arith in inl b) (λ (a : i ≡ j). inr (ap suc a)) (below_suc i j less)
 
--- ---- so many words are in their registers
+-- ---- N words are in their registers
 
 abbrev fetched : Plan → ℕ → ℕ → List Move
 fetched p k j = brought (pass p k).l (serve p k j).from (serve p k j).at
@@ -159,7 +159,7 @@ part_there labels p k q of m xs env j x e w g d i y f c =
     (⊎_elim (λ (a : i < suc j). ⊎_elim (λ (o : i < j). inl o) (λ (o : i ≡ j). absurd (other o)) (below_suc i j a)) (λ (a : (serve p k (suc i)).from ≡ (serve p k (suc i)).at). inr a) c))
     (cases_Bool (nat_eq i j))
 
-part_next : (labels : List Label) (p : Plan) (k : ℕ) (q : Point) (of : Names) (m : Mem) (xs : List ℕ) (env : Env) (j x : ℕ) (e : Words) → Placed labels p → Here labels k q → Word labels p k q m (of x) j → slice_get xs j ≡ Some x → Part labels p k q of m xs env j e
+part_next : (labels : List Label) (p : Plan) (k : ℕ) (q : Point) (of : Names) (m : Mem) (xs : List ℕ) (env : Env) (j x : ℕ) (e : Words) → Placed labels p → EmitContext labels k q → Word labels p k q m (of x) j → slice_get xs j ≡ Some x → Part labels p k q of m xs env j e
     → Part labels p k q of m xs env (suc j) (one_by_one (fetched p k (suc j)) e)
 part_next labels p k q of m xs env j x e h s w g d =
     let l = (pass p k).l in
@@ -172,7 +172,7 @@ part_next labels p k q of m xs env j x e h s w g d =
       there = part_there labels p k q of m xs env j x e w g d;
     }
 
-part_all : (labels : List Label) (p : Plan) (k : ℕ) (q : Point) (of : Names) (m : Mem) (xs : List ℕ) (env : Env) (j n : ℕ) (e : Words) → Placed labels p → Here labels k q → AllWords labels p k q of m xs → j + n ≡ length xs → Part labels p k q of m xs env j e
+part_all : (labels : List Label) (p : Plan) (k : ℕ) (q : Point) (of : Names) (m : Mem) (xs : List ℕ) (env : Env) (j n : ℕ) (e : Words) → Placed labels p → EmitContext labels k q → AllWords labels p k q of m xs → j + n ≡ length xs → Part labels p k q of m xs env j e
     → Part labels p k q of m xs env (length xs) (one_by_one (words p k (suc j) n) e)
 part_all labels p k q of m xs env j zero e h s w z d = let y : j ≡ length xs = omega arith in subst (λ i. Part labels p k q of m xs env i e) y d
 part_all labels p k q of m xs env j (suc n) e h s w z d =
@@ -192,7 +192,7 @@ words_spare p k j (suc n) t e h g =
 
 -- ---- instructions
 
-word_direct : (labels : List Label) (p : Plan) (k : ℕ) (q : Point) (m : Mem) (v i : ℕ) → Placed labels p → Here labels k q → first p k + i < 8 → Word labels p k q m v i → AllByRecursion (OneInstr p.slots) (fetched p k (suc i))
+word_direct : (labels : List Label) (p : Plan) (k : ℕ) (q : Point) (m : Mem) (v i : ℕ) → Placed labels p → EmitContext labels k q → first p k + i < 8 → Word labels p k q m v i → AllByRecursion (OneInstr p.slots) (fetched p k (suc i))
 word_direct labels p k q m v i h s b w =
     let l = (pass p k).l in
     let from = (serve p k (suc i)).from in
@@ -203,7 +203,7 @@ word_direct labels p k q m v i h s b w =
     (λ (c : from ≡ at). subst (λ (y : Bool). AllByRecursion (OneInstr p.slots) (if y then [] else bring l from at)) (sym (same_place-from from at c)) tt)
     w.comes
 
-words_direct : (labels : List Label) (p : Plan) (k : ℕ) (q : Point) (of : Names) (m : Mem) (xs : List ℕ) (j n : ℕ) → Placed labels p → Here labels k q → AllWords labels p k q of m xs → first p k + length xs ≤ 8 → j + n ≡ length xs → AllByRecursion (OneInstr p.slots) (words p k (suc j) n)
+words_direct : (labels : List Label) (p : Plan) (k : ℕ) (q : Point) (of : Names) (m : Mem) (xs : List ℕ) (j n : ℕ) → Placed labels p → EmitContext labels k q → AllWords labels p k q of m xs → first p k + length xs ≤ 8 → j + n ≡ length xs → AllByRecursion (OneInstr p.slots) (words p k (suc j) n)
 words_direct labels p k q of m xs j zero h s w b z = tt
 words_direct labels p k q of m xs j (suc n) h s w b z =
     let less : j < length xs = omega arith in
@@ -270,7 +270,7 @@ from_there (suc k) zero h = absurd (omega arith)
 from_there (suc k) (suc n) h = let less : k ≤ n = omega arith in ⊎_elim (λ (a : k < n). let b : suc k < suc n = omega arith in inl b) (λ (a : n ≡ k). inr (ap suc a)) (from_there k n less)
 
 -- a word that is written below waits on
-early_below : (labels : List Label) (p : Plan) (k : ℕ) (of : Names) (above : List ℕ) (m : Mem) (xs : List ℕ) (y : ℕ) (t : Tree) (env : Env) (e : Words) (u : Use) → Placed labels p → Here labels k (WritePoint of above m xs y t)
+early_below : (labels : List Label) (p : Plan) (k : ℕ) (of : Names) (above : List ℕ) (m : Mem) (xs : List ℕ) (y : ℕ) (t : Tree) (env : Env) (e : Words) (u : Use) → Placed labels p → EmitContext labels k (WritePoint of above m xs y t)
     → AllWords labels p k (WritePoint of above m xs y t) of m xs → WaitsAt labels p k (WritePoint of above m xs y t) u → k < u.point → e (word_register p u) ≡ env u.value → one_by_one (words p k 1 (length xs)) e (word_register p u) ≡ env u.value
 early_below labels p k of above m xs y t env e u h s w v b g =
     let q = WritePoint of above m xs y t in
@@ -282,7 +282,7 @@ early_below labels p k of above m xs y t env e u h s w v b g =
     words_spare p k 1 (length xs) r e (unlisted labels p k q of m xs r w free) (written_no_l r (named (pass p k).l) (early_register labels p v.there.0 u h v.there.1 v.early)) ∙ g
 
 -- one that is written here is in its register
-early_here : (labels : List Label) (p : Plan) (k : ℕ) (of : Names) (above : List ℕ) (m : Mem) (xs : List ℕ) (y : ℕ) (t : Tree) (env : Env) (e : Words) (u : Use) → Placed labels p → Here labels k (WritePoint of above m xs y t)
+early_here : (labels : List Label) (p : Plan) (k : ℕ) (of : Names) (above : List ℕ) (m : Mem) (xs : List ℕ) (y : ℕ) (t : Tree) (env : Env) (e : Words) (u : Use) → Placed labels p → EmitContext labels k (WritePoint of above m xs y t)
     → WaitsAt labels p k (WritePoint of above m xs y t) u → u.point ≡ k → ((i x : ℕ) → slice_get xs i ≡ Some x → e (write_place m (first p k + i)) ≡ env (of x)) → e (word_register p u) ≡ env u.value
 early_here labels p k of above m xs y t env e u h s v b g =
     let q = WritePoint of above m xs y t in
@@ -294,7 +294,7 @@ early_here labels p k of above m xs y t env e u h s v b g =
     let d = word_use p k of m y xs u.operand u.value u.role operand role_ register in
     ap (λ n. e (role_register p n u.role)) b ∙ (ap (λ r. e (role_register p k r)) d.role ∙ (g d.number d.name d.there ∙ ap env (sym d.value)))
 
-early_kept : (labels : List Label) (p : Plan) (k : ℕ) (of : Names) (above : List ℕ) (m : Mem) (xs : List ℕ) (y : ℕ) (t : Tree) (env : Env) (e : Words) → Placed labels p → Here labels k (WritePoint of above m xs y t)
+early_kept : (labels : List Label) (p : Plan) (k : ℕ) (of : Names) (above : List ℕ) (m : Mem) (xs : List ℕ) (y : ℕ) (t : Tree) (env : Env) (e : Words) → Placed labels p → EmitContext labels k (WritePoint of above m xs y t)
     → AllWords labels p k (WritePoint of above m xs y t) of m xs → Ready labels p k (WritePoint of above m xs y t) env e
     → ((i x : ℕ) → slice_get xs i ≡ Some x → one_by_one (words p k 1 (length xs)) e (write_place m (first p k + i)) ≡ env (of x))
     → (u : Use) → WaitsAt labels p k (WritePoint of above m xs y t) u → one_by_one (words p k 1 (length xs)) e (word_register p u) ≡ env u.value
@@ -302,7 +302,7 @@ early_kept labels p k of above m xs y t env e h s w d g u v =
     ⊎_elim
     (λ (b : k < u.point). early_below labels p k of above m xs y t env e u h s w v b (d.early u v))
     (λ (b : u.point ≡ k). early_here labels p k of above m xs y t env (one_by_one (words p k 1 (length xs)) e) u h s v b g)
-    (from_there k u.point (leb-true k u.point v.here))
+    (from_there k u.point (leb-true k u.point v.emit_context))
 
 -- ---- the whole
 
@@ -325,13 +325,13 @@ unaddressed labels p k q of m xs t w d (suc i) a b e =
     let x = some-there xs i less in
     address_unwritten t d (ap is_write_register e ∙ word_written labels p k q m (of x.0) i (w i x.0 x.1))
 
-word_here : (labels : List Label) (p : Plan) (k : ℕ) (of : Names) (m : Mem) (xs : List ℕ) (i x : ℕ) → AllByRecursion (IsHere labels p k) (uses_at k 1 (map of xs) (roles (Written m) 0 xs)) → slice_get xs i ≡ Some x
-    → IsHere labels p k (record { point = k; operand = suc i; value = of x; role = Written m i })
+word_here : (labels : List Label) (p : Plan) (k : ℕ) (of : Names) (m : Mem) (xs : List ℕ) (i x : ℕ) → AllByRecursion (IsEmitContext labels p k) (uses_at k 1 (map of xs) (roles (Written m) 0 xs)) → slice_get xs i ≡ Some x
+    → IsEmitContext labels p k (record { point = k; operand = suc i; value = of x; role = Written m i })
 word_here labels p k of m xs i x u g =
     let z : 1 + i ≡ suc i = omega arith in
     let y : 0 + i ≡ i = omega arith in
-    subst (λ n. IsHere labels p k (record { point = k; operand = n; value = of x; role = Written m i })) z
-    (subst (λ n. IsHere labels p k (record { point = k; operand = 1 + i; value = of x; role = Written m n })) y (role_at (IsHere labels p k) k of (Written m) 1 0 xs i x u g))
+    subst (λ n. IsEmitContext labels p k (record { point = k; operand = n; value = of x; role = Written m i })) z
+    (subst (λ n. IsEmitContext labels p k (record { point = k; operand = 1 + i; value = of x; role = Written m n })) y (role_at (IsEmitContext labels p k) k of (Written m) 1 0 xs i x u g))
 
 -- before the first word, the early ones are in their registers
 part_none : (labels : List Label) (p : Plan) (k : ℕ) (q : Point) (of : Names) (m : Mem) (xs : List ℕ) (env : Env) (e : Words) → AllWords labels p k q of m xs → Ready labels p k q env e → Part labels p k q of m xs env 0 e
@@ -344,7 +344,7 @@ part_none labels p k q of m xs env e w d = record {
 
 pub written : (labels : List Label) (p : Plan) → Placed labels p → (k : ℕ) (of : Names) (above : List ℕ) (m : Mem) (xs : List ℕ) (y : ℕ) (t : Tree) (env : Env) (e : Words) → PointsAt labels k of above (Do (Write m y xs) t)
     → let q = root_point of above (Do (Write m y xs) t) in Ready labels p k q env e
-    → Behind p.slots (operands p k 1 ++ words p k 1 (length xs)) e (λ e'. OperandsReady labels p k q (of y ∷ []) env e'
+    → HoldsAfterMoves p.slots (operands p k 1 ++ words p k 1 (length xs)) e (λ e'. OperandsReady labels p k q (of y ∷ []) env e'
     × ((i x : ℕ) → slice_get xs i ≡ Some x → e' (write_place m (first p k + i)) ≡ env (of x))) × IsAddress (operand_at p k 0) × (first p k + length xs ≤ 8)
 written labels p h k of above m xs y t env e a d =
     let q = root_point of above (Do (Write m y xs) t) in

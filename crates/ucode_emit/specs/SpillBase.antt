@@ -20,7 +20,7 @@ abbrev pub IsOtherTarget : Dst → Type 0
 IsOtherTarget (dst.B k) = k ≢ 15
 IsOtherTarget _ = ⊤
 
--- n words are accessed from an offset behind an address: where B15 holds the address, they are slots, of which there are so many
+-- n words are accessed from an offset after an address: where B15 holds the address, they are slots, of which there are so many
 abbrev pub KeepsToSlots : (slots : ℕ) → Mem → (n : ℕ) → Gpr → (off : ℕ) → Type 0
 KeepsToSlots slots m n (gpr.A k) off = ⊤
 KeepsToSlots slots m n (gpr.B k) off = k ≡ 15 → (m ≡ Scratch) × (off + n ≤ slots)

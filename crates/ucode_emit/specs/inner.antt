@@ -4,8 +4,8 @@ pub mod Machine
 pub mod Layers
 pub mod Marks
 pub mod DraftItems
-pub mod Here
-pub mod Spots
+pub mod EmitContext
+pub mod EmittedPoints
 pub mod Cursors
 pub mod Given
 pub mod Drafted

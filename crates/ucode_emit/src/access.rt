@@ -2,24 +2,24 @@
 
 ghost use Rattle.std.specs.Prelude.{◌≡◌, ◌++◌, ◌∷◌, [], ◌≤◌, length, map, OnOk};
 ghost use Rattle.uc_isa.specs.declared.instruction.Instr.TheVariants as instr;
-ghost use Rattle.slot_placement.specs.Fits.{Rises};
-ghost use Rattle.slot_placement.specs.Plan.{plan_view};
+ghost use Rattle.placement.specs.Fits.{Rises};
+ghost use Rattle.placement.specs.Plan.{plan_view};
 ghost use Rattle.ucode_emit.specs.inner.DraftItems as drafts;
 ghost use Rattle.ucode_emit.specs.inner.DraftItems.{draft};
 ghost use Rattle.ucode_emit.specs.inner.Layers.{IsAddress};
 ghost use Rattle.ucode_emit.specs.inner.Given as given;
-ghost use Rattle.ucode_emit.specs.inner.Here.{CanAll};
+ghost use Rattle.ucode_emit.specs.inner.EmitContext.{CanAll};
 ghost use Rattle.ucode_emit.specs.inner.Pieces as pieces;
 ghost use Rattle.ucode_emit.specs.inner.Pieces.{Plain, moved};
 
 use crate::draft::{Draft, push_moves};
+use crate::emit_context::EmitContext;
 use crate::fetch::{fetches, push_fetches, served_at, words};
-use crate::here::Here;
 use crate::homes::{copied, defined};
 use crate::moves::{Move, all_copied};
 use crate::registers::address;
 use nv_base::{Mem, NoMemory};
-use slot_placement::{Placement, Serve};
+use placement::{Placement, Serve};
 use std::alloc::Global;
 use uc_isa::Instr;
 
@@ -61,26 +61,26 @@ pub fn push_read(
     alloc: Global,
     code: &mut Draft,
     p: &Placement,
-    here: &Here<'_>,
+    emit_context: &EmitContext<'_>,
     m: Mem,
     xs: &[u32],
 ) -> Result<(), NoMemory>
     requires homes { Rises (map (λ h. h.var) (plan_view p.now).homes) }
-    requires operands { CanAll (drafts.fetches here.now.pass.l here.now.serves.now) }
-    requires address { IsAddress (given.at_of here.now.serves.now 0) }
+    requires operands { CanAll (drafts.fetches emit_context.now.pass.l emit_context.now.serves.now) }
+    requires address { IsAddress (given.at_of emit_context.now.serves.now 0) }
     requires few { length xs.now ≤ 8 }
-    requires can { CanAll (given.each_copied (plan_view p.now) here.now.pass.s xs.now) }
-    ensures { OnOk result (code.new ≡ code.old ++ map draft (moved (drafts.fetches here.now.pass.l here.now.serves.now) ++ Plain (instr.Read m here.now.first (length xs.now) (pieces.address_of (given.at_of here.now.serves.now 0)) 0) ∷ moved (given.each_copied (plan_view p.now) here.now.pass.s xs.now))) }
+    requires can { CanAll (given.each_copied (plan_view p.now) emit_context.now.pass.s xs.now) }
+    ensures { OnOk result (code.new ≡ code.old ++ map draft (moved (drafts.fetches emit_context.now.pass.l emit_context.now.serves.now) ++ Plain (instr.Read m emit_context.now.first (length xs.now) (pieces.address_of (given.at_of emit_context.now.serves.now 0)) 0) ∷ moved (given.each_copied (plan_view p.now) emit_context.now.pass.s xs.now))) }
 {
-    push_fetches(alloc, code, here.pass.l, here.serves)?;
+    push_fetches(alloc, code, emit_context.pass.l, emit_context.serves)?;
     code.push(Instr::Read {
         mem: m,
-        r: here.first,
+        r: emit_context.first,
         n: xs.len() as u8,
-        x: address(served_at(here.serves, 0)),
+        x: address(served_at(emit_context.serves, 0)),
         off: 0,
     })?;
-    push_copies(alloc, code, p, here.pass.s, xs)
+    push_copies(alloc, code, p, emit_context.pass.s, xs)
 }
 
 // The moves before a write: the address, then the words.
@@ -113,21 +113,21 @@ fn push_write_moves(
 pub fn push_write(
     alloc: Global,
     code: &mut Draft,
-    here: &Here<'_>,
+    emit_context: &EmitContext<'_>,
     m: Mem,
     xs: &[u32],
 ) -> Result<(), NoMemory>
-    requires operands { CanAll (given.write_moves here.now.pass.l here.now.serves.now) }
-    requires address { IsAddress (given.at_of here.now.serves.now 0) }
+    requires operands { CanAll (given.write_moves emit_context.now.pass.l emit_context.now.serves.now) }
+    requires address { IsAddress (given.at_of emit_context.now.serves.now 0) }
     requires few { length xs.now ≤ 8 }
-    ensures { OnOk result (code.new ≡ code.old ++ map draft (moved (given.write_moves here.now.pass.l here.now.serves.now) ++ Plain (instr.Write m here.now.first (length xs.now) (pieces.address_of (given.at_of here.now.serves.now 0)) 0) ∷ [])) }
+    ensures { OnOk result (code.new ≡ code.old ++ map draft (moved (given.write_moves emit_context.now.pass.l emit_context.now.serves.now) ++ Plain (instr.Write m emit_context.now.first (length xs.now) (pieces.address_of (given.at_of emit_context.now.serves.now 0)) 0) ∷ [])) }
 {
-    push_write_moves(alloc, code, here.pass.l, here.serves)?;
+    push_write_moves(alloc, code, emit_context.pass.l, emit_context.serves)?;
     code.push(Instr::Write {
         mem: m,
-        r: here.first,
+        r: emit_context.first,
         n: xs.len() as u8,
-        x: address(served_at(here.serves, 0)),
+        x: address(served_at(emit_context.serves, 0)),
         off: 0,
     })
 }

@@ -1,16 +1,16 @@
 //! The moves that fetch a point's operands.
 
 ghost use Rattle.std.specs.Prelude.{◌≡◌, ◌++◌, map, OnOk};
-ghost use Rattle.slot_placement.specs.Fits as fits;
+ghost use Rattle.placement.specs.Fits as fits;
 ghost use Rattle.ucode_emit.specs.inner.DraftItems as drafts;
 ghost use Rattle.ucode_emit.specs.inner.Given as given;
-ghost use Rattle.ucode_emit.specs.inner.Here.{CanAll};
+ghost use Rattle.ucode_emit.specs.inner.EmitContext.{CanAll};
 ghost use Rattle.ucode_emit.specs.inner.Pieces.{moved};
 
 use crate::draft::{Draft, push_moves};
 use crate::moves::{Move, brought, is_slot, same_place};
 use nv_base::NoMemory;
-use slot_placement::{Place, Serve};
+use placement::{Place, Serve};
 use std::alloc::Global;
 
 /// Whether a place is a register that is read into.

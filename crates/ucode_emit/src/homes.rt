@@ -1,11 +1,11 @@
 //! The homes of values.
 
 ghost use Rattle.std.specs.Prelude.{◌≡◌, map, MatchOption};
-ghost use Rattle.slot_placement.specs.Fits.{Rises};
-ghost use Rattle.slot_placement.specs.Plan.{home, home_in, home_view, plan_view};
+ghost use Rattle.placement.specs.Fits.{Rises};
+ghost use Rattle.placement.specs.Plan.{home, home_in, home_view, plan_view};
 ghost use Rattle.ucode_emit.specs.inner.Given.{homeless};
 
-use slot_placement::{Home, Place, Placement};
+use placement::{Home, Place, Placement};
 
 /// The home of a value.
 fn home_of(homes: &[Home], x: u32) -> Option<&Home>

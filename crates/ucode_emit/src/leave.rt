@@ -10,13 +10,13 @@ ghost use Rattle.ucode_emit.specs.inner.DraftItems as drafts;
 ghost use Rattle.ucode_emit.specs.inner.DraftItems.{draft};
 ghost use Rattle.ucode_emit.specs.inner.Machine.{IsReadable};
 ghost use Rattle.ucode_emit.specs.inner.Given as given;
-ghost use Rattle.ucode_emit.specs.inner.Here.{CanAll};
+ghost use Rattle.ucode_emit.specs.inner.EmitContext.{CanAll};
 ghost use Rattle.ucode_emit.specs.inner.Pieces as pieces;
 ghost use Rattle.ucode_emit.specs.inner.Pieces.{Plain, Branch, moved};
 
 use crate::draft::{Draft, push_moves};
+use crate::emit_context::EmitContext;
 use crate::fetch::{push_fetches, served_at};
-use crate::here::Here;
 use crate::moves::{Move, single_moves};
 use crate::registers::source;
 use nv_base::{Bin, Cmp, NoMemory};
@@ -36,22 +36,27 @@ fn failing(c: Cmp) -> Cond
 }
 
 /// Adds the code of a comparison, which branches where it fails.
-pub fn push_fork(alloc: Global, code: &mut Draft, here: &Here<'_>, c: Cmp) -> Result<(), NoMemory>
-    requires operands { CanAll (drafts.fetches here.now.pass.l here.now.serves.now) }
-    requires first { IsReadable (given.at_of here.now.serves.now 0) }
-    requires second { IsReadable (given.at_of here.now.serves.now 1) }
-    ensures { OnOk result (code.new ≡ code.old ++ map draft (moved (drafts.fetches here.now.pass.l here.now.serves.now) ++ Plain (instr.Alu dst.Nowhere Sub (pieces.source (given.at_of here.now.serves.now 0)) (pieces.source (given.at_of here.now.serves.now 1))) ∷ Branch (registers.failing c) here.now.to ∷ [])) }
+pub fn push_fork(
+    alloc: Global,
+    code: &mut Draft,
+    emit_context: &EmitContext<'_>,
+    c: Cmp,
+) -> Result<(), NoMemory>
+    requires operands { CanAll (drafts.fetches emit_context.now.pass.l emit_context.now.serves.now) }
+    requires first { IsReadable (given.at_of emit_context.now.serves.now 0) }
+    requires second { IsReadable (given.at_of emit_context.now.serves.now 1) }
+    ensures { OnOk result (code.new ≡ code.old ++ map draft (moved (drafts.fetches emit_context.now.pass.l emit_context.now.serves.now) ++ Plain (instr.Alu dst.Nowhere Sub (pieces.source (given.at_of emit_context.now.serves.now 0)) (pieces.source (given.at_of emit_context.now.serves.now 1))) ∷ Branch (registers.failing c) emit_context.now.to ∷ [])) }
 {
-    push_fetches(alloc, code, here.pass.l, here.serves)?;
+    push_fetches(alloc, code, emit_context.pass.l, emit_context.serves)?;
     code.push(Instr::Alu {
         dst: Dst::Nowhere,
         op: Bin::Sub,
-        x: source(served_at(here.serves, 0)),
-        y: source(served_at(here.serves, 1)),
+        x: source(served_at(emit_context.serves, 0)),
+        y: source(served_at(emit_context.serves, 1)),
     })?;
     code.push(Instr::Br {
         cond: failing(c),
-        target: here.to,
+        target: emit_context.to,
     })
 }
 
@@ -71,14 +76,18 @@ fn push_singles(
 }
 
 /// Adds the code of a jump.
-pub fn push_jump(alloc: Global, code: &mut Draft, here: &Here<'_>) -> Result<(), NoMemory>
-    requires { CanAll (pieces.single_moves here.now.pass.l here.now.singles.now) }
-    ensures { OnOk result (code.new ≡ code.old ++ map draft (moved (pieces.single_moves here.now.pass.l here.now.singles.now) ++ Branch Always here.now.to ∷ [])) }
+pub fn push_jump(
+    alloc: Global,
+    code: &mut Draft,
+    emit_context: &EmitContext<'_>,
+) -> Result<(), NoMemory>
+    requires { CanAll (pieces.single_moves emit_context.now.pass.l emit_context.now.singles.now) }
+    ensures { OnOk result (code.new ≡ code.old ++ map draft (moved (pieces.single_moves emit_context.now.pass.l emit_context.now.singles.now) ++ Branch Always emit_context.now.to ∷ [])) }
 {
-    push_singles(alloc, code, here.pass.l, here.singles)?;
+    push_singles(alloc, code, emit_context.pass.l, emit_context.singles)?;
     code.push(Instr::Br {
         cond: Cond::Always,
-        target: here.to,
+        target: emit_context.to,
     })
 }
 
@@ -86,15 +95,15 @@ pub fn push_jump(alloc: Global, code: &mut Draft, here: &Here<'_>) -> Result<(),
 pub fn push_halt(
     alloc: Global,
     code: &mut Draft,
-    here: &Here<'_>,
+    emit_context: &EmitContext<'_>,
     e: u16,
     xs: &[u32],
 ) -> Result<(), NoMemory>
-    requires singles { CanAll (pieces.single_moves here.now.pass.l here.now.singles.now) }
+    requires singles { CanAll (pieces.single_moves emit_context.now.pass.l emit_context.now.singles.now) }
     requires few { length xs.now ≤ 8 }
-    ensures { OnOk result (code.new ≡ code.old ++ map draft (moved (pieces.single_moves here.now.pass.l here.now.singles.now) ++ Plain (instr.Halt e (length xs.now)) ∷ [])) }
+    ensures { OnOk result (code.new ≡ code.old ++ map draft (moved (pieces.single_moves emit_context.now.pass.l emit_context.now.singles.now) ++ Plain (instr.Halt e (length xs.now)) ∷ [])) }
 {
-    push_singles(alloc, code, here.pass.l, here.singles)?;
+    push_singles(alloc, code, emit_context.pass.l, emit_context.singles)?;
     code.push(Instr::Halt {
         k: e,
         n: xs.len() as u8,

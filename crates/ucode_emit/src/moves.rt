@@ -1,13 +1,13 @@
-//! The moves of pieces, one behind the other.
+//! The moves of pieces, one after the other.
 
 ghost use Rattle.std.specs.Prelude.{◌≡◌, ◌++◌, OnOk};
-ghost use Rattle.slot_placement.specs.declared.place.Place.TheVariants.{Slot};
-ghost use Rattle.slot_placement.specs.Fits as fits;
-ghost use Rattle.slot_placement.specs.Places as places;
+ghost use Rattle.placement.specs.declared.place.Place.TheVariants.{Slot};
+ghost use Rattle.placement.specs.Fits as fits;
+ghost use Rattle.placement.specs.Places as places;
 ghost use Rattle.ucode_emit.specs.inner.Pieces as pieces;
 
 use nv_base::NoMemory;
-use slot_placement::Place;
+use placement::Place;
 
 /// A move of a word: from the first place to the second.
 pub type Move = (Place, Place);
@@ -80,7 +80,7 @@ pub fn brought(moves: &mut Vec<Move>, l: Option<u8>, from: Place, at: Place) -> 
     Ok(())
 }
 
-/// One copy behind a definition; what goes to a slot goes by way of a write register.
+/// One copy after a definition; what goes to a slot goes by way of a write register.
 pub fn copied(moves: &mut Vec<Move>, s: Option<u8>, from: Place, at: Place) -> Result<(), NoMemory>
     ensures { OnOk result (moves.new.items ≡ moves.old.items ++ pieces.copied s from at) }
 {
@@ -94,7 +94,7 @@ pub fn copied(moves: &mut Vec<Move>, s: Option<u8>, from: Place, at: Place) -> R
     Ok(())
 }
 
-/// All copies behind a definition.
+/// All copies after a definition.
 pub fn all_copied(
     moves: &mut Vec<Move>,
     s: Option<u8>,

@@ -2,25 +2,25 @@
 
 ghost use Rattle.std.specs.Prelude.{◌≡◌, ◌++◌, ◌<◌, ◌/◌, ◌^◌, map, OnOk};
 ghost use Rattle.uc_isa.specs.declared.instruction.Instr.TheVariants as instr;
-ghost use Rattle.slot_placement.specs.Fits.{Rises};
-ghost use Rattle.slot_placement.specs.Plan.{home, plan_view};
+ghost use Rattle.placement.specs.Fits.{Rises};
+ghost use Rattle.placement.specs.Plan.{home, plan_view};
 ghost use Rattle.ucode_emit.specs.inner.DraftItems as drafts;
 ghost use Rattle.ucode_emit.specs.inner.DraftItems.{draft};
 ghost use Rattle.ucode_emit.specs.inner.Machine.{IsReadable, IsWritable};
 ghost use Rattle.ucode_emit.specs.inner.Given as given;
 ghost use Rattle.ucode_emit.specs.inner.Given.{CanResult};
-ghost use Rattle.ucode_emit.specs.inner.Here.{CanAll};
+ghost use Rattle.ucode_emit.specs.inner.EmitContext.{CanAll};
 ghost use Rattle.ucode_emit.specs.inner.Pieces as pieces;
 ghost use Rattle.ucode_emit.specs.inner.Pieces.{moved};
 
 use crate::draft::{Draft, push_moves};
+use crate::emit_context::EmitContext;
 use crate::fetch::{push_fetches, served_at};
-use crate::here::Here;
 use crate::homes::{copied, defined};
 use crate::moves::{Move, all_copied, is_slot, named};
 use crate::registers::{source, target};
 use nv_base::{Bin, NoMemory, Una};
-use slot_placement::{Place, Placement};
+use placement::{Place, Placement};
 use std::alloc::Global;
 use uc_isa::{Dst, Instr, UnOp};
 
@@ -116,18 +116,18 @@ pub fn push_lit(
     alloc: Global,
     code: &mut Draft,
     p: &Placement,
-    here: &Here<'_>,
+    emit_context: &EmitContext<'_>,
     x: u32,
     v: u32,
 ) -> Result<(), NoMemory>
     requires homes { Rises (map (λ h. h.var) (plan_view p.now).homes) }
     requires short { v / 2 ^ pieces.shift_of v < 2 ^ 16 }
-    requires can { CanResult (plan_view p.now) here.now.pass.s x }
-    ensures { OnOk result (code.new ≡ code.old ++ map draft (given.result_items (plan_view p.now) here.now.pass.s x (λ d. instr.Immed d (v / 2 ^ pieces.shift_of v) (pieces.shift_of v)))) }
+    requires can { CanResult (plan_view p.now) emit_context.now.pass.s x }
+    ensures { OnOk result (code.new ≡ code.old ++ map draft (given.result_items (plan_view p.now) emit_context.now.pass.s x (λ d. instr.Immed d (v / 2 ^ pieces.shift_of v) (pieces.shift_of v)))) }
 {
-    let dst = result_target(p, here.pass.s, x);
+    let dst = result_target(p, emit_context.pass.s, x);
     code.push(immed(dst, v))?;
-    push_result(alloc, code, p, here.pass.s, x)
+    push_result(alloc, code, p, emit_context.pass.s, x)
 }
 
 /// Adds the code of an operation on one word.
@@ -135,23 +135,23 @@ pub fn push_una(
     alloc: Global,
     code: &mut Draft,
     p: &Placement,
-    here: &Here<'_>,
+    emit_context: &EmitContext<'_>,
     x: u32,
     op: Una,
 ) -> Result<(), NoMemory>
     requires homes { Rises (map (λ h. h.var) (plan_view p.now).homes) }
-    requires operands { CanAll (drafts.fetches here.now.pass.l here.now.serves.now) }
-    requires readable { IsReadable (given.at_of here.now.serves.now 0) }
-    requires can { CanResult (plan_view p.now) here.now.pass.s x }
-    ensures { OnOk result (code.new ≡ code.old ++ map draft (moved (drafts.fetches here.now.pass.l here.now.serves.now) ++ given.result_items (plan_view p.now) here.now.pass.s x (λ d. instr.Un d (pieces.un_op op) (pieces.source (given.at_of here.now.serves.now 0))))) }
+    requires operands { CanAll (drafts.fetches emit_context.now.pass.l emit_context.now.serves.now) }
+    requires readable { IsReadable (given.at_of emit_context.now.serves.now 0) }
+    requires can { CanResult (plan_view p.now) emit_context.now.pass.s x }
+    ensures { OnOk result (code.new ≡ code.old ++ map draft (moved (drafts.fetches emit_context.now.pass.l emit_context.now.serves.now) ++ given.result_items (plan_view p.now) emit_context.now.pass.s x (λ d. instr.Un d (pieces.un_op op) (pieces.source (given.at_of emit_context.now.serves.now 0))))) }
 {
-    push_fetches(alloc, code, here.pass.l, here.serves)?;
+    push_fetches(alloc, code, emit_context.pass.l, emit_context.serves)?;
     code.push(Instr::Un {
-        dst: result_target(p, here.pass.s, x),
+        dst: result_target(p, emit_context.pass.s, x),
         op: un_op(op),
-        x: source(served_at(here.serves, 0)),
+        x: source(served_at(emit_context.serves, 0)),
     })?;
-    push_result(alloc, code, p, here.pass.s, x)
+    push_result(alloc, code, p, emit_context.pass.s, x)
 }
 
 /// Adds the code of an operation on two words.
@@ -159,23 +159,23 @@ pub fn push_bin(
     alloc: Global,
     code: &mut Draft,
     p: &Placement,
-    here: &Here<'_>,
+    emit_context: &EmitContext<'_>,
     x: u32,
     op: Bin,
 ) -> Result<(), NoMemory>
     requires homes { Rises (map (λ h. h.var) (plan_view p.now).homes) }
-    requires operands { CanAll (drafts.fetches here.now.pass.l here.now.serves.now) }
-    requires first { IsReadable (given.at_of here.now.serves.now 0) }
-    requires second { IsReadable (given.at_of here.now.serves.now 1) }
-    requires can { CanResult (plan_view p.now) here.now.pass.s x }
-    ensures { OnOk result (code.new ≡ code.old ++ map draft (moved (drafts.fetches here.now.pass.l here.now.serves.now) ++ given.result_items (plan_view p.now) here.now.pass.s x (λ d. instr.Alu d op (pieces.source (given.at_of here.now.serves.now 0)) (pieces.source (given.at_of here.now.serves.now 1))))) }
+    requires operands { CanAll (drafts.fetches emit_context.now.pass.l emit_context.now.serves.now) }
+    requires first { IsReadable (given.at_of emit_context.now.serves.now 0) }
+    requires second { IsReadable (given.at_of emit_context.now.serves.now 1) }
+    requires can { CanResult (plan_view p.now) emit_context.now.pass.s x }
+    ensures { OnOk result (code.new ≡ code.old ++ map draft (moved (drafts.fetches emit_context.now.pass.l emit_context.now.serves.now) ++ given.result_items (plan_view p.now) emit_context.now.pass.s x (λ d. instr.Alu d op (pieces.source (given.at_of emit_context.now.serves.now 0)) (pieces.source (given.at_of emit_context.now.serves.now 1))))) }
 {
-    push_fetches(alloc, code, here.pass.l, here.serves)?;
+    push_fetches(alloc, code, emit_context.pass.l, emit_context.serves)?;
     code.push(Instr::Alu {
-        dst: result_target(p, here.pass.s, x),
+        dst: result_target(p, emit_context.pass.s, x),
         op,
-        x: source(served_at(here.serves, 0)),
-        y: source(served_at(here.serves, 1)),
+        x: source(served_at(emit_context.serves, 0)),
+        y: source(served_at(emit_context.serves, 1)),
     })?;
-    push_result(alloc, code, p, here.pass.s, x)
+    push_result(alloc, code, p, emit_context.pass.s, x)
 }

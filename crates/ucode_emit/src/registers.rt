@@ -5,7 +5,7 @@ ghost use Rattle.ucode_emit.specs.inner.Pieces as pieces;
 ghost use Rattle.ucode_emit.specs.inner.Machine.{IsReadable, IsWritable};
 ghost use Rattle.ucode_emit.specs.inner.Layers.{IsAddress};
 
-use slot_placement::Place;
+use placement::Place;
 use uc_isa::{Dst, Gpr, RegA, RegB, RegL, RegLD, RegS, RegSD, Src};
 
 /// A place as a source.

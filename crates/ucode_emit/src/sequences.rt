@@ -5,24 +5,24 @@ ghost use Rattle.ssu_ir.specs.Points.{Entry};
 ghost use Rattle.ssu_ir.specs.Slots.{node_of};
 ghost use Rattle.ssu_ir.specs.Tree.{node_uses};
 ghost use Rattle.ssu_ir.specs.View.{labels_view};
-ghost use Rattle.slot_placement.specs.Fits.{Rises};
-ghost use Rattle.slot_placement.specs.Plan.{plan_view};
-ghost use Rattle.held_values.specs.inner.Spots.{params_of};
+ghost use Rattle.placement.specs.Fits.{Rises};
+ghost use Rattle.placement.specs.Plan.{plan_view};
+ghost use Rattle.ssu_liveness.specs.inner.PointIds.{params_of};
 ghost use Rattle.par_move.specs.Moves.{HaveOwnTargets, SpareTemporary};
 ghost use Rattle.ucode_emit.specs.inner.Cursors.{place_operands};
 ghost use Rattle.ucode_emit.specs.inner.Layers.{Placed};
 ghost use Rattle.ucode_emit.specs.inner.Marks.{marks};
 ghost use Rattle.ucode_emit.specs.inner.Pieces.{parallel_moves};
 ghost use Rattle.ucode_emit.specs.inner.Ready.{IsSequence, AreSequences};
-ghost use Rattle.ucode_emit.specs.inner.Spots.{spot_mark, IsSpot};
+ghost use Rattle.ucode_emit.specs.inner.EmittedPoints.{point_mark, IsEmittedPoint};
 ghost use Rattle.ucode_emit.specs.inner.Walk.{node_ends, place_ends, HasFew, moves_of};
 
 use crate::cursor::take_serves;
 use crate::moves::Move;
-use crate::spots::Spot;
+use crate::point_ids::EmittedPoint;
 use crate::together::{sequence_entry, sequence_served};
 use nv_base::NoMemory;
-use slot_placement::{Placement, Serve};
+use placement::{Placement, Serve};
 use ssu_ir::{Ssu, SsuNode};
 use std::alloc::Global;
 
@@ -53,13 +53,13 @@ fn one_more(n: usize) -> Result<usize, NoMemory>
 }
 
 /// How many operands a point has.
-pub fn operands(s: &Ssu, spot: Spot) -> Result<usize, NoMemory>
-    requires { IsSpot s.now spot }
-    ensures { IfOk result (λ n. n ≡ place_operands (spot_mark s.now spot).place) }
+pub fn operands(s: &Ssu, point_id: EmittedPoint) -> Result<usize, NoMemory>
+    requires { IsEmittedPoint s.now point_id }
+    ensures { IfOk result (λ n. n ≡ place_operands (point_mark s.now point_id).place) }
 {
-    match spot {
-        Spot::Entry(_) => Ok(0),
-        Spot::Node(id, _) => node_operands(s.node(id)),
+    match point_id {
+        EmittedPoint::Entry(_) => Ok(0),
+        EmittedPoint::Node(id, _) => node_operands(s.node(id)),
     }
 }
 
@@ -106,23 +106,23 @@ fn sequence_front(alloc: Global, s: &Ssu, p: &Placement, l: usize) -> Result<Vec
 }
 
 // Of a point, whose operands are served so.
-fn sequence_spot(
+fn sequence_point(
     alloc: Global,
     s: &Ssu,
     p: &Placement,
-    spot: Spot,
+    point_id: EmittedPoint,
     serves: &[Serve],
 ) -> Result<Vec<Move>, NoMemory>
-    requires there { IsSpot s.now spot }
+    requires there { IsEmittedPoint s.now point_id }
     requires homes { Rises (map (λ h. h.var) (plan_view p.now).homes) }
-    requires few { HasFew (spot_mark s.now spot).place }
-    requires targets { HaveOwnTargets (place_ends (plan_view p.now) serves.now (spot_mark s.now spot).place) }
-    requires spare { SpareTemporary (place_ends (plan_view p.now) serves.now (spot_mark s.now spot).place) }
-    ensures { IfOk result (λ ms. IsSequence (place_ends (plan_view p.now) serves.now (spot_mark s.now spot).place) ms.items) }
+    requires few { HasFew (point_mark s.now point_id).place }
+    requires targets { HaveOwnTargets (place_ends (plan_view p.now) serves.now (point_mark s.now point_id).place) }
+    requires spare { SpareTemporary (place_ends (plan_view p.now) serves.now (point_mark s.now point_id).place) }
+    ensures { IfOk result (λ ms. IsSequence (place_ends (plan_view p.now) serves.now (point_mark s.now point_id).place) ms.items) }
 {
-    match spot {
-        Spot::Entry(l) => sequence_front(alloc, s, p, l),
-        Spot::Node(id, _) => sequence_node(alloc, s.node(id), serves),
+    match point_id {
+        EmittedPoint::Entry(l) => sequence_front(alloc, s, p, l),
+        EmittedPoint::Node(id, _) => sequence_node(alloc, s.node(id), serves),
     }
 }
 
@@ -131,20 +131,20 @@ pub fn sequences_of(
     alloc: Global,
     s: &Ssu,
     p: &Placement,
-    spots: &[Spot],
+    point_ids: &[EmittedPoint],
 ) -> Result<Vec<Vec<Move>>, NoMemory>
     requires placed { Placed (labels_view s.now) (plan_view p.now) }
-    requires spots { map (spot_mark s.now) spots.now ≡ marks (labels_view s.now) }
-    requires there { All (IsSpot s.now) spots.now }
+    requires point_ids { map (point_mark s.now) point_ids.now ≡ marks (labels_view s.now) }
+    requires there { All (IsEmittedPoint s.now) point_ids.now }
     ensures { IfOk result (λ v. AreSequences (parallel_moves (plan_view p.now) (labels_view s.now)) (moves_of v.items)) }
 {
     let mut sequences = Vec::new(alloc);
     let mut at = 0;
-    for k in 0..spots.len() {
-        let spot = spots[k];
-        let n = operands(s, spot)?;
+    for k in 0..point_ids.len() {
+        let point_id = point_ids[k];
+        let n = operands(s, point_id)?;
         let serves = take_serves(&p.serves, &mut at, n);
-        sequences.push(sequence_spot(alloc, s, p, spot, serves)?)?;
+        sequences.push(sequence_point(alloc, s, p, point_id, serves)?)?;
     }
     Ok(sequences)
 }

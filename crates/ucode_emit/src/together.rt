@@ -1,10 +1,10 @@
 //! The parallel moves of points as single moves.
 
 ghost use Rattle.std.specs.Prelude.{◌≡◌, ◌≤◌, map, length, IfOk};
-ghost use Rattle.slot_placement.specs.Fits.{Rises};
-ghost use Rattle.slot_placement.specs.Plan.{plan_view};
+ghost use Rattle.placement.specs.Fits.{Rises};
+ghost use Rattle.placement.specs.Plan.{plan_view};
 ghost use Rattle.par_move.specs.Moves.{HaveOwnTargets, SpareTemporary};
-ghost use Rattle.ucode_emit.specs.inner.Here.{ends};
+ghost use Rattle.ucode_emit.specs.inner.EmitContext.{ends};
 ghost use Rattle.ucode_emit.specs.inner.Pieces as pieces;
 ghost use Rattle.ucode_emit.specs.inner.Ready.{IsSequence};
 
@@ -12,7 +12,7 @@ use crate::homes::defined;
 use crate::moves::Move;
 use nv_base::NoMemory;
 use par_move::sequence;
-use slot_placement::{Place, Placement, Serve};
+use placement::{Place, Placement, Serve};
 use std::alloc::{AllocError, Global};
 
 // From where each operand is served to where it is wanted.

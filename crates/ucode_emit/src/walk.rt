@@ -3,26 +3,26 @@
 ghost use Rattle.std.specs.Prelude.{◌≡◌, ◌+◌, ◌<◌, [], ◌++◌, map, drop, length, IfOk, OnOk, slice_index_or};
 ghost use Rattle.ssu_ir.specs.Slots.{node_of};
 ghost use Rattle.ssu_ir.specs.View.{labels_view};
-ghost use Rattle.slot_placement.specs.Fits.{Rises};
-ghost use Rattle.slot_placement.specs.Plan.{plan_view};
+ghost use Rattle.placement.specs.Fits.{Rises};
+ghost use Rattle.placement.specs.Plan.{plan_view};
 ghost use Rattle.ucode_emit.specs.inner.Cursors.{place_operands};
 ghost use Rattle.ucode_emit.specs.inner.DraftItems.{draft};
-ghost use Rattle.ucode_emit.specs.inner.Here.{IsHere};
+ghost use Rattle.ucode_emit.specs.inner.EmitContext.{IsEmitContext};
 ghost use Rattle.ucode_emit.specs.inner.Layers.{Placed};
 ghost use Rattle.ucode_emit.specs.inner.Marks.{marks, point_piece};
 ghost use Rattle.ucode_emit.specs.inner.Pieces.{sequence_at};
-ghost use Rattle.ucode_emit.specs.inner.Spots.{spot_mark, IsSpot};
+ghost use Rattle.ucode_emit.specs.inner.EmittedPoints.{point_mark, IsEmittedPoint};
 ghost use Rattle.ucode_emit.specs.inner.Walk.{AreKnown, IsAt, IsDrafted, mark_at, moves_of, node_branch, place_branch, place_items, CanPlace};
 
 use crate::cursor::{Cursor, take_first, take_pass, take_serves};
 use crate::draft::Draft;
-use crate::here::Here;
+use crate::emit_context::EmitContext;
 use crate::moves::Move;
 use crate::piece::{push_front, push_node};
+use crate::point_ids::{EmittedPoint, entries_of, number, plus, point_ids_of};
 use crate::sequences::{operands, sequences_of};
-use crate::spots::{Spot, entries_of, number, plus, spots_of};
 use nv_base::NoMemory;
-use slot_placement::Placement;
+use placement::Placement;
 use ssu_ir::{Ssu, SsuNode};
 use std::alloc::Global;
 
@@ -30,7 +30,7 @@ use std::alloc::Global;
 #[derive(Drop)]
 pub struct Points {
     /// The points in order.
-    pub spots: Vec<Spot>,
+    pub point_ids: Vec<EmittedPoint>,
     /// Of each label the point at which it begins.
     pub entries: Vec<u32>,
     /// Of each point the single moves of its parallel move.
@@ -42,11 +42,11 @@ pub fn points_of(alloc: Global, s: &Ssu, p: &Placement) -> Result<Points, NoMemo
     requires { Placed (labels_view s.now) (plan_view p.now) }
     ensures { IfOk result (λ points. AreKnown s.now (plan_view p.now) points) }
 {
-    let spots = spots_of(alloc, s)?;
-    let entries = entries_of(alloc, &spots)?;
-    let sequences = sequences_of(alloc, s, p, &spots)?;
+    let point_ids = point_ids_of(alloc, s)?;
+    let entries = entries_of(alloc, &point_ids)?;
+    let sequences = sequences_of(alloc, s, p, &point_ids)?;
     Ok(Points {
-        spots,
+        point_ids,
         entries,
         sequences,
     })
@@ -80,34 +80,34 @@ fn entry(entries: &[u32], l: u32) -> u32
 }
 
 // The point to which a point branches, 0 where it does not.
-fn branch(s: &Ssu, spot: Spot, point: u32, entries: &[u32]) -> Result<u32, NoMemory>
-    requires { IsSpot s.now spot }
-    ensures { IfOk result (λ to. to ≡ place_branch point (spot_mark s.now spot).first_arm entries.now (spot_mark s.now spot).place) }
+fn branch(s: &Ssu, point_id: EmittedPoint, point: u32, entries: &[u32]) -> Result<u32, NoMemory>
+    requires { IsEmittedPoint s.now point_id }
+    ensures { IfOk result (λ to. to ≡ place_branch point (point_mark s.now point_id).first_arm entries.now (point_mark s.now point_id).place) }
 {
-    match spot {
-        Spot::Entry(_) => Ok(0),
-        Spot::Node(id, arm) => branch_of(s.node(id), point, arm, entries),
+    match point_id {
+        EmittedPoint::Entry(_) => Ok(0),
+        EmittedPoint::Node(id, arm) => branch_of(s.node(id), point, arm, entries),
     }
 }
 
 // Adds the code of a point by what is known of it.
-fn push_spot(
+fn emit_point(
     alloc: Global,
     code: &mut Draft,
     s: &Ssu,
     p: &Placement,
-    spot: Spot,
-    here: &Here<'_>,
+    point_id: EmittedPoint,
+    emit_context: &EmitContext<'_>,
 ) -> Result<(), NoMemory>
-    requires there { IsSpot s.now spot }
+    requires there { IsEmittedPoint s.now point_id }
     requires homes { Rises (map (λ h. h.var) (plan_view p.now).homes) }
-    requires here { IsHere (plan_view p.now) (place_operands (spot_mark s.now spot).place) here.now }
-    requires can { CanPlace (plan_view p.now) here.now.point here.now.singles.now (spot_mark s.now spot).place }
-    ensures { OnOk result (code.new ≡ code.old ++ map draft (place_items (plan_view p.now) here.now.point here.now.to here.now.singles.now (spot_mark s.now spot).place)) }
+    requires emit_context { IsEmitContext (plan_view p.now) (place_operands (point_mark s.now point_id).place) emit_context.now }
+    requires can { CanPlace (plan_view p.now) emit_context.now.point emit_context.now.singles.now (point_mark s.now point_id).place }
+    ensures { OnOk result (code.new ≡ code.old ++ map draft (place_items (plan_view p.now) emit_context.now.point emit_context.now.to emit_context.now.singles.now (point_mark s.now point_id).place)) }
 {
-    match spot {
-        Spot::Entry(l) => push_front(alloc, code, p, here, &s.labels[l].params),
-        Spot::Node(id, _) => push_node(alloc, code, p, here, s.node(id)),
+    match point_id {
+        EmittedPoint::Entry(l) => push_front(alloc, code, p, emit_context, &s.labels[l].params),
+        EmittedPoint::Node(id, _) => push_node(alloc, code, p, emit_context, s.node(id)),
     }
 }
 
@@ -123,16 +123,16 @@ fn push_point(
 ) -> Result<(), NoMemory>
     requires placed { Placed (labels_view s.now) (plan_view p.now) }
     requires known { AreKnown s.now (plan_view p.now) points.now }
-    requires within { k < length points.now.spots.items }
+    requires within { k < length points.now.point_ids.items }
     requires cursor { IsAt (plan_view p.now) k (drop k (marks (labels_view s.now))) cursor.old }
     ensures cursor { OnOk result (IsAt (plan_view p.now) (k + 1) (drop (k + 1) (marks (labels_view s.now))) cursor.new) }
     ensures code { OnOk result (code.new ≡ code.old ++ map draft (point_piece (labels_view s.now) (plan_view p.now) k (mark_at (labels_view s.now) k) (sequence_at (moves_of points.now.sequences.items) k))) }
 {
-    let spot = points.spots[k];
-    let n = operands(s, spot)?;
+    let point_id = points.point_ids[k];
+    let n = operands(s, point_id)?;
     let point = number(k)?;
-    let to = branch(s, spot, point, &points.entries)?;
-    let here = Here {
+    let to = branch(s, point_id, point, &points.entries)?;
+    let emit_context = EmitContext {
         point,
         serves: take_serves(&p.serves, &mut cursor.serves, n),
         first: take_first(&p.firsts, &mut cursor.firsts, point),
@@ -140,7 +140,7 @@ fn push_point(
         singles: &points.sequences[k],
         to,
     };
-    push_spot(alloc, code, s, p, spot, &here)
+    emit_point(alloc, code, s, p, point_id, &emit_context)
 }
 
 /// Adds the code of all points, and says where each begins.
@@ -154,7 +154,7 @@ pub fn push_points(
     requires placed { Placed (labels_view s.now) (plan_view p.now) }
     requires known { AreKnown s.now (plan_view p.now) points.now }
     requires empty { code.old ≡ [] }
-    ensures { IfOk result (λ places. IsDrafted (labels_view s.now) (plan_view p.now) (moves_of points.now.sequences.items) (length points.now.spots.items) code.new places.items) }
+    ensures { IfOk result (λ places. IsDrafted (labels_view s.now) (plan_view p.now) (moves_of points.now.sequences.items) (length points.now.point_ids.items) code.new places.items) }
 {
     let mut places = Vec::new(alloc);
     let mut cursor = Cursor {
@@ -162,7 +162,7 @@ pub fn push_points(
         firsts: 0,
         passes: 0,
     };
-    for k in 0..points.spots.len() {
+    for k in 0..points.point_ids.len() {
         places.push(number(code.list().len())?)?;
         push_point(alloc, code, &mut cursor, s, p, points, k)?;
     }

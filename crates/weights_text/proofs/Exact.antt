@@ -117,7 +117,7 @@ more_fault cs bytes rest n v e some counted =
         wrong (weights_lines cs) line back (e ∙ ap (λ r. text_of (weights_lines cs) ++ r) f) lack (format.whole (weights_lines cs) whole) (λ b.
         prefix_free cs b.whole.counts line b.more v b.whole.valid (sym (append_assoc (weights_lines cs) (line ∷ []) b.more) ∙ b.whole.lines))
 
--- all lines of the text, and what stands behind them
+-- all lines of the text, and what stands after them
 pub whole_counts : (bytes rest rest' : List ℕ) (n : ℕ) (cs : List ℕ) → length cs ≡ n → bytes ≡ weights_line n ++ 10 ∷ rest → rest ≡ text_of (map count_line cs) ++ rest' → bytes ≡ text_of (weights_lines cs) ++ rest'
 whole_counts bytes rest rest' n cs all e f = spelled_counts bytes rest rest' n cs e f ∙ ap (λ k. text_of (weights_line k ∷ map count_line cs) ++ rest') (sym all)
 

@@ -76,7 +76,7 @@ first_stop bytes h = record {
 pub one_line_text : (line rest : List ℕ) → line ++ 10 ∷ rest ≡ text_of (line ∷ []) ++ rest
 one_line_text line rest = sym (text_of-cons line [] rest)
 
--- the bytes behind the first line and some counts
+-- the bytes after the first line and some counts
 pub spelled_counts : (bytes rest rest' : List ℕ) (n : ℕ) (cs : List ℕ) → bytes ≡ weights_line n ++ 10 ∷ rest → rest ≡ text_of (map count_line cs) ++ rest' → bytes ≡ text_of (weights_line n ∷ map count_line cs) ++ rest'
 spelled_counts bytes rest rest' n cs e f =
     e ∙ ap (λ r. weights_line n ++ 10 ∷ r) f ∙ sym (text_of-cons (weights_line n) (map count_line cs) rest')

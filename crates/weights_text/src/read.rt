@@ -25,7 +25,7 @@ pub enum WeightsError {
     Bad(u32),
 }
 
-// The number of at most `most` behind this name, where the line is these two parts.
+// The number of at most `most` after this name, where the line is these two parts.
 fn counted_of(line: &[u8], name: &[u8], most: u64) -> Option<u64>
     requires { Lacks 32 name.now }
     ensures some { IfSome result (λ n. (n ≤ most) × (line.now ≡ parted (name.now ∷ decimal n ∷ []))) }
@@ -123,7 +123,7 @@ fn weights_of(alloc: Global, bytes: &[u8]) -> Result<Weights, WeightsError>
 
 /// Reads the weights of a text: the weight of a label is its count, raised to 1 or lowered to 1,023.
 ///
-/// Each answer but want of memory, which may come for any text, comes exactly where its clauses say.
+/// Each answer but memory exhaustion, which may come for any text, comes exactly where its clauses say.
 pub fn read_weights(alloc: Global, bytes: &[u8]) -> Result<Weights, WeightsError>
     ensures gives { IfOk result (λ w. (counts : List ℕ) × Gives bytes.now counts × (w ≡ map clamped counts)) }
     ensures refuses { IfErr result (IsTrueError bytes.now) }

@@ -1,13 +1,13 @@
 //! Solves a 0-1 program and writes the report: `zo_bench PROGRAM REPORT`.
 //!
 //! Ends with 0 where the report was written, 2 where the words are no command, 3 where the program can't be read, 4 where the
-//! report can't be written, 5 for want of memory, 6 where the file isn't a program's text.
+//! report can't be written, 5 for memory exhaustion, 6 where the file isn't a program's text.
 #![tactic(auto)]
 
 use nv_outside::DiskFiles;
 use std::env;
 use std::process::ExitCode;
-use zo_report::{Failure, solve_file};
+use zo_files::{Failure, solve_file};
 
 fn main(rt: HostRuntime) -> ExitCode {
     let words = match env::args(&rt) {

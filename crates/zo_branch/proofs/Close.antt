@@ -10,19 +10,19 @@ use Rattle.zo_model.specs.declared.program.Row.{Row}
 use Rattle.zo_model.specs.declared.program.ZeroOne.{ZeroOne}
 use Rattle.zo_model.proofs.Rows.{rise_below}
 use Rattle.zo_model.proofs.Sums.{sum_below-same, sum_below-add, sum_below-le}
-use Rattle.zo_leaf.specs.Certificate.{bound, column_part, least_part, least_sum, weight, coefficient, terms_of, least_of, Closes, unfixed}
-use Rattle.zo_leaf.specs.Fixing.{is_one, ones}
-use Rattle.zo_leaf.specs.Node.{IsNode, AreMultipliers}
-use Rattle.zo_leaf.specs.Searched.{reach, reach_part, IsInReach, IsOpen}
-use Rattle.zo_leaf.specs.declared.cert.CertNode.{CertNode}
-use Rattle.zo_leaf.specs.declared.cert.CertNode.TheVariants.{Branch, Bound, Clash, Left}
-use Rattle.zo_leaf.specs.declared.cert.Claim.{Claim}
-use Rattle.zo_leaf.specs.declared.cert.Claim.TheVariants.{Least, Nothing}
-use Rattle.zo_leaf.proofs.Drain.{bound_is, changes_clear, sum_below-change}
-use Rattle.zo_leaf.proofs.Duality.{sum_zero}
+use Rattle.zo_proof.specs.Certificate.{bound, column_part, least_part, least_sum, weight, coefficient, terms_of, least_of, ClosesLeaf, unfixed}
+use Rattle.zo_proof.specs.Fixing.{is_one, ones}
+use Rattle.zo_proof.specs.Node.{IsNode, AreMultipliers}
+use Rattle.zo_proof.specs.Searched.{reach, reach_part, IsInReach, IsOpen}
+use Rattle.zo_proof.specs.declared.cert.CertNode.{CertNode}
+use Rattle.zo_proof.specs.declared.cert.CertNode.TheVariants.{Branch, Bound, Clash, Left}
+use Rattle.zo_proof.specs.declared.cert.Claim.{Claim}
+use Rattle.zo_proof.specs.declared.cert.Claim.TheVariants.{Least, Nothing}
+use Rattle.zo_proof.proofs.Drain.{bound_is, changes_clear, sum_below-change}
+use Rattle.zo_proof.proofs.Duality.{sum_zero}
 use Rattle.std.proofs.lemmas.Option.{get_or_from_slice_get}
 use Rattle.std.proofs.lemmas.Bool.{eq-eqb, ne_eqb}
-use Rattle.zo_leaf.proofs.Leaves.{weight-none, least_sum-none}
+use Rattle.zo_proof.proofs.Leaves.{weight-none, least_sum-none}
 use Rattle.zo_state.specs.Pick.{HasFree}
 use Rattle.zo_state.specs.inner.Better.{CostsAsMuch}
 use Rattle.zo_branch.specs.inner.Node.{IsPlainBound, IsClashOf}
@@ -38,7 +38,7 @@ plain_bound z fixed =
     let l = least_sum-none z in
     omega (arith, ints)
 
-pub plain_closes : (z : ZeroOne) (claim : Claim) (fixed : List (Option Bool)) (n : CertNode) → IsPlainBound n → CostsAsMuch claim (cost_of z (ones fixed)) → Closes z claim fixed n
+pub plain_closes : (z : ZeroOne) (claim : Claim) (fixed : List (Option Bool)) (n : CertNode) → IsPlainBound n → CostsAsMuch claim (cost_of z (ones fixed)) → ClosesLeaf z claim fixed n
 plain_closes z (Least t) fixed (Bound d ms) e h =
     let b : bound z d ms.items fixed ≡ pos (cost_of z (ones fixed)) = ap (λ k. bound z k ms.items fixed) e.0 ∙ ap (λ l. bound z 1 l fixed) e.1 ∙ plain_bound z fixed in
     let k : pos d *ℤ (pos t -ℤ pos 1) ≡ pos 1 *ℤ (pos t -ℤ pos 1) = ap (λ k. pos k *ℤ (pos t -ℤ pos 1)) e.0 in
@@ -148,7 +148,7 @@ row_at P (x ∷ xs) (suc i) r h e = row_at P xs i r (All-tail P x xs h) e
 not_le : (a b : ℤ) → (a ≤ℤ b → ⊥) → b <ℤ a
 not_le a b h = by_lt_z b a (λ lt. lt) (λ le. absurd (h le))
 
-pub clash_closes : (z : ZeroOne) (claim : Claim) (fixed : List (Option Bool)) (i : ℕ) (n : CertNode) → IsValid z → IsClashOf i n → i < length z.rows.items → IfSome (slice_get z.rows.items i) (λ r. IsInReach fixed r → ⊥) → Closes z claim fixed n
+pub clash_closes : (z : ZeroOne) (claim : Claim) (fixed : List (Option Bool)) (i : ℕ) (n : CertNode) → IsValid z → IsClashOf i n → i < length z.rows.items → IfSome (slice_get z.rows.items i) (λ r. IsInReach fixed r → ⊥) → ClosesLeaf z claim fixed n
 clash_closes z claim fixed i (Clash ms) valid e lt out =
     let t = there z.rows.items i lt in
     let r : Row = t.0 in

@@ -3,17 +3,17 @@ use Rattle.std.proofs.Common.{◌≡◌, ◌≢◌, ℕ, ◌-◌, ◌<◌, ◌�
 use Rattle.std.specs.Borrow.{Bor}
 use Rattle.zo_model.specs.Program.{cost_of}
 use Rattle.zo_model.specs.declared.program.ZeroOne.{ZeroOne}
-use Rattle.zo_leaf.specs.Certificate.{Closes, IsLeaf}
-use Rattle.zo_leaf.specs.Fixing.{ones}
-use Rattle.zo_leaf.specs.inner.Path.{Pending, current}
-use Rattle.zo_leaf.specs.Node.{IsNode}
-use Rattle.zo_leaf.specs.Searched.{IsMet, IsNoBetter, IsOpen}
-use Rattle.zo_leaf.specs.inner.Walk.{MayCome}
-use Rattle.zo_leaf.specs.declared.cert.CertNode.{CertNode}
-use Rattle.zo_leaf.specs.declared.cert.CertNode.TheVariants.{Branch, Bound, Clash, Left}
-use Rattle.zo_leaf.specs.declared.cert.Claim.{Claim}
-use Rattle.zo_leaf.specs.declared.cert.Claim.TheVariants.{Least, Nothing}
-use Rattle.zo_leaf.specs.declared.path.Fixed.{Fixed}
+use Rattle.zo_proof.specs.Certificate.{ClosesLeaf, IsLeaf}
+use Rattle.zo_proof.specs.Fixing.{ones}
+use Rattle.zo_proof.specs.inner.Path.{Pending, current}
+use Rattle.zo_proof.specs.Node.{IsNode}
+use Rattle.zo_proof.specs.Searched.{IsMet, IsNoBetter, IsOpen}
+use Rattle.zo_proof.specs.inner.Walk.{MayCome}
+use Rattle.zo_proof.specs.declared.cert.CertNode.{CertNode}
+use Rattle.zo_proof.specs.declared.cert.CertNode.TheVariants.{Branch, Bound, Clash, Left}
+use Rattle.zo_proof.specs.declared.cert.Claim.{Claim}
+use Rattle.zo_proof.specs.declared.cert.Claim.TheVariants.{Least, Nothing}
+use Rattle.zo_proof.specs.declared.path.Fixed.{Fixed}
 use Rattle.zo_state.specs.Pick.{Answers}
 use Rattle.zo_state.specs.inner.Better.{CostsAsMuch, IsAtMostStart}
 use Rattle.zo_branch.specs.Nodes.{CostsLess}
@@ -43,25 +43,25 @@ costs_less z None claim fixed a h = tt
 costs_less z (Some s) (Least t) fixed a h = omega arith
 costs_less z (Some s) Nothing fixed a h = absurd a
 
-good_leaf : (z : ZeroOne) (start : Option ℕ) (answers : List (Option Bool) → ℕ → Type 0) (claim : Claim) (fixed : List (Option Bool)) (n : CertNode) → Closes z claim fixed n → IsNode n → IsNoBetter z claim fixed n → IsGood z start answers claim fixed n
+good_leaf : (z : ZeroOne) (start : Option ℕ) (answers : List (Option Bool) → ℕ → Type 0) (claim : Claim) (fixed : List (Option Bool)) (n : CertNode) → ClosesLeaf z claim fixed n → IsNode n → IsNoBetter z claim fixed n → IsGood z start answers claim fixed n
 good_leaf z start answers claim fixed (Branch j) c w b = absurd c
 good_leaf z start answers claim fixed (Bound d ms) c w b = record { open_is_open = tt; no_better = b; closed = c; within = w; picked = tt; below = tt }
 good_leaf z start answers claim fixed (Clash ms) c w b = record { open_is_open = tt; no_better = b; closed = c; within = w; picked = tt; below = tt }
 good_leaf z start answers claim fixed Left c w b = absurd c
 
-leaf_of : (z : ZeroOne) (claim : Claim) (fixed : List (Option Bool)) (n : CertNode) → Closes z claim fixed n → IsLeaf n
+leaf_of : (z : ZeroOne) (claim : Claim) (fixed : List (Option Bool)) (n : CertNode) → ClosesLeaf z claim fixed n → IsLeaf n
 leaf_of z claim fixed (Branch j) c = absurd c
 leaf_of z claim fixed (Bound d ms) c = tt
 leaf_of z claim fixed (Clash ms) c = tt
 leaf_of z claim fixed Left c = tt
 
-closed_leaves_left : (z : ZeroOne) (claim : Claim) (fixed : List (Option Bool)) (n : CertNode) (left : ℕ) → Closes z claim fixed n → Leaves n left left
+closed_leaves_left : (z : ZeroOne) (claim : Claim) (fixed : List (Option Bool)) (n : CertNode) (left : ℕ) → ClosesLeaf z claim fixed n → Leaves n left left
 closed_leaves_left z claim fixed (Branch j) left c = absurd c
 closed_leaves_left z claim fixed (Bound d ms) left c = refl
 closed_leaves_left z claim fixed (Clash ms) left c = refl
 closed_leaves_left z claim fixed Left left c = absurd c
 
-pub closed_steps : (z : ZeroOne) (start : Option ℕ) (answers : List (Option Bool) → ℕ → Type 0) (claim : Claim) (n : CertNode) (old new : Pending) (ns ns' : List CertNode) (left : ℕ) → Puts n old new ns ns' → old.fixings ≢ [] → Closes z claim (current old.fixings) n → IsNode n → IsNoBetter z claim (current old.fixings) n → Steps (IsGood z start answers claim) old.fixings new.fixings ns ns' left left
+pub closed_steps : (z : ZeroOne) (start : Option ℕ) (answers : List (Option Bool) → ℕ → Type 0) (claim : Claim) (n : CertNode) (old new : Pending) (ns ns' : List CertNode) (left : ℕ) → Puts n old new ns ns' → old.fixings ≢ [] → ClosesLeaf z claim (current old.fixings) n → IsNode n → IsNoBetter z claim (current old.fixings) n → Steps (IsGood z start answers claim) old.fixings new.fixings ns ns' left left
 closed_steps z start answers claim n old new ns ns' left puts some c w b = record {
   node = n;
   longer = puts.longer;

@@ -8,11 +8,11 @@ use crate::tree::Tree;
 use std::alloc::{AllocError, Global};
 use std::mem;
 use zo_model::ZeroOne;
-use zo_rounds::ONE;
+use zo_relaxation::ONE;
 
 /// Moves of the columns are at least this.
 const TOLERANCE: i64 = ONE >> 12;
-/// So many rounds behind each choice, so many at the end, and so many in a test.
+/// So many rounds after each choice, so many at the end, and so many in a test.
 const NEXT: u32 = 20;
 
 const LAST: u32 = 200;

@@ -5,19 +5,18 @@
 
 ghost use Rattle.std.specs.Prelude.{◌≡◌, ◌≢◌, [], IfOk, IfSome};
 ghost use Rattle.zo_model.specs.Program.{IsValid, columns};
-ghost use Rattle.zo_leaf.specs.Certificate.{Closes};
-ghost use Rattle.zo_leaf.specs.inner.Leaf.{IsClear};
-ghost use Rattle.zo_leaf.specs.inner.Path.{current};
-ghost use Rattle.zo_leaf.specs.Node.{IsNode};
+ghost use Rattle.zo_proof.specs.Certificate.{ClosesLeaf};
+ghost use Rattle.zo_proof.specs.inner.Leaf.{IsClear};
+ghost use Rattle.zo_proof.specs.inner.Path.{current};
+ghost use Rattle.zo_proof.specs.Node.{IsNode};
 
 use crate::order::Order;
 use crate::tree::Tree;
 use std::alloc::{AllocError, Global};
-use zo_leaf::path::Path;
-use zo_leaf::{CertNode, Claim, is_node};
 use zo_model::ZeroOne;
-use zo_rounds::{ONE, quotient};
-use zo_tree::closes;
+use zo_proof::path::Path;
+use zo_proof::{CertNode, Claim, closes, is_node};
+use zo_relaxation::{ONE, quotient};
 
 /// The denominators, and that of the greatest power of two.
 const DENOMINATORS: [u32; 5] = [1, 2, 4, 1_024, 0];
@@ -124,7 +123,7 @@ fn tried(
     requires more { path.now.fixings ≢ [] }
     requires clear { IsClear (columns z.now) weights.old }
     ensures clear { IsClear (columns z.now) weights.new }
-    ensures closes { IfSome result (λ n. Closes z.now claim.now (current path.now.fixings) n) }
+    ensures closes { IfSome result (λ n. ClosesLeaf z.now claim.now (current path.now.fixings) n) }
     ensures within { IfSome result IsNode }
 {
     if is_node(&node) {
@@ -149,7 +148,7 @@ fn closing(
     requires more { path.now.fixings ≢ [] }
     requires clear { IsClear (columns z.now) weights.old }
     ensures clear { IsClear (columns z.now) weights.new }
-    ensures closes { IfOk result (λ leaf. IfSome leaf (λ n. Closes z.now claim.now (current path.now.fixings) n)) }
+    ensures closes { IfOk result (λ leaf. IfSome leaf (λ n. ClosesLeaf z.now claim.now (current path.now.fixings) n)) }
     ensures within { IfOk result (λ leaf. IfSome leaf IsNode) }
 {
     for denominator in DENOMINATORS {
@@ -176,7 +175,7 @@ pub fn leaf_of(
     requires more { path.now.fixings ≢ [] }
     requires clear { IsClear (columns z.now) weights.old }
     ensures clear { IsClear (columns z.now) weights.new }
-    ensures closes { IfOk result (λ leaf. IfSome leaf (λ n. Closes z.now claim.now (current path.now.fixings) n)) }
+    ensures closes { IfOk result (λ leaf. IfSome leaf (λ n. ClosesLeaf z.now claim.now (current path.now.fixings) n)) }
     ensures within { IfOk result (λ leaf. IfSome leaf IsNode) }
 {
     if order.shows(z, claim, &path.fixed().at)? {

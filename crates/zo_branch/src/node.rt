@@ -2,11 +2,11 @@
 
 ghost use Rattle.std.specs.Prelude.{◌≡◌, ◌≢◌, [], Some, None, IfOk, length, slice_get};
 ghost use Rattle.zo_model.specs.Program.{IsValid, columns};
-ghost use Rattle.zo_leaf.specs.Certificate.{IsLeaf};
-ghost use Rattle.zo_leaf.specs.inner.Leaf.{IsClear};
-ghost use Rattle.zo_leaf.specs.inner.Path.{current};
-ghost use Rattle.zo_leaf.specs.Searched.{IsOpen};
-ghost use Rattle.zo_leaf.specs.declared.cert.CertNode.TheVariants as certs;
+ghost use Rattle.zo_proof.specs.Certificate.{IsLeaf};
+ghost use Rattle.zo_proof.specs.inner.Leaf.{IsClear};
+ghost use Rattle.zo_proof.specs.inner.Path.{current};
+ghost use Rattle.zo_proof.specs.Searched.{IsOpen};
+ghost use Rattle.zo_proof.specs.declared.cert.CertNode.TheVariants as certs;
 ghost use Rattle.zo_state.specs.Pick.{Answers, CanPick};
 ghost use Rattle.zo_state.specs.inner.Better.{IsBest, IsWeaker};
 ghost use Rattle.zo_branch.specs.inner.Node.{IsClashOf, IsGood, IsPlainBound, Puts, Steps};
@@ -14,12 +14,12 @@ ghost use Rattle.zo_branch.specs.inner.Node.{IsClashOf, IsGood, IsPlainBound, Pu
 use crate::leaf::leaf_of;
 use crate::order::Order;
 use std::alloc::{AllocError, Global};
-use zo_leaf::path::Path;
-use zo_leaf::{CertNode, Fixed};
 use zo_model::ZeroOne;
+use zo_proof::path::Path;
+use zo_proof::{CertNode, Fixed};
 use zo_state::{Best, Pick, Sums, costs_as_much};
 
-/// Puts a leaf behind the other nodes, and leaves its place.
+/// Puts a leaf after the other nodes, and leaves its place.
 fn put(node: CertNode, path: &mut Path, nodes: &mut Vec<CertNode>) -> Result<(), AllocError>
     requires more { path.old.fixings ≢ [] }
     requires leaf { IsLeaf node }
@@ -30,7 +30,7 @@ fn put(node: CertNode, path: &mut Path, nodes: &mut Vec<CertNode>) -> Result<(),
     Ok(())
 }
 
-/// Puts a branch behind the other nodes, and goes into its arms.
+/// Puts a branch after the other nodes, and goes into its arms.
 fn put_branch(column: u32, path: &mut Path, nodes: &mut Vec<CertNode>) -> Result<(), AllocError>
     requires more { path.old.fixings ≢ [] }
     requires free { slice_get (current path.old.fixings) column ≡ Some None }

@@ -10,8 +10,8 @@ use crate::tree::Tree;
 use std::alloc::{AllocError, Global};
 use std::cell::RefCell;
 use zo_dive::{begin, improve_again};
-use zo_leaf::{CertNode, Claim, Fixed};
 use zo_model::{Assignment, NoMemory, ZeroOne};
+use zo_proof::{CertNode, Claim, Fixed};
 use zo_state::Best;
 use zo_state::pick::least_free;
 

@@ -4,16 +4,16 @@
 //! scores, until the best score is at least the next old one; and first the column of the last node of this depth, which is
 //! kept while its score holds. Where no probe gains, a core names the column.
 
-use crate::tree::{DOUBT, Hint, Tree};
+use crate::tree::{FRACTION_LIMIT, Hint, Tree};
 use std::alloc::{AllocError, Global};
 use zo_model::ZeroOne;
-use zo_rounds::{ONE, quotient};
+use zo_relaxation::{ONE, quotient};
 
 /// The probes at the first branch visit so much.
 const WORK: u64 = 60_000_000;
 /// So many of them tell what one visits.
 const SAMPLE: usize = 16;
-/// At each later branch so many columns are probed at the most.
+/// At each later branch N columns are probed at the most.
 const PROBES: u32 = 200;
 /// A column that is nearer to 0 or 1 than this isn't kept for a neighbouring node.
 const MIDDLE: i64 = ONE / 5;
@@ -21,8 +21,8 @@ const MIDDLE: i64 = ONE / 5;
 const LITTLE: i64 = (ONE / 32) * (ONE / 32) / 1_024;
 
 impl Tree {
-    /// Puts the columns in doubt of a row behind the others.
-    fn add_doubtful(
+    /// Puts the columns in doubt of a row after the others.
+    fn add_fractional(
         &mut self,
         terms: &[(u32, i32)],
         columns: &mut Vec<u32>,
@@ -31,7 +31,7 @@ impl Tree {
             if let Some(seen) = self.seen.get_mut(*j as usize) {
                 if *seen != self.stamp && self.rounds.is_free(*j) {
                     *seen = self.stamp;
-                    if self.rounds.doubt(*j) >= DOUBT {
+                    if self.rounds.fractionality(*j) >= FRACTION_LIMIT {
                         columns.push(*j)?;
                     }
                 }
@@ -41,12 +41,12 @@ impl Tree {
     }
 
     /// The columns in doubt that stand in rows that aren't met.
-    fn doubtful(&mut self, alloc: Global, z: &ZeroOne) -> Result<Vec<u32>, AllocError> {
+    fn fractional(&mut self, alloc: Global, z: &ZeroOne) -> Result<Vec<u32>, AllocError> {
         self.stamp = self.stamp.wrapping_add(1);
         let mut columns = Vec::new(alloc);
         for (i, row) in z.rows.iter().enumerate() {
             if !self.rounds.is_row_met(i) {
-                self.add_doubtful(&row.terms, &mut columns)?;
+                self.add_fractional(&row.terms, &mut columns)?;
             }
         }
         self.rounds.spend(z.rows.len());
@@ -58,7 +58,7 @@ impl Tree {
         let Some(hint) = self.hints.get(self.depth()).copied() else {
             return Ok(None);
         };
-        if !self.rounds.is_free(hint.column) || self.rounds.doubt(hint.column) < MIDDLE {
+        if !self.rounds.is_free(hint.column) || self.rounds.fractionality(hint.column) < MIDDLE {
             return Ok(None);
         }
         let score = self.probe(z, hint.column, need)?;
@@ -80,7 +80,7 @@ impl Tree {
             let key = if by_score {
                 self.score_of(*j)
             } else {
-                self.rounds.doubt(*j)
+                self.rounds.fractionality(*j)
             };
             keys.push((key.wrapping_neg(), k, *j))?;
         }
@@ -195,7 +195,7 @@ impl Tree {
         if !self.may_go_on() {
             return Ok(self.wanted(z));
         }
-        let columns = self.doubtful(alloc, z)?;
+        let columns = self.fractional(alloc, z)?;
         if columns.is_empty() {
             return Ok(self.wanted(z));
         }

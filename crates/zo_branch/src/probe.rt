@@ -4,7 +4,7 @@ use crate::tree::Tree;
 use std::alloc::AllocError;
 use std::mem;
 use zo_model::ZeroOne;
-use zo_rounds::ONE;
+use zo_relaxation::ONE;
 
 /// So many rounds go in an arm, by moves of this size.
 const ROUNDS: u32 = 80;

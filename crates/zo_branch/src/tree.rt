@@ -2,11 +2,11 @@
 
 use std::alloc::{AllocError, Global};
 use zo_dive::needed;
-use zo_leaf::{CertNode, Claim};
 use zo_model::ZeroOne;
-use zo_rounds::{ONE, Rounds};
+use zo_proof::{CertNode, Claim};
+use zo_relaxation::{ONE, Rounds};
 
-/// The rounds of the tree visit so many columns, rows and terms; after that nodes are closed without multipliers.
+/// The rounds of the tree visit N columns, rows and terms; after that nodes are closed without multipliers.
 const WORK: u64 = 1_000_000_000;
 /// All leaves have so many multipliers, so that a report stays loadable.
 const MULTIPLIERS: usize = 4_000_000;
@@ -341,4 +341,4 @@ impl Tree {
 }
 
 /// A column is in doubt from here on.
-pub const DOUBT: i64 = ONE / 20;
+pub const FRACTION_LIMIT: i64 = ONE / 20;

@@ -5,9 +5,9 @@ use Rattle.std.proofs.lemmas.List.{length-append, map-append}
 use Rattle.std.proofs.lemmas.List.Elements.{All-push}
 use Rattle.line_text.specs.Line.{text_of}
 use Rattle.line_text.proofs.SplitLaws.{text_of-push}
-use Rattle.zo_leaf.specs.Node.{Node, branch_on, bound_by, clash_of, left_open, node_line, IsNodeText}
+use Rattle.zo_proof.specs.Node.{Node, branch_on, bound_by, clash_of, left_open, node_line, IsNodeText}
 
--- so many nodes were read
+-- N nodes were read
 pub record HasNodes (bytes rest : List ℕ) (nodes : List Node) (first number : ℕ) : Type 0 where
   pub fit : All IsNodeText nodes
   pub spelled : bytes ≡ text_of (map node_line nodes) ++ rest

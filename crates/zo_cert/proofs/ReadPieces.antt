@@ -2,7 +2,7 @@
 use Rattle.std.proofs.Common.{◌≡◌, ℕ, zero, suc, ◌+◌, ◌<◌, ◌≤◌, List, [], ◌∷◌, ◌++◌, length, get_or, set, replicate, map, refl, sym, ap, ◌∙◌, subst, append_assoc, codes, decimal, Bool, true, false, arith, add-one}
 use Rattle.std.proofs.lemmas.List.{append-nil, map-append, length-set}
 use Rattle.line_text.specs.Line.{parts}
-use Rattle.zo_leaf.proofs.ReadMultipliers.{line_of_parts}
+use Rattle.zo_proof.proofs.ReadMultipliers.{line_of_parts}
 use Rattle.zo_cert.specs.ReportText.{ones_from, x_line}
 
 pub ones-none : (i : ℕ) (xs : List Bool) → ((k : ℕ) → get_or xs k false ≡ false) → ones_from i xs ≡ []
@@ -10,7 +10,7 @@ ones-none i [] h = refl
 ones-none i (true ∷ xs) h = let e : true ≡ false = h 0 in cc
 ones-none i (false ∷ xs) h = ones-none (suc i) xs (λ k. h (suc k))
 
--- one column more that is 1, behind all others
+-- one column more that is 1, after all others
 pub ones-set : (i : ℕ) (xs : List Bool) (j : ℕ) → j < length xs → ((k : ℕ) → j ≤ k → get_or xs k false ≡ false) → ones_from i (set xs j true) ≡ ones_from i xs ++ (j + i) ∷ []
 ones-set i [] j lt h = absurd (omega arith)
 ones-set i (true ∷ xs) zero lt h = let e : true ≡ false = h 0 (omega arith) in cc

@@ -1,4 +1,4 @@
--- where the reader of a report stops behind the tree, and its answers
+-- where the reader of a report stops after the tree, and its answers
 use Rattle.std.proofs.Common.{◌≡◌, ℕ, zero, suc, ◌+◌, ◌*◌, ◌^◌, ◌<◌, ◌≤◌, List, [], ◌∷◌, ◌++◌, length, get_or, map, refl, sym, ap, ◌∙◌, subst, arith, append_assoc, Bool, true, false, Result, Ok, Err, IfOk, IfErr}
 use Rattle.std.specs.List.{All}
 use Rattle.std.proofs.lemmas.List.{append-nil, length-map}
@@ -14,13 +14,13 @@ use Rattle.zo_model.specs.declared.error.ZoError.{ZoError}
 use Rattle.zo_model.specs.declared.error.ZoError.TheVariants.{NoMemory, Bad}
 use Rattle.zo_model.proofs.ExactLemmas.{valid_from_contents}
 use Rattle.zo_cert.specs.Contents.{ReportContents, report_contents}
-use Rattle.zo_leaf.specs.Node.{node_contents, IsNode, IsNodeText}
+use Rattle.zo_proof.specs.Node.{node_contents, IsNode, IsNodeText}
 use Rattle.zo_cert.specs.Report.{IsBlank, IsValidReport}
 use Rattle.zo_cert.specs.ReportText.{verdict_lines, report_lines, report_text}
 use Rattle.zo_cert.specs.ReportFault.{IsReport, HasCost, front_lines, stated_lines, tree_lines, AreStatedLines, IsMisstated, IsFirstReportFault, wrong_cost, wrong_line}
 use Rattle.zo_cert.specs.ReportAnswer.{IsTrueReportRefusal, AnswersReport, AnswersFault}
-use Rattle.zo_leaf.specs.declared.cert.CertNode.{CertNode}
-use Rattle.zo_leaf.specs.declared.cert.CertNode.TheVariants.{Branch, Bound, Clash, Left}
+use Rattle.zo_proof.specs.declared.cert.CertNode.{CertNode}
+use Rattle.zo_proof.specs.declared.cert.CertNode.TheVariants.{Branch, Bound, Clash, Left}
 use Rattle.zo_cert.specs.declared.report.Report.{Report}
 use Rattle.zo_cert.specs.declared.report.Verdict.{Verdict}
 use Rattle.zo_cert.specs.declared.report.Verdict.TheVariants as verdicts
@@ -45,7 +45,7 @@ cost_small (suc n) costs x h =
     let ih : cost_below n costs x ≤ n * 2 ^ 20 = cost_small n costs x h in
     omega (arith, ih, where_small (x n) (get_or costs n 0), index_small costs n h)
 
--- ---- behind the tree
+-- ---- after the tree
 
 -- the cost that a report's verdict states
 abbrev pub its_cost : ReportContents → ℕ

@@ -9,7 +9,7 @@ use Rattle.zo_model.specs.declared.error.ZoError.{ZoError}
 use Rattle.zo_model.specs.declared.error.ZoError.TheVariants.{NoMemory, Bad}
 use Rattle.zo_model.proofs.FaultLemmas.{spelled_more}
 use Rattle.zo_model.proofs.LineLemmas.{no_line_weaker}
-use Rattle.zo_leaf.specs.Node.{left_open}
+use Rattle.zo_proof.specs.Node.{left_open}
 use Rattle.zo_cert.specs.Report.{IsBlank}
 use Rattle.zo_cert.specs.ReportFault.{AreInLimits, HasCost, front_lines, stated_lines, tree_lines, AreStatedLines, IsMisstated, IsFirstReportFault, wrong_cost}
 use Rattle.zo_cert.specs.ReportAnswer.{IsTrueReportRefusal}
@@ -77,7 +77,7 @@ height_from_initial verdicts.Spent verdicts.Feasible e = absurd (omega (arith, e
 height_from_initial verdicts.Spent verdicts.Infeasible e = refl
 height_from_initial verdicts.Spent verdicts.Spent e = refl
 
--- what begins a verdict begins a report, behind the program
+-- what begins a verdict begins a report, after the program
 verdict_up : (s b : ℕ) (p : Contents) (ls : List (List ℕ)) → AreInLimits s b p → Begins (AreVerdictLines (length p.costs)) ls → Begins AreStatedLines (front_lines s b p ++ ls)
 verdict_up s b p ls h g =
     let w = g.whole in
@@ -186,7 +186,7 @@ tree_up s b p v c on ls h g =
       };
     }
 
--- what stands behind the verdict of such lines
+-- what stands after the verdict of such lines
 pub behind_verdict : (s b : ℕ) (p : Contents) (v : Verdict) (c : ℕ) (on : List Bool) (s' b' : ℕ) (q : Contents) (w : Verdict) (d : ℕ) (ys : List Bool) (xs tail : List (List ℕ)) → AreBefore s b p v c on → AreInLimits s' b' q → d < 2 ^ 64 → length ys ≡ length q.costs → (front_lines s b p ++ stated_lines v c on) ++ xs ≡ front_lines s' b' q ++ (stated_lines w d ys ++ tail) → (p ≡ q) × SameVerdict v w c d on ys xs tail
 behind_verdict s b p v c on s' b' q w d ys xs tail h k small l e =
     let peeled = front_peel s b s' b' p q (stated_lines v c on ++ xs) (stated_lines w d ys ++ tail) h.in_limits k (sym (append_assoc (front_lines s b p) (stated_lines v c on) xs) ∙ e) in

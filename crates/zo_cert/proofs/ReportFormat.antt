@@ -11,7 +11,7 @@ use Rattle.line_text.proofs.FormatLaws.{begins_format}
 use Rattle.zo_model.specs.Contents.{Contents}
 use Rattle.zo_model.specs.Program.{Rise}
 use Rattle.zo_model.proofs.ExactLemmas.{program_lack}
-use Rattle.zo_leaf.specs.Node.{Node, branch_on, bound_by, clash_of, left_open, multiplier_text, node_line, IsNodeText}
+use Rattle.zo_proof.specs.Node.{Node, branch_on, bound_by, clash_of, left_open, multiplier_text, node_line, IsNodeText}
 use Rattle.zo_cert.specs.Contents.{ReportContents}
 use Rattle.zo_cert.specs.ReportText.{counted_line, ones_from, x_line}
 use Rattle.zo_cert.specs.ReportFault.{AreInLimits, IsReport, HasCost, front_lines, stated_lines, tree_lines, AreStatedLines}
@@ -97,7 +97,7 @@ pub record SameParts (a b : ReportContents) (c d : ℕ) (xs ys : List (List ℕ)
   pub nodes : a.nodes ≡ b.nodes
   pub rest : xs ≡ ys
 
--- four lists, one behind the other
+-- four lists, one after the other
 regrouped : (a b c d : List (List ℕ)) → ((a ++ b) ++ c) ++ d ≡ a ++ (b ++ (c ++ d))
 regrouped a b c d = append_assoc (a ++ b) c d ∙ append_assoc a b (c ++ d)
 

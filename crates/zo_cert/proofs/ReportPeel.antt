@@ -12,14 +12,14 @@ use Rattle.zo_model.specs.Program.{Rise}
 use Rattle.zo_model.specs.ProgramText.{program_lines, columns_line, rows_line, cost_line, row_line, IsValidContents}
 use Rattle.zo_model.proofs.LineLemmas.{counted_one}
 use Rattle.zo_model.proofs.ExactLemmas.{program_one}
-use Rattle.zo_leaf.specs.Node.{Node, branch_on, bound_by, clash_of, left_open, multiplier_text, node_line, IsNodeText}
+use Rattle.zo_proof.specs.Node.{Node, branch_on, bound_by, clash_of, left_open, multiplier_text, node_line, IsNodeText}
 use Rattle.zo_cert.specs.ReportText.{counted_line, ones_from, x_line}
 use Rattle.zo_cert.specs.ReportFault.{AreInLimits, HasCost, front_lines, stated_lines, tree_lines}
 use Rattle.zo_cert.specs.declared.report.Verdict.{Verdict}
 use Rattle.zo_cert.specs.declared.report.Verdict.TheVariants as verdicts
 use Rattle.zo_cert.proofs.ReadPieces.{Up}
-use Rattle.zo_leaf.proofs.MultiplierLemmas.{multiplier_one}
-use Rattle.zo_leaf.proofs.NodeLineLemmas.{multipliers_lack}
+use Rattle.zo_proof.proofs.MultiplierLemmas.{multiplier_one}
+use Rattle.zo_proof.proofs.NodeLineLemmas.{multipliers_lack}
 use Rattle.zo_cert.proofs.OnesLemmas.{ones_up, ones_parts}
 
 -- lists whose fronts are as long are parted alike

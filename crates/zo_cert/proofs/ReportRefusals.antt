@@ -16,7 +16,7 @@ use Rattle.zo_model.specs.declared.error.ZoError.TheVariants.{NoMemory, Bad}
 use Rattle.zo_model.proofs.ExactLemmas.{Rest, last, line_first, rest_of}
 use Rattle.zo_model.proofs.FaultLemmas.{spelled_more}
 use Rattle.zo_model.proofs.LineLemmas.{counted_one, no_line_weaker}
-use Rattle.zo_leaf.specs.Node.{left_open, IsNodeText}
+use Rattle.zo_proof.specs.Node.{left_open, IsNodeText}
 use Rattle.zo_cert.specs.Contents.{ReportContents}
 use Rattle.zo_cert.specs.Report.{IsBlank}
 use Rattle.zo_cert.specs.ReportText.{counted_line}
@@ -98,7 +98,7 @@ stop_refusal bytes f s truly =
     refusal bytes f s.rest s.spelled (stated_format.fewer f (s.next ∷ []) s.goes_on) s.no_line
     (λ _ w. stated_ends f s.next s.goes_on.more w (subst AreStatedLines (append_assoc f (s.next ∷ []) s.goes_on.more) s.goes_on.whole)) truly
 
--- what stands behind a whole text is faulty
+-- what stands after a whole text is faulty
 pub behind_refusal : (bytes : List ℕ) (f : List (List ℕ)) (rest : List ℕ) → bytes ≡ text_of f ++ rest → AreStatedLines f → (rest ≡ [] → ⊥) → StatesTruly f → IsFirstReportFault bytes (length f + 1)
 behind_refusal bytes f rest e w some truly = refusal bytes f rest e (stated_format.whole f w) (ends (rest_of rest)) (λ z _. some z) truly
   where
@@ -147,7 +147,7 @@ front_up ls b =
 short_front : (f : List (List ℕ)) (next : List ℕ) → Begins AreFrontLines (f ++ next ∷ []) → length f < 3
 short_front f next b = omega (arith, ap length b.whole.lines, length-append (f ++ next ∷ []) b.more, length-append f (next ∷ []))
 
--- a line that goes on in a report goes on in its front
+-- a line that goes on in a report goes on in its prefix
 front_down : (f : List (List ℕ)) (line : List ℕ) → length f < 3 → Begins AreStatedLines (f ++ line ∷ []) → Begins AreFrontLines (f ++ line ∷ [])
 front_down f line fewer b =
     let w = b.whole in
@@ -180,7 +180,7 @@ front_refusal bytes (Bad n) h =
 abbrev blanks_of : Contents → List Bool
 blanks_of p = replicate (length p.costs) false
 
--- what begins a program begins a report, behind the front
+-- what begins a program begins a report, after the front
 program_up : (s b : ℕ) (ls : List (List ℕ)) → s ≤ 128 → 1 ≤ b → b ≤ 1000000 → Begins AreProgramLines ls → Begins AreStatedLines (three_lines s b ++ ls)
 program_up s b ls hs hb hb' g =
     let w = g.whole in

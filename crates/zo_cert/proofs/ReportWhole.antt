@@ -9,7 +9,7 @@ use Rattle.zo_model.specs.ProgramText.{program_lines, IsValidContents}
 use Rattle.zo_model.specs.declared.error.ZoError.{ZoError}
 use Rattle.zo_model.proofs.ExactLemmas.{contents_fit}
 use Rattle.zo_model.proofs.FaultLemmas.{spelled_more}
-use Rattle.zo_leaf.specs.Node.{node_contents, node_line, IsNodeText}
+use Rattle.zo_proof.specs.Node.{node_contents, node_line, IsNodeText}
 use Rattle.zo_cert.specs.Contents.{report_contents}
 use Rattle.zo_cert.specs.Report.{IsBlank, IsValidReport}
 use Rattle.zo_cert.specs.ReportText.{verdict_lines}
@@ -52,7 +52,7 @@ report_made q slots low high program columns blank some few fit =
       nodes_fit = fit;
     }
 
--- something stands behind it
+-- something stands after it
 pub behind_report : (bytes r3 r4 r5 r7 : List ℕ) (n3 n4 n5 n7 : ℕ) (q : Report) → IsReport (report_contents q) → bytes ≡ text_of (three_lines q.slots q.budget) ++ r3 → r3 ≡ text_of (program_lines (contents q.z)) ++ r4 → r4 ≡ text_of (verdict_lines q.verdict q.z.costs.items q.x.on.items) ++ r5
     → r5 ≡ text_of (tree_lines (map node_contents q.tree.nodes.items)) ++ r7 → (r7 ≡ [] → ⊥) → n3 ≡ 3 → n4 ≡ n3 + length (program_lines (contents q.z)) → n5 ≡ n4 + length (verdict_lines q.verdict q.z.costs.items q.x.on.items) → n7 ≡ n5 + (1 + length q.tree.nodes.items) → IsFirstReportFault bytes (n7 + 1)
 behind_report bytes r3 r4 r5 r7 n3 n4 n5 n7 q v e1 e2 e3 e4 some c1 c2 c3 c4 =

@@ -7,16 +7,16 @@ use Rattle.zo_model.specs.Contents.{Contents, contents, RowContents, row_content
 use Rattle.zo_model.specs.Program.{total, sum_below, vector, costs_of, cost_of, terms_sum, Meets, Feasible, Rise}
 use Rattle.zo_model.specs.declared.program.Row.{Row}
 use Rattle.zo_model.specs.declared.program.ZeroOne.{ZeroOne}
-use Rattle.zo_leaf.specs.Certificate.{Tree, leaf, branch, preorder, EachNode, OfLeaf, IsLeaf, Closes, Proves, IsShaped, IsWellNamed, NamesItsRows, NamesRows, IsTreeWith, branches, HasLeft, unfixed, terms_of, least_of, coefficient, weight, least_sum, least_part, bound}
-use Rattle.zo_leaf.specs.Node.{Node, branch_on, bound_by, clash_of, left_open, node_contents}
+use Rattle.zo_proof.specs.Certificate.{Tree, leaf, branch, preorder, EachNode, OfLeaf, IsLeaf, ClosesLeaf, Proves, IsShaped, IsWellNamed, NamesItsRows, NamesRows, IsTreeWith, branches, HasLeft, unfixed, terms_of, least_of, coefficient, weight, least_sum, least_part, bound}
+use Rattle.zo_proof.specs.Node.{Node, branch_on, bound_by, clash_of, left_open, node_contents}
 use Rattle.zo_cert.specs.Contents.{ReportContents, report_contents}
-use Rattle.zo_tree.specs.Spent.{IsSpent}
+use Rattle.zo_proof.specs.Spent.{IsSpent}
 use Rattle.zo_cert.specs.Report.{VerdictHolds, IsTrueReport}
-use Rattle.zo_leaf.specs.declared.cert.Cert.{Cert}
-use Rattle.zo_leaf.specs.declared.cert.CertNode.{CertNode}
-use Rattle.zo_leaf.specs.declared.cert.CertNode.TheVariants.{Branch, Bound, Clash, Left}
-use Rattle.zo_leaf.specs.declared.cert.Claim.{Claim}
-use Rattle.zo_leaf.specs.declared.cert.Claim.TheVariants.{Least, Nothing}
+use Rattle.zo_proof.specs.declared.cert.Cert.{Cert}
+use Rattle.zo_proof.specs.declared.cert.CertNode.{CertNode}
+use Rattle.zo_proof.specs.declared.cert.CertNode.TheVariants.{Branch, Bound, Clash, Left}
+use Rattle.zo_proof.specs.declared.cert.Claim.{Claim}
+use Rattle.zo_proof.specs.declared.cert.Claim.TheVariants.{Least, Nothing}
 use Rattle.zo_cert.specs.declared.report.Report.{Report}
 use Rattle.zo_cert.specs.declared.report.Verdict.{Verdict}
 use Rattle.zo_cert.specs.declared.report.Verdict.TheVariants as verdicts
@@ -76,7 +76,7 @@ LeafBy z Nothing fixed (bound_by d ms) = ⊥
 LeafBy z claim fixed (clash_of ms) = NamesRows z ms × (pos 0 <ℤ bound z 0 ms fixed)
 LeafBy z claim fixed left_open = ⊥
 
-leaf_into : (z : ZeroOne) (claim : Claim) (fixed : List (Option Bool)) (n : CertNode) → OfLeaf (Closes z claim) fixed n → LeafBy z claim fixed (node_contents n)
+leaf_into : (z : ZeroOne) (claim : Claim) (fixed : List (Option Bool)) (n : CertNode) → OfLeaf (ClosesLeaf z claim) fixed n → LeafBy z claim fixed (node_contents n)
 leaf_into z (Least t) fixed (Branch j) h = tt
 leaf_into z (Least t) fixed (Bound d ms) h = h
 leaf_into z (Least t) fixed (Clash ms) h = h
@@ -86,7 +86,7 @@ leaf_into z Nothing fixed (Bound d ms) h = h
 leaf_into z Nothing fixed (Clash ms) h = h
 leaf_into z Nothing fixed Left h = h
 
-leaf_back : (z : ZeroOne) (claim : Claim) (fixed : List (Option Bool)) (n : CertNode) → LeafBy z claim fixed (node_contents n) → OfLeaf (Closes z claim) fixed n
+leaf_back : (z : ZeroOne) (claim : Claim) (fixed : List (Option Bool)) (n : CertNode) → LeafBy z claim fixed (node_contents n) → OfLeaf (ClosesLeaf z claim) fixed n
 leaf_back z (Least t) fixed (Branch j) h = tt
 leaf_back z (Least t) fixed (Bound d ms) h = h
 leaf_back z (Least t) fixed (Clash ms) h = h
@@ -109,7 +109,7 @@ leaf_across y z e Nothing fixed (bound_by d ms) h = h
 leaf_across y z e Nothing fixed (clash_of ms) h = (names_same y z e ms h.0, subst (λ b. pos 0 <ℤ b) (bound_same y z e 0 ms fixed) h.1)
 leaf_across y z e Nothing fixed left_open h = h
 
-closes_same : (y z : ZeroOne) → contents y ≡ contents z → (claim : Claim) (fixed : List (Option Bool)) (n m : CertNode) → node_contents n ≡ node_contents m → OfLeaf (Closes y claim) fixed n → OfLeaf (Closes z claim) fixed m
+closes_same : (y z : ZeroOne) → contents y ≡ contents z → (claim : Claim) (fixed : List (Option Bool)) (n m : CertNode) → node_contents n ≡ node_contents m → OfLeaf (ClosesLeaf y claim) fixed n → OfLeaf (ClosesLeaf z claim) fixed m
 closes_same y z e claim fixed n m s h = leaf_back z claim fixed m (subst (LeafBy z claim fixed) s (leaf_across y z e claim fixed (node_contents n) (leaf_into y claim fixed n h)))
 
 -- the rows that a node names, by what it contains
@@ -217,8 +217,8 @@ rebuilt (branch j a b) (m ∷ ns) e =
 proves_same : (y z : ZeroOne) → contents y ≡ contents z → (claim : Claim) (c d : Cert) → map node_contents c.nodes.items ≡ map node_contents d.nodes.items → IsTreeWith (λ t. Proves y t claim) c → IsTreeWith (λ t. Proves z t claim) d
 proves_same y z e claim c d s (t, p, h) =
     let u = rebuilt t d.nodes.items (ap (map node_contents) p ∙ s) in
-    let begun : EachNode (OfLeaf (Closes y claim)) (unfixed z) t = subst (λ cs. EachNode (OfLeaf (Closes y claim)) (replicate (length cs) None) t) (ap (λ (k : Contents). k.costs) e) h in
-    (u.0, u.1, each_same (OfLeaf (Closes y claim)) (OfLeaf (Closes z claim)) (closes_same y z e claim) t u.0 (unfixed z) u.2 begun)
+    let begun : EachNode (OfLeaf (ClosesLeaf y claim)) (unfixed z) t = subst (λ cs. EachNode (OfLeaf (ClosesLeaf y claim)) (replicate (length cs) None) t) (ap (λ (k : Contents). k.costs) e) h in
+    (u.0, u.1, each_same (OfLeaf (ClosesLeaf y claim)) (OfLeaf (ClosesLeaf z claim)) (closes_same y z e claim) t u.0 (unfixed z) u.2 begun)
 
 shaped_same : (y z : ZeroOne) → contents y ≡ contents z → (c d : Cert) → map node_contents c.nodes.items ≡ map node_contents d.nodes.items → IsTreeWith (IsShaped y) c → IsTreeWith (IsShaped z) d
 shaped_same y z e c d s (t, p, h) =

@@ -11,9 +11,9 @@ use Rattle.zo_model.specs.declared.error.ZoError.TheVariants.{NoMemory, Bad}
 use Rattle.zo_model.proofs.LineLemmas.{counted_one, no_line_other, no_line_weaker}
 use Rattle.zo_model.proofs.FaultLemmas.{spelled_more, one_line_text}
 use Rattle.zo_model.proofs.TextLemmas.{at_map}
-use Rattle.zo_leaf.specs.Node.{Node, left_open, node_line, IsNodeText}
+use Rattle.zo_proof.specs.Node.{Node, left_open, node_line, IsNodeText}
 use Rattle.zo_cert.specs.ReportText.{counted_line}
-use Rattle.zo_leaf.specs.inner.NodeLine.{IsNodeLine}
+use Rattle.zo_proof.specs.inner.NodeLine.{IsNodeLine}
 use Rattle.zo_cert.specs.inner.ReportLine.{IsNodeFault}
 use Rattle.zo_cert.specs.inner.ReportPart.{AreFrontLines, AreTreeLines, IsStop}
 use Rattle.zo_cert.proofs.ReportFormat.{counted_lacks}
@@ -84,7 +84,7 @@ head_weaker rest number (Bad n) h =
 pub no_head : (k : ℕ) → k ≡ 0 → IsTreeHead (counted_line (codes "tree") k) → ⊥
 no_head k z b = omega (arith, z, b.1, b.2, counted_one (codes "tree") k b.0 (omega (arith, z)) (omega (arith, b.2)) b.3)
 
--- the count and some nodes begin a tree, with open nodes behind them
+-- the count and some nodes begin a tree, with open nodes after them
 begins_tree : (n : ℕ) (nodes : List Node) → 1 ≤ n → n < 2 ^ 32 → length nodes ≤ n → All IsNodeText nodes → Begins AreTreeLines (counted_line (codes "tree") n ∷ map node_line nodes)
 begins_tree n nodes some few fewer fit =
     let others = replicate (n - length nodes) left_open in

@@ -91,7 +91,7 @@ columns_next v n stated line h b =
     let r = (named_lines v w.verdict stated w.stated w.on (line ∷ b.more) h w.lines).1 in
     record { on = w.on; one_a_column = w.one_a_column; spelled = cc (r) }
 
--- what is wrong behind the name of a verdict with a cost
+-- what is wrong after the name of a verdict with a cost
 pub costed_fault : (v : Verdict) (costs bytes line rest stated : List ℕ) (number number' : ℕ) (e : ZoError) → HasCost v → line ≡ name_of v ++ stated → bytes ≡ line ++ 10 ∷ rest → Lacks 10 line → number' ≡ number + 1 → IsCostedFault costs stated number' rest number' e → IsVerdictFault costs bytes number e
 costed_fault v costs bytes line rest stated number number' NoMemory h name spelled lack counted f = tt
 costed_fault v costs bytes line rest stated number number' (Bad n) h name spelled lack counted (no_number none) =
@@ -121,7 +121,7 @@ costed_fault v costs bytes line rest stated number number' (Bad n) h name spelle
           ∙ (ap (λ l. text_of (l ∷ x_line o.on ∷ []) ++ o.back) (name ∙ ap (λ t. name_of v ++ t) s) ∙ ap (λ ls. text_of ls ++ o.back) (sym (costed_lines v c o.on h)));
     })
 
--- a line of columns that can't be read behind a verdict
+-- a line of columns that can't be read after a verdict
 pub columns_fault : (costs stated bytes : List ℕ) (at number c : ℕ) (e : ZoError) → c < 2 ^ 64 → stated ≡ decimal c → IsLineFault (IsOnesLine (length costs)) bytes number e → IsCostedFault costs stated at bytes number e
 columns_fault costs stated bytes at number c NoMemory small s h = tt
 columns_fault costs stated bytes at number c (Bad n) small s h = subst (CostedFault costs stated at bytes number) (sym h.0) (no_columns c small s h.1)

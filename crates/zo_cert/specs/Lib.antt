@@ -1,5 +1,5 @@
-pub use Rattle.zo_leaf.specs.Certificate
-pub use Rattle.zo_leaf.specs.Searched
+pub use Rattle.zo_proof.specs.Certificate
+pub use Rattle.zo_proof.specs.Searched
 pub mod Contents
 pub mod Laws
 pub mod Report

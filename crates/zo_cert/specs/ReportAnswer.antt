@@ -1,4 +1,4 @@
--- the answers of `read_report`: want of memory is an answer to any bytes
+-- the answers of `read_report`: memory exhaustion is an answer to any bytes
 use Rattle.std.specs.Prelude.{◌≡◌, ℕ, List, Result, Ok, Err}
 use Rattle.zo_cert.specs.Contents.{ReportContents, report_contents}
 use Rattle.zo_cert.specs.ReportFault.{IsFirstReportFault}
@@ -11,13 +11,13 @@ abbrev pub IsTrueReportRefusal : List ℕ → ZoError → Type 0
 IsTrueReportRefusal bytes NoMemory = Unit {0}
 IsTrueReportRefusal bytes (Bad n) = IsFirstReportFault bytes n
 
--- a report of these contents, or want of memory
+-- a report of these contents, or memory exhaustion
 abbrev pub AnswersReport : Result Report ZoError → ReportContents → Type 0
 AnswersReport (Ok q) r = report_contents q ≡ r
 AnswersReport (Err NoMemory) r = Unit {0}
 AnswersReport (Err (Bad n)) r = ⊥
 
--- a fault of line n, or want of memory
+-- a fault of line n, or memory exhaustion
 abbrev pub AnswersFault : Result Report ZoError → ℕ → Type 0
 AnswersFault (Ok q) n = ⊥
 AnswersFault (Err NoMemory) n = Unit {0}

@@ -5,7 +5,7 @@ use Rattle.line_text.specs.Format.{Begins, FirstFault}
 use Rattle.zo_model.specs.Contents.{Contents}
 use Rattle.zo_model.specs.Program.{vector, costs_of}
 use Rattle.zo_model.specs.ProgramText.{program_lines, IsValidContents}
-use Rattle.zo_leaf.specs.Node.{Node, IsNodeText, node_line}
+use Rattle.zo_proof.specs.Node.{Node, IsNodeText, node_line}
 use Rattle.zo_cert.specs.Contents.{ReportContents}
 use Rattle.zo_cert.specs.Report.{IsBlank}
 use Rattle.zo_cert.specs.ReportText.{counted_line, x_line}

@@ -4,7 +4,7 @@ use Rattle.line_text.specs.Line.{text_of, parted}
 use Rattle.zo_model.specs.Program.{vector, costs_of}
 use Rattle.zo_model.specs.ProgramText.{program_lines}
 use Rattle.zo_cert.specs.Contents.{ReportContents}
-use Rattle.zo_leaf.specs.Node.{node_line}
+use Rattle.zo_proof.specs.Node.{node_line}
 use Rattle.zo_cert.specs.declared.report.Verdict.{Verdict}
 use Rattle.zo_cert.specs.declared.report.Verdict.TheVariants as verdicts
 

@@ -1,9 +1,9 @@
 //! The numbers of a valid report keep the limits of its text: those that no test of it asks for are limits of their types.
 
 ghost use Rattle.std.specs.Prelude.{◌<◌, ◌^◌, All, map};
-ghost use Rattle.zo_leaf.specs.Node.{node_contents, IsNode, IsNodeText};
+ghost use Rattle.zo_proof.specs.Node.{node_contents, IsNode, IsNodeText};
 
-use zo_leaf::CertNode;
+use zo_proof::CertNode;
 
 /// A number keeps the limit of its type.
 fn fits(number: u32)

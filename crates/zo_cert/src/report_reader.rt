@@ -7,7 +7,7 @@ ghost use Rattle.zo_model.specs.inner.LineFault.{IsLineFault};
 ghost use Rattle.zo_model.specs.declared.error.ZoError.{ZoError};
 ghost use Rattle.zo_model.specs.declared.error.ZoError.TheVariants.{Bad};
 ghost use Rattle.zo_cert.specs.Contents.{ReportContents, report_contents};
-ghost use Rattle.zo_leaf.specs.Node.{node_contents, IsNodeText, node_line};
+ghost use Rattle.zo_proof.specs.Node.{node_contents, IsNodeText, node_line};
 ghost use Rattle.zo_cert.specs.Report.{IsBlank, IsValidReport};
 ghost use Rattle.zo_cert.specs.ReportFault.{IsReport, IsFirstReportFault};
 ghost use Rattle.zo_cert.specs.inner.ReportPart.{AreFrontLines, AreTreeLines, IsStop, IsCostedFault, IsVerdictFault};
@@ -18,9 +18,9 @@ ghost use Rattle.zo_cert.specs.ReportText.{counted_line, x_line, verdict_lines, 
 use crate::report::{Report, Verdict};
 use line_text::{Lines, Parts, read_decimal, strip};
 use std::alloc::{AllocError, Global};
-use zo_leaf::{Cert, CertNode};
 use zo_model::{Assignment, Reader, ZeroOne, ZoError, cost, read_counted, read_program_lines};
-use zo_tree::node_reader::node_of;
+use zo_proof::node_reader::node_of;
+use zo_proof::{Cert, CertNode};
 
 /// The columns that a report names are below this.
 const NAMES: u64 = 1 << 26;
@@ -51,7 +51,7 @@ fn blanks(alloc: Global, columns: usize) -> Result<Vec<bool>, AllocError>
     vec![in alloc; false; columns]
 }
 
-/// The columns that are 1, by a line of them, or `None`; or want of memory.
+/// The columns that are 1, by a line of them, or `None`; or memory exhaustion.
 fn ones_of(alloc: Global, line: &[u8], columns: usize) -> Result<Option<Vec<bool>>, AllocError>
     requires { columns ≤ 2 ^ 26 }
     ensures some { IfOk result (λ found. IfSome found (λ on. (length on.items ≡ columns) × (line.now ≡ x_line on.items))) }
@@ -106,7 +106,7 @@ fn read_ones(alloc: Global, reader: &mut Reader, columns: usize) -> Result<Assig
     }
 }
 
-/// Reads the columns that are 1 behind a verdict in line `number` that states their cost.
+/// Reads the columns that are 1 after a verdict in line `number` that states their cost.
 fn read_costed(
     alloc: Global,
     reader: &mut Reader,
@@ -133,7 +133,7 @@ fn read_costed(
     Ok(x)
 }
 
-/// Reads so many nodes.
+/// Reads N nodes.
 fn read_nodes(alloc: Global, reader: &mut Reader, count: u64) -> Result<Vec<CertNode>, ZoError>
     requires room { 2 * reader.old.number + length reader.old.lines < 2 ^ 32 }
     ensures count { IfOk result (λ nodes. length nodes.items ≡ count) }
@@ -259,7 +259,7 @@ fn read_whole(alloc: Global, bytes: &[u8]) -> Result<Report, ZoError>
 
 /// The report of a text.
 ///
-/// Want of memory may be the answer to any bytes; each other answer comes exactly where its clauses say. `Bad` names the
+/// Memory exhaustion may be the answer to any bytes; each other answer comes exactly where its clauses say. `Bad` names the
 /// first line that isn't of the format. A cost that isn't that of the columns in a line of them that can be read is a
 /// fault of the verdict's line; where that line can't be read, the fault is there. So the text of a valid report is read
 /// as that report.

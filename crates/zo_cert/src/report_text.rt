@@ -4,7 +4,7 @@ ghost use Rattle.std.specs.Prelude.{◌≡◌, ◌++◌, ◌∷◌, [], map, len
 ghost use Rattle.std.specs.List.{flat_map};
 ghost use Rattle.line_text.specs.Line.{text_of};
 ghost use Rattle.zo_model.specs.Program.{IsValid, columns, cost_of, vector};
-ghost use Rattle.zo_leaf.specs.Node.{node_contents, node_line};
+ghost use Rattle.zo_proof.specs.Node.{node_contents, node_line};
 ghost use Rattle.zo_cert.specs.Contents.{report_contents};
 ghost use Rattle.zo_cert.specs.Report.{IsValidReport};
 ghost use Rattle.zo_cert.specs.ReportFault.{IsReport};
@@ -14,10 +14,10 @@ use crate::fits::nodes_fit;
 use crate::report::{Report, Verdict};
 use line_text::push_decimal;
 use std::alloc::{AllocError, Global};
-use zo_leaf::CertNode;
-use zo_leaf::multipliers::push_counted;
 use zo_model::{NoMemory, cost, push_program};
-use zo_tree::node_text::push_node;
+use zo_proof::CertNode;
+use zo_proof::multipliers::push_counted;
+use zo_proof::node_text::push_node;
 
 /// Writes a line for each node.
 fn push_nodes(out: &mut Vec<u8>, nodes: &[CertNode]) -> Result<(), AllocError>
@@ -29,7 +29,7 @@ fn push_nodes(out: &mut Vec<u8>, nodes: &[CertNode]) -> Result<(), AllocError>
     Ok(())
 }
 
-/// Writes the column, behind a space, where it is 1.
+/// Writes the column, after a space, where it is 1.
 fn push_one(out: &mut Vec<u8>, column: usize, on: bool) -> Result<(), AllocError>
     ensures { OnOk result (out.new.items ≡ out.old.items ++ flat_map (λ j. 32 ∷ decimal j) (ones_from column (on ∷ []))) }
 {

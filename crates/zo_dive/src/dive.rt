@@ -7,7 +7,7 @@
 
 use std::alloc::{AllocError, Global};
 use zo_model::{Assignment, ZeroOne};
-use zo_rounds::{ONE, Rounds};
+use zo_relaxation::{ONE, Rounds};
 
 /// A column of at least this isn't doubtful.
 const SURE: i64 = ONE - ONE / 10;
@@ -17,7 +17,7 @@ const WRONG_LIMIT: u32 = 200;
 /// How a dive goes.
 #[derive(Clone, Copy, Drop)]
 pub struct Way {
-    /// So many rounds go behind each doubtful choice.
+    /// So many rounds go after each doubtful choice.
     pub next: u32,
     /// The vector has to cost less, in units of the costs' divisor.
     pub cutoff: i64,

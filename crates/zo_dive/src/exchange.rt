@@ -10,7 +10,7 @@ use crate::needless::costly;
 use crate::region::Region;
 use std::alloc::{AllocError, Global};
 use zo_model::ZeroOne;
-use zo_rounds::{ONE, Rounds};
+use zo_relaxation::{ONE, Rounds};
 
 /// The sizes of the regions.
 const SIZES: [usize; 5] = [300, 600, 1_200, 2_400, 4_800];
@@ -239,10 +239,10 @@ impl Exchange {
         still: u32,
     ) -> Result<(), AllocError> {
         rounds.undo(0)?;
-        rounds.place_all(&self.on)?;
+        rounds.set_all_activities(&self.on)?;
         self.cost = rounds.spent;
         rounds.run(z, 20)?;
         self.passes(alloc, z, rounds, from, still)?;
-        rounds.place_all(&[])
+        rounds.set_all_activities(&[])
     }
 }

@@ -9,10 +9,10 @@ use crate::dive::{Way, run_dive, vector};
 use crate::exchange::Exchange;
 use crate::needless::drop_needless;
 use std::alloc::{AllocError, Global};
-use zo_leaf::Claim;
 use zo_model::{Assignment, ZeroOne, feasible};
-use zo_rounds::long::Length;
-use zo_rounds::{ONE, Rounds, quotient};
+use zo_proof::Claim;
+use zo_relaxation::long::Length;
+use zo_relaxation::{ONE, Rounds, quotient};
 use zo_state::Best;
 
 /// A bound that no multipliers reach.
@@ -234,7 +234,7 @@ fn improve(
     run_second(z, best, rounds)
 }
 
-/// The best of the start and of the vectors that a dive and exchanges behind it find.
+/// The best of the start and of the vectors that a dive and exchanges after it find.
 pub fn begin(
     alloc: Global,
     z: &ZeroOne,

@@ -2,7 +2,7 @@
 
 use std::alloc::{AllocError, Global};
 use zo_model::{Row, ZeroOne};
-use zo_rounds::matrix::Matrix;
+use zo_relaxation::matrix::Matrix;
 
 /// The low half of a word.
 const LOW: u64 = 0xffff_ffff;

@@ -3,11 +3,11 @@
 
 use std::alloc::{AllocError, Global};
 use zo_model::ZeroOne;
-use zo_rounds::Rounds;
+use zo_relaxation::Rounds;
 
 /// A row of more terms is long.
 const SHORT: usize = 12;
-/// Of a long row so many columns that are 1 are taken.
+/// Of a long row N columns that are 1 are taken.
 const FEW: usize = 2;
 /// So many columns have their long rows looked at.
 const HEAD: usize = 20;

@@ -8,7 +8,7 @@ use Rattle.line_text.proofs.SplitLaws.{text_of-push}
 use Rattle.zo_model.specs.Contents.{RowContents}
 use Rattle.zo_model.specs.ProgramText.{cost_line, row_line, IsRowText}
 
--- so many columns were read
+-- N columns were read
 pub record HasCosts (bytes rest costs : List ℕ) (first number : ℕ) : Type 0 where
   pub fit : All (λ c. c < 2 ^ 20) costs
   pub spelled : bytes ≡ text_of (map cost_line costs) ++ rest
@@ -26,7 +26,7 @@ one_cost_more bytes rest rest' costs line first number c h e f small =
       room = omega (arith, h.room, ap length e, ap length f, length-append line (10 ∷ rest'), some);
     }
 
--- so many rows were read
+-- N rows were read
 pub record HasRows (n : ℕ) (bytes rest : List ℕ) (rows : List RowContents) (first number : ℕ) : Type 0 where
   pub fit : All (IsRowText n) rows
   pub spelled : bytes ≡ text_of (map row_line rows) ++ rest

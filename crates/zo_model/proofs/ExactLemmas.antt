@@ -15,7 +15,7 @@ use Rattle.zo_model.specs.Program.{IsValid, IsRow}
 use Rattle.zo_model.specs.ProgramText.{columns_line, rows_line, cost_line, row_line, term_text, program_lines, program_text, IsRowText, IsValidContents, AreProgramLines, IsFirstFault}
 use Rattle.zo_model.specs.ProgramAnswer.{IsTrueRefusal, AnswersProgram, AnswersBad}
 use Rattle.zo_model.specs.inner.LineFault.{NoLine, cut, other}
-use Rattle.zo_model.specs.inner.ProgramFault.{Stops, IsProgramFault}
+use Rattle.zo_model.specs.inner.ProgramFault.{HasFaultAfter, IsProgramFault}
 use Rattle.zo_model.specs.declared.program.Row.{Row}
 use Rattle.zo_model.specs.declared.program.ZeroOne.{ZeroOne}
 use Rattle.zo_model.specs.declared.error.ZoError.{ZoError}
@@ -153,7 +153,7 @@ pub stop_fault : (bytes : List ℕ) (e : ZoError) → IsProgramFault bytes 0 e �
 stop_fault bytes NoMemory h = tt
 stop_fault bytes (Bad k) h = subst (FirstFault (Begins AreProgramLines) AreProgramLines bytes) (sym (h.1 ∙ zero-add (length h.0 + 1))) (fault h.0 h.2 h.2.no_line)
   where
-    fault : (front : List (List ℕ)) (s : Stops bytes front) → NoLine (λ line. Begins AreProgramLines (front ++ line ∷ [])) s.rest → FirstFault (Begins AreProgramLines) AreProgramLines bytes (length front + 1)
+    fault : (front : List (List ℕ)) (s : HasFaultAfter bytes front) → NoLine (λ line. Begins AreProgramLines (front ++ line ∷ [])) s.rest → FirstFault (Begins AreProgramLines) AreProgramLines bytes (length front + 1)
     fault front s (other line back e lack none) =
         wrong front line back (s.spelled ∙ ap (λ r. text_of front ++ r) e) lack (program_format.fewer front (s.next ∷ []) s.goes_on) none
     fault front s (cut lack) =
@@ -163,7 +163,7 @@ stop_fault bytes (Bad k) h = subst (FirstFault (Begins AreProgramLines) AreProgr
         prefix_free t.whole.program s.goes_on.whole.program s.next s.goes_on.more t.whole.valid s.goes_on.whole.valid
         (ap (λ ls. ls ++ s.next ∷ s.goes_on.more) (sym (same ∙ t.whole.lines)) ∙ (sym (append_assoc front (s.next ∷ []) s.goes_on.more) ∙ s.goes_on.whole.lines)))
 
--- what stands behind a program's text is faulty
+-- what stands after a program's text is faulty
 pub more_fault : (p : Contents) (bytes rest : List ℕ) (n : ℕ) → IsValidContents p → bytes ≡ text_of (program_lines p) ++ rest → (rest ≡ [] → ⊥) → n ≡ length (program_lines p) + 1 → IsFirstFault bytes n
 more_fault p bytes rest n v e some counted = subst (FirstFault (Begins AreProgramLines) AreProgramLines bytes) (sym counted) (fault (rest_of rest))
   where

@@ -9,7 +9,7 @@ use Rattle.line_text.proofs.SplitLaws.{text_of-append, text_of-cons}
 use Rattle.zo_model.specs.Contents.{Contents, RowContents}
 use Rattle.zo_model.specs.ProgramText.{columns_line, rows_line, cost_line, row_line, program_lines, IsRowText, IsValidContents, AreProgramLines}
 use Rattle.zo_model.specs.inner.LineFault.{IsCounted, IsCost, IsRowLine, NoLine, cut, other, IsLineFault}
-use Rattle.zo_model.specs.inner.ProgramFault.{Stops, IsProgramFault, StopsAtCost, IsCostFault, StopsAtRow, IsRowFault}
+use Rattle.zo_model.specs.inner.ProgramFault.{HasFaultAfter, IsProgramFault, StopsAtCost, IsCostFault, StopsAtRow, IsRowFault}
 use Rattle.zo_model.specs.declared.error.ZoError.{ZoError}
 use Rattle.zo_model.specs.declared.error.ZoError.TheVariants.{NoMemory, Bad}
 use Rattle.zo_model.proofs.LineLemmas.{no_line_weaker}
@@ -19,7 +19,7 @@ use Rattle.zo_model.proofs.TextLemmas.{begins_costs, begins_rows, columns_next, 
 begins_fewer : (ls more : List (List ℕ)) → Begins AreProgramLines (ls ++ more) → Begins AreProgramLines ls
 begins_fewer ls more b = record { more = more ++ b.more; whole = subst AreProgramLines (append_assoc ls more b.more) b.whole }
 
--- the bytes behind some lines
+-- the bytes after some lines
 pub spelled_more : (bytes rest rest' : List ℕ) (ls ms : List (List ℕ)) → bytes ≡ text_of ls ++ rest → rest ≡ text_of ms ++ rest' → bytes ≡ text_of (ls ++ ms) ++ rest'
 spelled_more bytes rest rest' ls ms e f =
     e ∙ (ap (λ r. text_of ls ++ r) f ∙ (sym (append_assoc (text_of ls) (text_of ms) rest') ∙ ap (λ t. t ++ rest') (sym (text_of-append ls ms))))

@@ -10,7 +10,7 @@ use Rattle.zo_model.specs.inner.LineFault.{IsCounted, NoLine, cut, other}
 pub counted_parts : (name line : List ℕ) (n : ℕ) → Lacks 32 name → n < 2 ^ 64 → line ≡ parted (name ∷ decimal n ∷ []) → parts line ≡ name ∷ decimal n ∷ []
 counted_parts name line n h small e = ap parts e ∙ parts-parted name (decimal n ∷ []) (h, (Lacks-decimal 32 n (lit≤ tt) small, tt))
 
--- what stands behind the name
+-- what stands after the name
 pub counted_rest : (name line : List ℕ) (most : ℕ) (new : List (List ℕ)) → Lacks 32 name → most < 2 ^ 64 → parts line ≡ name ∷ new → (k : IsCounted name most line) → new ≡ decimal k.number ∷ []
 counted_rest name line most new h small e k =
     let f = counted_parts name line k.number h (omega (arith, k.within)) k.spelled in cc (e, f)

@@ -49,7 +49,7 @@ join3 i j k l a b c e f g = join2 i j l a (b ++ c) e (join2 j k l b c f g)
 pub join4 : (i j k l m a b c d : List ℕ) → j ≡ i ++ a → k ≡ j ++ b → l ≡ k ++ c → m ≡ l ++ d → m ≡ i ++ (a ++ (b ++ (c ++ d)))
 join4 i j k l m a b c d e f g h = join2 i j m a (b ++ (c ++ d)) e (join3 j k l m b c d f g h)
 
--- a line of parts, each behind a space
+-- a line of parts, each after a space
 pub listed_pieces : {X : Type 0} (p : List ℕ) (f : X → List ℕ) (xs : List X) → p ++ (flat_map (λ x. 32 ∷ f x) xs ++ 10 ∷ []) ≡ parted (p ∷ map f xs) ++ 10 ∷ []
 listed_pieces p f xs =
     sym (append_assoc p (flat_map (λ x. 32 ∷ f x) xs) (10 ∷ []))

@@ -121,13 +121,13 @@ row_parts n line r h e =
     ap parts e ∙ parts-parted (codes "r") (signed_decimal r.least ∷ map term_text r.terms)
     (Lacks-test 32 (codes "r") refl, (Lacks-signed 32 r.least (lit≤ tt) (λ f. omega (arith, f)) (least_small r.least h.least_fits), terms_lack 32 n 0 r.terms (lit≤ tt) (λ f. omega (arith, f)) (λ f. omega (arith, f)) h.terms_fit.few h.terms_fit.rise h.terms_fit.coefficients_fit))
 
--- no least behind the name
+-- no least after the name
 pub no_least : (n : ℕ) (line : List ℕ) (new : List (List ℕ)) → parts line ≡ codes "r" ∷ new → ((z : ℤ) (ps : List (List ℕ)) → neg_ℤ (pos 1073741824) ≤ℤ z → z ≤ℤ pos 1073741824 → new ≡ signed_decimal z ∷ ps → ⊥) → IsRowLine n line → ⊥
 no_least n line new e none k =
     let p = row_parts n line k.row k.fits k.spelled in
     none k.row.least (map term_text k.row.terms) k.fits.least_fits.low k.fits.least_fits.high (cc (e, p))
 
--- no terms behind the least
+-- no terms after the least
 pub no_terms : (n : ℕ) (line : List ℕ) (new new' : List (List ℕ)) (z : ℤ) → parts line ≡ codes "r" ∷ new → new ≡ signed_decimal z ∷ new' → ((ts : List (ℕ × ℤ)) → SpellTerms n new' ts → ⊥) → IsRowLine n line → ⊥
 no_terms n line new new' z e e' none k =
     let p = row_parts n line k.row k.fits k.spelled in

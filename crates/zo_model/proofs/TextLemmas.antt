@@ -23,7 +23,7 @@ empty_fits n few =
       least_fits = record { low = omega (arith, ints); high = omega (arith, ints) };
     }
 
--- the program that these columns and rows begin, with free columns and rows behind them
+-- the program that these columns and rows begin, with free columns and rows after them
 abbrev pub padded : ℕ → ℕ → List ℕ → List RowContents → Contents
 padded n m cs rs = record { costs = cs ++ replicate (n - length cs) 0; rows = rs ++ replicate (m - length rs) empty_row }
 

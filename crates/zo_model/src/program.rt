@@ -4,7 +4,7 @@ ghost use Rattle.std.specs.Prelude.{◌≡◌, ◌≤◌, ◌^◌, length, IsTru
 ghost use Rattle.zo_model.specs.Program.{columns, cost_of, vector, AreSmallTerms, AreTerms, AtMost, Feasible, IsCoefficient, IsRow, IsValid, Meets, Rise};
 ghost use Rattle.zo_model.specs.Program as program;
 
-/// At most so many columns, and as many rows.
+/// At most N columns, and as many rows.
 pub(crate) const COUNT_LIMIT: usize = 1 << 26;
 /// The cost of a column is below this.
 pub(crate) const COST_LIMIT: u32 = 1 << 20;
@@ -107,7 +107,7 @@ fn is_coefficient(a: i32) -> bool
     -32768 <= a && a <= 32767 && a != 0
 }
 
-/// Whether the terms are those of a row over so many columns.
+/// Whether the terms are those of a row over N columns.
 fn are_terms(columns: usize, terms: &[(u32, i32)]) -> bool
     requires few { columns ≤ 2 ^ 26 }
     ensures { IsTrue result ↔ AreTerms columns terms.now }
@@ -122,7 +122,7 @@ fn is_least(least: i32) -> bool
     -LEAST_LIMIT <= least && least <= LEAST_LIMIT
 }
 
-/// Whether the row is one over so many columns.
+/// Whether the row is one over N columns.
 fn is_row(columns: usize, row: &Row) -> bool
     requires few { columns ≤ 2 ^ 26 }
     ensures { IsTrue result ↔ IsRow columns row.now }

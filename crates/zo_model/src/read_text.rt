@@ -40,7 +40,7 @@ impl<'a> Reader<'a> {
     }
 }
 
-/// The number of at most `most` behind this name, where the line is these two parts.
+/// The number of at most `most` after this name, where the line is these two parts.
 pub fn counted_of(line: &[u8], name: &[u8], most: u64) -> Option<u64>
     requires { Lacks 32 name.now }
     ensures some { IfSome result (λ n. (n ≤ most) × (line.now ≡ parted (name.now ∷ decimal n ∷ []))) }
@@ -82,7 +82,7 @@ fn cost_of(line: &[u8]) -> Option<u32>
     Some(counted_of(line, b"c", u64::from(COST_LIMIT) - 1)? as u32)
 }
 
-/// Reads the lines of so many columns.
+/// Reads the lines of N columns.
 fn read_costs(alloc: Global, reader: &mut Reader, n: u64) -> Result<Vec<u32>, ZoError>
     requires room { 2 * reader.old.number + length reader.old.lines < 2 ^ 32 }
     ensures count { IfOk result (λ costs. length costs.items ≡ n) }
@@ -103,7 +103,7 @@ fn read_costs(alloc: Global, reader: &mut Reader, n: u64) -> Result<Vec<u32>, Zo
     Ok(costs)
 }
 
-/// The term of a part, over so many columns, where its column is `low` at least.
+/// The term of a part, over N columns, where its column is `low` at least.
 fn term_of(part: &[u8], low: u64, columns: u64) -> Option<(u32, i32)>
     requires { columns ≤ 2 ^ 26 }
     ensures some { IfSome result (IsTerm low columns part.now) }
@@ -118,7 +118,7 @@ fn term_of(part: &[u8], low: u64, columns: u64) -> Option<(u32, i32)>
     Some((column as u32, coefficient))
 }
 
-/// The terms of these parts, over so many columns, or `None`; or want of memory.
+/// The terms of these parts, over N columns, or `None`; or memory exhaustion.
 fn terms_of(
     alloc: Global,
     parts: Parts,
@@ -141,7 +141,7 @@ fn terms_of(
     Ok(Some(terms))
 }
 
-/// The row of a line, over so many columns, or `None`; or want of memory.
+/// The row of a line, over N columns, or `None`; or memory exhaustion.
 fn row_of(alloc: Global, line: &[u8], columns: u64) -> Result<Option<Row>, AllocError>
     requires { columns ≤ 2 ^ 26 }
     ensures some { IfOk result (λ found. IfSome found (λ row. IsRowText columns (row_contents row) × (line.now ≡ row_line (row_contents row)))) }
@@ -160,7 +160,7 @@ fn row_of(alloc: Global, line: &[u8], columns: u64) -> Result<Option<Row>, Alloc
     }
 }
 
-/// Reads the lines of so many rows over so many columns.
+/// Reads the lines of N rows over N columns.
 fn read_rows(alloc: Global, reader: &mut Reader, columns: u64, m: u64) -> Result<Vec<Row>, ZoError>
     requires few { columns ≤ 2 ^ 26 }
     requires room { 2 * reader.old.number + length reader.old.lines < 2 ^ 32 }
@@ -218,7 +218,7 @@ fn read_whole(alloc: Global, bytes: &[u8]) -> Result<ZeroOne, ZoError>
 
 /// The program of a text.
 ///
-/// Want of memory may be the answer to any bytes; each other answer comes exactly where its clauses say. So the text of a
+/// Memory exhaustion may be the answer to any bytes; each other answer comes exactly where its clauses say. So the text of a
 /// program is read as that program.
 pub fn read_program(alloc: Global, bytes: &[u8]) -> Result<ZeroOne, ZoError>
     requires { length bytes.now < 2 ^ 32 }

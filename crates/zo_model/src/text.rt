@@ -23,7 +23,7 @@ fn push_counted(out: &mut Vec<u8>, text: &[u8], n: u64) -> Result<(), AllocError
     Ok(())
 }
 
-/// Writes a term behind a space.
+/// Writes a term after a space.
 fn push_term(out: &mut Vec<u8>, term: &(u32, i32)) -> Result<(), AllocError>
     ensures { OnOk result (out.new.items ≡ out.old.items ++ (32 ∷ term_text term.now)) }
 {
@@ -34,7 +34,7 @@ fn push_term(out: &mut Vec<u8>, term: &(u32, i32)) -> Result<(), AllocError>
     Ok(())
 }
 
-/// Writes terms, each behind a space.
+/// Writes terms, each after a space.
 fn push_terms(out: &mut Vec<u8>, terms: &[(u32, i32)]) -> Result<(), AllocError>
     ensures { OnOk result (out.new.items ≡ out.old.items ++ flat_map (λ t. 32 ∷ term_text t) terms.now) }
 {

@@ -5,14 +5,14 @@ use Rattle.std.proofs.lemmas.List.Elements.{All-nil, All-cons, All-append}
 use Rattle.zo_model.specs.Program.{columns}
 use Rattle.zo_model.specs.declared.program.Assignment.{Assignment}
 use Rattle.zo_model.specs.declared.program.ZeroOne.{ZeroOne}
-use Rattle.zo_leaf.specs.Certificate.{Closes, EachNode, HasLeft, IsShaped, IsTreeWith, IsWellNamed, OfLeaf, Proves, Tree, branch, branches, leaf, preorder, unfixed}
-use Rattle.zo_leaf.specs.Node.{IsNode}
-use Rattle.zo_leaf.specs.Searched.{IsClosed, IsNoBetter, IsOpenWhereOpen, IsSearched}
-use Rattle.zo_leaf.specs.declared.cert.CertNode.{CertNode}
-use Rattle.zo_leaf.specs.declared.cert.CertNode.TheVariants.{Branch, Bound, Clash, Left}
-use Rattle.zo_leaf.specs.declared.cert.Claim.{Claim}
-use Rattle.zo_leaf.specs.declared.cert.Claim.TheVariants as claims
-use Rattle.zo_leaf.proofs.Walk.{each_weaker}
+use Rattle.zo_proof.specs.Certificate.{ClosesLeaf, EachNode, HasLeft, IsShaped, IsTreeWith, IsWellNamed, OfLeaf, Proves, Tree, branch, branches, leaf, preorder, unfixed}
+use Rattle.zo_proof.specs.Node.{IsNode}
+use Rattle.zo_proof.specs.Searched.{IsClosed, IsNoBetter, IsOpenWhereOpen, IsSearched}
+use Rattle.zo_proof.specs.declared.cert.CertNode.{CertNode}
+use Rattle.zo_proof.specs.declared.cert.CertNode.TheVariants.{Branch, Bound, Clash, Left}
+use Rattle.zo_proof.specs.declared.cert.Claim.{Claim}
+use Rattle.zo_proof.specs.declared.cert.Claim.TheVariants as claims
+use Rattle.zo_proof.proofs.Walk.{each_weaker}
 use Rattle.zo_branch.specs.Nodes.{IsBelow, IsPicked}
 use Rattle.zo_state.specs.inner.Better.{IsAtMostStart, IsClaimOf}
 use Rattle.zo_branch.specs.inner.Node.{IsGood}
@@ -117,7 +117,7 @@ ended_searched z start picks budget b ns s e =
       }),
     )
 
-closed_proves : (z : ZeroOne) (claim : Claim) (f : List (Option Bool)) (n : CertNode) → ¬ (HasLeft (n ∷ [])) → IsClosed z claim f n → OfLeaf (Closes z claim) f n
+closed_proves : (z : ZeroOne) (claim : Claim) (f : List (Option Bool)) (n : CertNode) → ¬ (HasLeft (n ∷ [])) → IsClosed z claim f n → OfLeaf (ClosesLeaf z claim) f n
 closed_proves z claim f (Branch j) none h = tt
 closed_proves z claim f (Bound d ms) none h = h
 closed_proves z claim f (Clash ms) none h = h
@@ -125,7 +125,7 @@ closed_proves z claim f Left none h = absurd (none tt)
 
 closed_tree : (z : ZeroOne) (start : Option ℕ) (picks : List (Option Bool) → ℕ → Type 0) (claim : Claim) (t : Tree) → ¬ (HasLeft (preorder t)) → EachNode (IsGood z start picks claim) (unfixed z) t → Proves z t claim
 closed_tree z start picks claim t none e =
-    closed_leaves (IsGood z start picks claim) (OfLeaf (Closes z claim)) (λ f j. tt) (λ f n no_left h. closed_proves z claim f n no_left h.closed) t (unfixed z) none e
+    closed_leaves (IsGood z start picks claim) (OfLeaf (ClosesLeaf z claim)) (λ f j. tt) (λ f n no_left h. closed_proves z claim f n no_left h.closed) t (unfixed z) none e
 
 proved_by : (z : ZeroOne) (start : Option ℕ) (picks : List (Option Bool) → ℕ → Type 0) (budget : ℕ) (b : Best) (ns : List CertNode) (s : Solved) → Ended z start picks budget b ns s → ¬ (HasLeft ns) → IsTreeWith (λ t. Proves z t (claim_of z s)) (tree_of s)
 proved_by z start picks budget b ns s e none =

@@ -6,10 +6,10 @@ use Rattle.std.proofs.lemmas.List.Elements.{All-replicate}
 use Rattle.zo_model.specs.Program.{IsValid, columns}
 use Rattle.zo_model.specs.declared.program.Assignment.{Assignment}
 use Rattle.zo_model.specs.declared.program.ZeroOne.{ZeroOne}
-use Rattle.zo_leaf.specs.Certificate.{IsShaped, IsTreeWith, Tree, branch, leaf, preorder}
+use Rattle.zo_proof.specs.Certificate.{IsShaped, IsTreeWith, Tree, branch, leaf, preorder}
 use Rattle.zo_cert.specs.Report.{IsBlank, IsTrueReport, IsValidReport}
-use Rattle.zo_leaf.specs.Node.{IsNode}
-use Rattle.zo_leaf.specs.declared.cert.Cert.{Cert}
+use Rattle.zo_proof.specs.Node.{IsNode}
+use Rattle.zo_proof.specs.declared.cert.Cert.{Cert}
 use Rattle.zo_cert.specs.declared.report.Report.{Report}
 use Rattle.zo_cert.specs.declared.report.Verdict.{Verdict}
 use Rattle.zo_cert.specs.declared.report.Verdict.TheVariants as verdicts

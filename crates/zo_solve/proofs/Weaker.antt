@@ -3,13 +3,13 @@ use Rattle.std.proofs.Common.{◌≡◌, ℕ, ◌+◌, ◌≤◌, List, [], ◌�
 use Rattle.std.proofs.lemmas.Int.{ints}
 use Rattle.zo_model.specs.declared.program.ZeroOne.{ZeroOne}
 use Rattle.zo_model.proofs.Scale.{scale-le}
-use Rattle.zo_leaf.specs.Certificate.{Closes, branches, HasLeft, unfixed}
-use Rattle.zo_leaf.specs.Searched.{IsClosed, IsNoBetter}
-use Rattle.zo_leaf.specs.inner.Walk.{MayCome, Walks}
-use Rattle.zo_leaf.specs.declared.cert.CertNode.{CertNode}
-use Rattle.zo_leaf.specs.declared.cert.CertNode.TheVariants.{Branch, Bound, Clash, Left}
-use Rattle.zo_leaf.specs.declared.cert.Claim.{Claim}
-use Rattle.zo_leaf.specs.declared.cert.Claim.TheVariants.{Least, Nothing}
+use Rattle.zo_proof.specs.Certificate.{ClosesLeaf, branches, HasLeft, unfixed}
+use Rattle.zo_proof.specs.Searched.{IsClosed, IsNoBetter}
+use Rattle.zo_proof.specs.inner.Walk.{MayCome, Walks}
+use Rattle.zo_proof.specs.declared.cert.CertNode.{CertNode}
+use Rattle.zo_proof.specs.declared.cert.CertNode.TheVariants.{Branch, Bound, Clash, Left}
+use Rattle.zo_proof.specs.declared.cert.Claim.{Claim}
+use Rattle.zo_proof.specs.declared.cert.Claim.TheVariants.{Least, Nothing}
 use Rattle.zo_state.specs.declared.best.Best.{Best}
 use Rattle.zo_state.specs.inner.Better.{IsBest, IsWeaker}
 use Rattle.zo_branch.specs.inner.Node.{IsGood, Steps}
@@ -28,7 +28,7 @@ weaker_trans (Least t) (Least u) (Least v) h k = omega arith
 weaker_trans (Least t) (Least u) Nothing h k = absurd k
 weaker_trans (Least t) Nothing e h k = absurd h
 
-pub closes_weaker : (z : ZeroOne) (c d : Claim) (f : List (Option Bool)) (n : CertNode) → IsWeaker c d → Closes z c f n → Closes z d f n
+pub closes_weaker : (z : ZeroOne) (c d : Claim) (f : List (Option Bool)) (n : CertNode) → IsWeaker c d → ClosesLeaf z c f n → ClosesLeaf z d f n
 closes_weaker z c d f (Branch j) w h = absurd h
 closes_weaker z c d f Left w h = absurd h
 closes_weaker z c d f (Clash ms) w h = h

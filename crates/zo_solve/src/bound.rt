@@ -2,19 +2,18 @@
 
 ghost use Rattle.std.specs.Prelude.{◌≡◌, ◌≢◌, [], IfOk, IfSome};
 ghost use Rattle.zo_model.specs.Program.{IsValid, columns};
-ghost use Rattle.zo_leaf.specs.Certificate.{Closes, IsTreeWith, Proves, unfixed};
-ghost use Rattle.zo_leaf.specs.declared.cert.Claim.TheVariants.{Least};
-ghost use Rattle.zo_leaf.specs.inner.Leaf.{IsClear};
-ghost use Rattle.zo_leaf.specs.inner.Path.{begun, current};
+ghost use Rattle.zo_proof.specs.Certificate.{ClosesLeaf, IsTreeWith, Proves, unfixed};
+ghost use Rattle.zo_proof.specs.declared.cert.Claim.TheVariants.{Least};
+ghost use Rattle.zo_proof.specs.inner.Leaf.{IsClear};
+ghost use Rattle.zo_proof.specs.inner.Path.{begun, current};
 
 use std::alloc::Global;
 use zo_branch::Order;
 use zo_branch::node::met_leaf;
-use zo_leaf::leaf::{leaf_bound, names_rows};
-use zo_leaf::path::Path;
-use zo_leaf::{Cert, CertNode, Claim};
 use zo_model::{NoMemory, ZeroOne};
-use zo_tree::closes;
+use zo_proof::leaf::{leaf_bound, names_rows};
+use zo_proof::path::Path;
+use zo_proof::{Cert, CertNode, Claim, closes};
 
 /// A cost that no vector is below, and the proof of that: a leaf at the root.
 #[derive(Drop)]
@@ -57,7 +56,7 @@ fn closed_for(
     requires path { path.now.costs ≡ z.now.costs.items }
     requires more { path.now.fixings ≢ [] }
     requires clear { IsClear (columns z.now) weights.old }
-    ensures { IfSome result (λ p. Closes z.now (Least p.0) (current path.now.fixings) p.1) }
+    ensures { IfSome result (λ p. ClosesLeaf z.now (Least p.0) (current path.now.fixings) p.1) }
 {
     let least = proved_cost(z, path, weights, &node);
     if closes(z, &Claim::Least(least), path, weights, &node) {
@@ -77,7 +76,7 @@ fn root_bound(
     requires valid { IsValid z.now }
     requires path { path.now ≡ begun z.now.costs.items }
     requires clear { IsClear (columns z.now) weights.old }
-    ensures { Closes z.now (Least result.0) (unfixed z.now) result.1 }
+    ensures { ClosesLeaf z.now (Least result.0) (unfixed z.now) result.1 }
 {
     if let Some(node) = leaf {
         if let Some(proved) = closed_for(z, path, weights, node) {

@@ -9,5 +9,5 @@ pub use bound::{Bounded, lower_bound};
 pub use reported::report_of;
 pub use search::{Solved, solve, solve_by};
 pub use zo_branch::Order;
-pub use zo_leaf::Fixed;
+pub use zo_proof::Fixed;
 pub use zo_state::{Pick, Sums, first_choice};

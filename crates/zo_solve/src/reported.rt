@@ -2,8 +2,8 @@
 
 ghost use Rattle.std.specs.Prelude.{◌≡◌, ◌<◌, ◌≤◌, ◌^◌, All, IfOk, false, length, replicate};
 ghost use Rattle.zo_model.specs.Program.{IsValid};
-ghost use Rattle.zo_leaf.specs.Certificate.{IsShaped, IsTreeWith};
-ghost use Rattle.zo_leaf.specs.Node.{IsNode};
+ghost use Rattle.zo_proof.specs.Certificate.{IsShaped, IsTreeWith};
+ghost use Rattle.zo_proof.specs.Node.{IsNode};
 ghost use Rattle.zo_cert.specs.Report.{IsTrueReport, IsValidReport};
 ghost use Rattle.zo_solve.specs.Reported.{IsReportOf};
 ghost use Rattle.zo_solve.specs.Solved.{IsCutOff, IsProved, OfVector, tree_of};
@@ -14,7 +14,7 @@ use std::alloc::{AllocError, Global};
 use zo_cert::{Report, Verdict};
 use zo_model::{Assignment, NoMemory, ZeroOne};
 
-/// The vector of so many columns that is all 0.
+/// The vector of N columns that is all 0.
 fn zeros(alloc: Global, columns: usize) -> Result<Assignment, AllocError>
     ensures { IfOk result (λ x. x.on.items ≡ replicate columns false) }
 {

@@ -2,11 +2,11 @@
 
 ghost use Rattle.std.specs.Prelude.{◌≡◌, ◌+◌, ◌-◌, ◌*◌, ◌≤◌, ◌^◌, [], IfOk, IfSome, length, All};
 ghost use Rattle.zo_model.specs.Program.{IsValid, columns};
-ghost use Rattle.zo_leaf.specs.Certificate.{IsShaped, IsTreeWith, branches};
-ghost use Rattle.zo_leaf.specs.Node.{IsNode};
-ghost use Rattle.zo_leaf.specs.inner.Leaf.{IsClear};
-ghost use Rattle.zo_leaf.specs.inner.Path.{begun};
-ghost use Rattle.zo_leaf.specs.Searched.{IsSearched};
+ghost use Rattle.zo_proof.specs.Certificate.{IsShaped, IsTreeWith, branches};
+ghost use Rattle.zo_proof.specs.Node.{IsNode};
+ghost use Rattle.zo_proof.specs.inner.Leaf.{IsClear};
+ghost use Rattle.zo_proof.specs.inner.Path.{begun};
+ghost use Rattle.zo_proof.specs.Searched.{IsSearched};
 ghost use Rattle.zo_state.specs.Pick.{Answers, CanPick};
 ghost use Rattle.zo_branch.specs.Nodes.{IsBelow, IsPicked};
 ghost use Rattle.zo_state.specs.inner.Better.{IsBest};
@@ -17,9 +17,9 @@ ghost use Rattle.zo_state.specs.Vector.{IsVector, cost_at, start_cost};
 use std::alloc::{AllocError, Global};
 use zo_branch::Order;
 use zo_branch::node::step;
-use zo_leaf::path::Path;
-use zo_leaf::{Cert, CertNode, Fixed, has_left};
 use zo_model::{Assignment, NoMemory, ZeroOne};
+use zo_proof::path::Path;
+use zo_proof::{Cert, CertNode, Fixed, has_left};
 use zo_state::{Best, Pick, Sums};
 
 /// What a search found, with its tree.

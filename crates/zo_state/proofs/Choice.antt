@@ -5,9 +5,9 @@ use Rattle.std.proofs.lemmas.Bool.{cases_lt}
 use Rattle.std.proofs.lemmas.List.{take_all}
 use Rattle.zo_model.specs.Program.{Meets, Rise}
 use Rattle.zo_model.specs.declared.program.Row.{Row}
-use Rattle.zo_leaf.specs.Fixing.{ones}
-use Rattle.zo_state.specs.Choice.{HasColumn, IsFree, IsLeast, IsWanted, Lacks, SomeLacks}
-use Rattle.zo_state.specs.inner.Least.{AnswersLeast, Either, IsFreeIn, IsWantedBy}
+use Rattle.zo_proof.specs.Fixing.{ones}
+use Rattle.zo_state.specs.Choice.{HasColumn, IsFree, IsLeast, IsPreferred, Lacks, SomeLacks}
+use Rattle.zo_state.specs.inner.Least.{AnswersLeast, Either, IsFreeIn, IsPreferredBy}
 
 -- ---- whether a place is free
 
@@ -75,12 +75,12 @@ answers_as P Q (Some j) there back h = record { holds = there j h.holds; least =
 
 -- ---- one row
 
-pub met_wants_none : (fixed : List (Option Bool)) (r : Row) → Meets (ones fixed) r → AnswersLeast (IsWantedBy fixed r) None
+pub met_wants_none : (fixed : List (Option Bool)) (r : Row) → Meets (ones fixed) r → AnswersLeast (IsPreferredBy fixed r) None
 met_wants_none fixed r met = λ k p. p.lacks.not_met met
 
-pub wanted_of_row : (fixed : List (Option Bool)) (r : Row) (o : Option ℕ) → (Meets (ones fixed) r → ⊥) → AnswersLeast (IsFreeIn fixed r.terms.items) o → AnswersLeast (IsWantedBy fixed r) o
+pub wanted_of_row : (fixed : List (Option Bool)) (r : Row) (o : Option ℕ) → (Meets (ones fixed) r → ⊥) → AnswersLeast (IsFreeIn fixed r.terms.items) o → AnswersLeast (IsPreferredBy fixed r) o
 wanted_of_row fixed r o unmet h =
-    answers_as (IsFreeIn fixed r.terms.items) (IsWantedBy fixed r) o (λ k p. record { free = p.free; lacks = record { not_met = unmet; there = p.there } }) (λ k p. record { free = p.free; there = p.lacks.there }) h
+    answers_as (IsFreeIn fixed r.terms.items) (IsPreferredBy fixed r) o (λ k p. record { free = p.free; lacks = record { not_met = unmet; there = p.there } }) (λ k p. record { free = p.free; there = p.lacks.there }) h
 
 -- ---- the lesser of two
 
@@ -113,7 +113,7 @@ lesser_right P Q o p q = answers_as Q (Either P Q) o (λ k h. inr h) back q
 
 -- ---- all rows
 
-pub wanted_of_none : (fixed : List (Option Bool)) → AnswersLeast (IsWanted [] fixed) None
+pub wanted_of_none : (fixed : List (Option Bool)) → AnswersLeast (IsPreferred [] fixed) None
 wanted_of_none fixed = λ k p. p.lacks
 
 lacks_suc : (fixed : List (Option Bool)) (rs : List Row) (i k : ℕ) (d : Row) → i < length rs → SomeLacks fixed k (take (suc i) rs) → SomeLacks fixed k (take i rs) ⊎ Lacks fixed k (get_or rs i d)
@@ -134,21 +134,21 @@ suc_lacks fixed (r ∷ rs) (suc i) k d lt (inl (inl h)) = inl h
 suc_lacks fixed (r ∷ rs) (suc i) k d lt (inl (inr h)) = inr (suc_lacks fixed rs i k d (omega arith) (inl h))
 suc_lacks fixed (r ∷ rs) (suc i) k d lt (inr h) = inr (suc_lacks fixed rs i k d (omega arith) (inr h))
 
-pub wanted_more : (fixed : List (Option Bool)) (rs : List Row) (i : ℕ) (r : Row) (o : Option ℕ) → i < length rs → r ≡ get_or rs i r → AnswersLeast (Either (IsWanted (take i rs) fixed) (IsWantedBy fixed r)) o → AnswersLeast (IsWanted (take (i + 1) rs) fixed) o
-wanted_more fixed rs i r o lt e h = answers_as (Either (IsWanted (take i rs) fixed) (IsWantedBy fixed r)) (IsWanted (take (i + 1) rs) fixed) o there back h
+pub wanted_more : (fixed : List (Option Bool)) (rs : List Row) (i : ℕ) (r : Row) (o : Option ℕ) → i < length rs → r ≡ get_or rs i r → AnswersLeast (Either (IsPreferred (take i rs) fixed) (IsPreferredBy fixed r)) o → AnswersLeast (IsPreferred (take (i + 1) rs) fixed) o
+wanted_more fixed rs i r o lt e h = answers_as (Either (IsPreferred (take i rs) fixed) (IsPreferredBy fixed r)) (IsPreferred (take (i + 1) rs) fixed) o there back h
   where
-    there : (k : ℕ) → IsWanted (take i rs) fixed k ⊎ IsWantedBy fixed r k → IsWanted (take (i + 1) rs) fixed k
+    there : (k : ℕ) → IsPreferred (take i rs) fixed k ⊎ IsPreferredBy fixed r k → IsPreferred (take (i + 1) rs) fixed k
     there k (inl w) = record { free = w.free; lacks = subst (λ n. SomeLacks fixed k (take n rs)) (sym (add-one i)) (suc_lacks fixed rs i k r lt (inl w.lacks)) }
     there k (inr w) = record { free = w.free; lacks = subst (λ n. SomeLacks fixed k (take n rs)) (sym (add-one i)) (suc_lacks fixed rs i k r lt (inr (subst (Lacks fixed k) e w.lacks))) }
 
-    back : (k : ℕ) → IsWanted (take (i + 1) rs) fixed k → IsWanted (take i rs) fixed k ⊎ IsWantedBy fixed r k
+    back : (k : ℕ) → IsPreferred (take (i + 1) rs) fixed k → IsPreferred (take i rs) fixed k ⊎ IsPreferredBy fixed r k
     back k w = elim (lacks_suc fixed rs i k r lt (subst (λ n. SomeLacks fixed k (take n rs)) (add-one i) w.lacks)) [
       | inl g ↦ inl (record { free = w.free; lacks = g })
       | inr g ↦ inr (record { free = w.free; lacks = subst (Lacks fixed k) (sym e) g })
     ]
 
-pub wanted_all : (fixed : List (Option Bool)) (rs : List Row) (i : ℕ) (o : Option ℕ) → length rs ≤ i → AnswersLeast (IsWanted (take i rs) fixed) o → AnswersLeast (IsWanted rs fixed) o
-wanted_all fixed rs i o le h = subst (λ xs. AnswersLeast (IsWanted xs fixed) o) (take_all i rs le) h
+pub wanted_all : (fixed : List (Option Bool)) (rs : List Row) (i : ℕ) (o : Option ℕ) → length rs ≤ i → AnswersLeast (IsPreferred (take i rs) fixed) o → AnswersLeast (IsPreferred rs fixed) o
+wanted_all fixed rs i o le h = subst (λ xs. AnswersLeast (IsPreferred xs fixed) o) (take_all i rs le) h
 
 -- ---- the least unfixed column of all
 

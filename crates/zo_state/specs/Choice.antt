@@ -3,7 +3,7 @@ use Rattle.std.specs.Prelude.{◌≡◌, ℕ, ◌≤◌, List, [], ◌∷◌, Bo
 use Rattle.zo_model.specs.Program.{Meets}
 use Rattle.zo_model.specs.declared.program.Row.{Row}
 use Rattle.zo_model.specs.declared.program.ZeroOne.{ZeroOne}
-use Rattle.zo_leaf.specs.Fixing.{ones}
+use Rattle.zo_proof.specs.Fixing.{ones}
 
 -- the column is there and unfixed
 abbrev pub IsFree : List (Option Bool) → ℕ → Type 0
@@ -25,7 +25,7 @@ SomeLacks fixed j [] = ⊥
 SomeLacks fixed j (r ∷ rs) = Lacks fixed j r ⊎ SomeLacks fixed j rs
 
 -- the column is unfixed, and some row that isn't met has it
-pub record IsWanted (rows : List Row) (fixed : List (Option Bool)) (j : ℕ) : Type 0 where
+pub record IsPreferred (rows : List Row) (fixed : List (Option Bool)) (j : ℕ) : Type 0 where
   pub free : IsFree fixed j
   pub lacks : SomeLacks fixed j rows
 
@@ -36,5 +36,5 @@ pub record IsLeast (P : ℕ → Type 0) (j : ℕ) : Type 0 where
 
 -- the least wanted column, or where none is wanted the least unfixed one
 pub data IsFirstChoice (z : ZeroOne) (fixed : List (Option Bool)) (j : ℕ) : Type 0 where
-  wanted : IsLeast (IsWanted z.rows.items fixed) j → IsFirstChoice z fixed j
-  none_wanted : ((k : ℕ) → ¬ (IsWanted z.rows.items fixed k)) → IsLeast (IsFree fixed) j → IsFirstChoice z fixed j
+  wanted : IsLeast (IsPreferred z.rows.items fixed) j → IsFirstChoice z fixed j
+  none_wanted : ((k : ℕ) → ¬ (IsPreferred z.rows.items fixed k)) → IsLeast (IsFree fixed) j → IsFirstChoice z fixed j

@@ -1,4 +1,4 @@
-pub use Rattle.zo_sums.specs.Vector
+pub mod Vector
 pub mod Choice
 pub mod Pick
 pub mod Sums

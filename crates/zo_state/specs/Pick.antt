@@ -1,7 +1,7 @@
 -- a choice of the column to branch on
 use Rattle.std.specs.Prelude.{◌≡◌, ℕ, List, Bool, Option, Some, None, length, slice_get}
 use Rattle.std.specs.Borrow.{Bor}
-use Rattle.zo_leaf.specs.declared.path.Fixed.{Fixed}
+use Rattle.zo_proof.specs.declared.path.Fixed.{Fixed}
 use Rattle.zo_model.specs.Program.{IsValid, columns}
 use Rattle.zo_model.specs.declared.program.ZeroOne.{ZeroOne}
 

@@ -2,15 +2,15 @@
 
 ghost use Rattle.std.specs.Prelude.{◌≡◌, IfSome, IfOk, IsTrue, ◌↔◌, Some, false, length};
 ghost use Rattle.zo_model.specs.Program.{IsValid, columns, cost_of};
-ghost use Rattle.zo_leaf.specs.Fixing.{ones};
-ghost use Rattle.zo_leaf.specs.Searched.{IsMet};
-ghost use Rattle.zo_sums.specs.Vector.{IsVector, cost_at, start_cost};
+ghost use Rattle.zo_proof.specs.Fixing.{ones};
+ghost use Rattle.zo_proof.specs.Searched.{IsMet};
+ghost use Rattle.zo_state.specs.Vector.{IsVector, cost_at, start_cost};
 ghost use Rattle.zo_state.specs.inner.Better.{CostsAsMuch, IsBest, IsCheaper, IsWeaker};
 
+use crate::reach::ones_vector;
 use std::alloc::{AllocError, Global};
-use zo_leaf::Claim;
 use zo_model::{Assignment, ZeroOne, cost};
-use zo_sums::ones_vector;
+use zo_proof::Claim;
 
 /// The best vector so far, the claim that it is best, and what the start cost.
 #[derive(Drop)]

@@ -1,12 +1,14 @@
-//! What a search of a 0-1 program keeps: which columns are fixed, with the sums of all rows; the best vector; and the choice of
+//! The state of a search of a 0-1 program: the fixed columns with the sums of all rows, the best vector, and the choice of
 //! the column to branch on.
 #![tactic(auto)]
 
 pub mod best;
 pub mod pick;
+mod reach;
 pub mod sums;
+pub mod tables;
 
 pub use best::{Best, costs_as_much};
 pub use pick::{Pick, first_choice};
+pub use reach::{is_row_met, ones_vector};
 pub use sums::Sums;
-pub use zo_sums::is_row_met;

@@ -3,13 +3,13 @@
 ghost use Rattle.std.specs.Prelude.{◌≡◌, ◌≤◌, ◌^◌, List, Bool, Option, length, slice_get, Some, None};
 ghost use Rattle.zo_model.specs.Program.{AreTerms, IsValid, columns};
 ghost use Rattle.zo_model.specs.declared.program.Row as rows;
-ghost use Rattle.zo_state.specs.Choice.{IsFirstChoice, IsFree, IsLeast, IsWanted};
-ghost use Rattle.zo_state.specs.inner.Least.{AnswersLeast, Either, IsFreeIn, IsWantedBy};
+ghost use Rattle.zo_state.specs.Choice.{IsFirstChoice, IsFree, IsLeast, IsPreferred};
+ghost use Rattle.zo_state.specs.inner.Least.{AnswersLeast, Either, IsFreeIn, IsPreferredBy};
 ghost use Rattle.zo_state.specs.Pick.{Answers, CanPick, HasFree};
 
-use zo_leaf::Fixed;
+use crate::reach::is_row_met;
 use zo_model::{Row, ZeroOne};
-use zo_sums::is_row_met;
+use zo_proof::Fixed;
 
 /// A choice of the column to branch on.
 ///
@@ -59,7 +59,7 @@ fn first_free(terms: &[(u32, i32)], fixed: &[Option<bool>]) -> Option<u32>
 /// The first unfixed column of a row that isn't met, if there is one.
 fn first_free_of_unmet(row: &Row, fixed: &[Option<bool>]) -> Option<u32>
     requires terms { AreTerms (length fixed.now) row.now.terms.items }
-    ensures { AnswersLeast (IsWantedBy fixed.now row.now) result }
+    ensures { AnswersLeast (IsPreferredBy fixed.now row.now) result }
 {
     if is_row_met(row, fixed) {
         return None;
@@ -69,7 +69,7 @@ fn first_free_of_unmet(row: &Row, fixed: &[Option<bool>]) -> Option<u32>
 
 /// The lesser column, where there are two.
 fn lesser(a: Option<u32>, b: Option<u32>) -> Option<u32>
-    ensures { (fixed : List (Option Bool)) (rs : List rows.Row) (r : rows.Row) → AnswersLeast (IsWanted rs fixed) a → AnswersLeast (IsWantedBy fixed r) b → AnswersLeast (Either (IsWanted rs fixed) (IsWantedBy fixed r)) result }
+    ensures { (fixed : List (Option Bool)) (rs : List rows.Row) (r : rows.Row) → AnswersLeast (IsPreferred rs fixed) a → AnswersLeast (IsPreferredBy fixed r) b → AnswersLeast (Either (IsPreferred rs fixed) (IsPreferredBy fixed r)) result }
 {
     match (a, b) {
         (Some(i), Some(j)) => Some(i.min(j)),
@@ -92,10 +92,10 @@ pub fn least_free(fixed: &[Option<bool>]) -> u32
 }
 
 /// The least unfixed column of the rows that aren't met, if there is one.
-fn least_wanted(z: &ZeroOne, fixed: &Fixed) -> Option<u32>
+fn least_preferred(z: &ZeroOne, fixed: &Fixed) -> Option<u32>
     requires valid { IsValid z.now }
     requires places { length fixed.now.at.items ≡ columns z.now }
-    ensures { AnswersLeast (IsWanted z.now.rows.items fixed.now.at.items) result }
+    ensures { AnswersLeast (IsPreferred z.now.rows.items fixed.now.at.items) result }
 {
     let mut best: Option<u32> = None;
     for i in 0..z.rows.len() {
@@ -112,7 +112,7 @@ pub fn first_choice(z: &ZeroOne, fixed: &Fixed) -> u32
     ensures choice { HasFree fixed.now.at.items → IsFirstChoice z.now fixed.now.at.items result }
     ensures free { HasFree fixed.now.at.items → slice_get fixed.now.at.items result ≡ Some None }
 {
-    match least_wanted(z, fixed) {
+    match least_preferred(z, fixed) {
         Some(column) => column,
         None => least_free(&fixed.at),
     }

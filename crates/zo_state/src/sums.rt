@@ -2,18 +2,18 @@
 
 ghost use Rattle.std.specs.Prelude.{◌≡◌, ◌<◌, ◌≤◌, ◌^◌, ◌↔◌, ◌<ℤ◌, length, pos, All, Option, None, Some, IfNone, IfOk, IfSome, IsTrue, slice_get, slice_set, slice_index_or};
 ghost use Rattle.zo_model.specs.Program.{IsValid, columns};
-ghost use Rattle.zo_leaf.specs.Certificate.{unfixed};
-ghost use Rattle.zo_leaf.specs.Fixing.{ones};
-ghost use Rattle.zo_leaf.specs.Searched.{IsInReach, IsMet};
-ghost use Rattle.zo_leaf.specs.Searched as searched;
-ghost use Rattle.zo_leaf.specs.inner.Path.{IsFixed};
-ghost use Rattle.zo_sums.specs.inner.Keeping.{EachReaches};
+ghost use Rattle.zo_proof.specs.Certificate.{unfixed};
+ghost use Rattle.zo_proof.specs.Fixing.{ones};
+ghost use Rattle.zo_proof.specs.Searched.{IsInReach, IsMet};
+ghost use Rattle.zo_proof.specs.Searched as searched;
+ghost use Rattle.zo_proof.specs.inner.Path.{IsFixed};
+ghost use Rattle.zo_state.specs.inner.Keeping.{EachReaches};
 
+use crate::tables::{columns_of, move_sums, ones_of, reaches_of, settled};
 use std::alloc::Global;
 use std::marker::Model;
-use zo_leaf::Fixed;
 use zo_model::{NoMemory, Row, ZeroOne};
-use zo_sums::tables::{columns_of, move_sums, ones_of, reaches_of, settled};
+use zo_proof::Fixed;
 
 /// Which columns of a program are fixed, and the sums of all rows with them. Contracts see the program, and the columns' places.
 #[derive(Drop)]
@@ -30,7 +30,7 @@ pub struct Sums<'a> {
 
 impl<'a> Model for Sums<'a> {
     ghost use Rattle.zo_state.specs.Sums.{SumsOf};
-    ghost use Rattle.zo_sums.specs.inner.Keeping.{KeepsSums};
+    ghost use Rattle.zo_state.specs.inner.Keeping.{KeepsSums};
 
     ghost Value = { SumsOf };
 

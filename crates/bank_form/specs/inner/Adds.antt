@@ -11,7 +11,7 @@ abbrev pub either : Option ℕ → Option ℕ → Option ℕ
 either (Some j) o = Some j
 either None o = o
 
--- the rows of these lines were put behind the others
+-- the rows of these lines were put after the others
 abbrev pub Adds : Numbers → List Row → List Row → List Line → Type 0
 Adds number old new ls = map row_contents new ≡ map row_contents old ++ map (row_of number) ls
 

@@ -5,29 +5,29 @@ use Rattle.std.specs.List.{flat_map, list_any}
 use Rattle.std.specs.declared.vec.Vec.{Vec}
 use Rattle.std.specs.declared.alloc.Global.{Global}
 use Rattle.ssu_ir.specs.Tree.{Label, Node}
-use Rattle.ssu_ir.specs.Points.{Names, Place, Entry, At, Point, points}
-use Rattle.slot_placement.specs.inner.Parts.{place_names}
-use Rattle.slot_placement.specs.Uses as pure
-use Rattle.slot_placement.specs.Uses.{values, uses, accesses, uses_of, is_used, place_values, place_roles, reads_at, writes_at}
-use Rattle.bank_form.specs.Columns.{Priced, each_point, sort_of, point_uses, place_words, dir_columns, stay_columns, ear_columns, for_eight, may_begin, has_bank, eight}
+use Rattle.ssu_ir.specs.Points.{Names, PointKind, Entry, At, Point, points}
+use Rattle.placement.specs.inner.Parts.{place_names}
+use Rattle.placement.specs.Uses as pure
+use Rattle.placement.specs.Uses.{values, uses, accesses, uses_of, is_used, place_values, place_roles, reads_at, writes_at}
+use Rattle.bank_form.specs.Columns.{Priced, each_point, origin_of, point_uses, place_words, dir_columns, stay_columns, ear_columns, for_eight, may_begin, has_bank, eight}
 use Rattle.bank_form.specs.Rows.{Line, covers, two_operands, pair_lines, stay_begins, word_begins, is_slot}
 use Rattle.bank_form.specs.declared.column.Column.TheVariants.{Dir, Stay, Ear, First, Srv, PasL, PasS}
 use Rattle.bank_form.specs.declared.column.Service.{Service}
 use Rattle.nv_base.specs.declared.term.Mem.{Mem}
-use Rattle.bank_form.specs.declared.form.Sort.{Sort}
-use Rattle.bank_form.specs.declared.form.Sort.TheVariants.{Parameter, Result, Fetched}
+use Rattle.bank_form.specs.declared.form.Origin.{Origin}
+use Rattle.bank_form.specs.declared.form.Origin.TheVariants.{Parameter, Result, Fetched}
 use Rattle.bank_form.specs.declared.form.Role.{Role}
 use Rattle.bank_form.specs.declared.form.Role.TheVariants.{Operand, Address, Written, Argument, Ending}
 use Rattle.bank_form.specs.declared.form.Value.{Value}
 use Rattle.bank_form.specs.declared.form.Use.{Use}
 use Rattle.bank_form.specs.declared.form.Access.{Access}
-use Rattle.bank_form.specs.declared.form.Stop.{Stop}
+use Rattle.bank_form.specs.declared.form.PointSummary.{PointSummary}
 use Rattle.bank_form.specs.declared.form.Tables.{Tables}
 
-abbrev pub sort_view : Sort → pure.Sort
-sort_view (Parameter l i) = pure.Parameter l i
-sort_view Result = pure.Result
-sort_view (Fetched m i) = pure.Fetched m i
+abbrev pub origin_view : Origin → pure.ValueOrigin
+origin_view (Parameter l i) = pure.Parameter l i
+origin_view Result = pure.Result
+origin_view (Fetched m i) = pure.Fetched m i
 
 abbrev pub role_view : Role → pure.Role
 role_view Operand = pure.Operand
@@ -37,7 +37,7 @@ role_view (Argument l i) = pure.Argument l i
 role_view (Ending i) = pure.Ending i
 
 abbrev pub value_view : Value → pure.Value
-value_view v = record { point = v.point; var = v.var; sort = sort_view v.sort }
+value_view v = record { point = v.point; var = v.var; origin = origin_view v.origin }
 
 abbrev pub use_view : Use → pure.Use
 use_view u = record { point = u.point; operand = u.operand; value = u.value; role = role_view u.role }
@@ -56,8 +56,8 @@ pub record Part : Type 0 where
   pub reads : List pure.Access
   pub writes : List pure.Access
 
-abbrev pub stop_view : Stop → Part
-stop_view s = record {
+abbrev pub summary_view : PointSummary → Part
+summary_view s = record {
   point = s.point;
   words = s.words;
   two = s.two;
@@ -125,8 +125,8 @@ abbrev pub service_columns : Bool → pure.Use → Service → List Priced
 service_columns fetched u s = if has_bank fetched s.from then (Srv u.point u.operand s.from s.at, s.cost) ∷ [] else []
 
 -- how a value comes, where it is known
-abbrev pub known_sort : Option Sort → pure.Sort
-known_sort (Some s) = sort_view s
+abbrev pub known_sort : Option Origin → pure.ValueOrigin
+known_sort (Some s) = origin_view s
 known_sort None = pure.Result
 
 -- the uses of a value, where it has any
@@ -136,10 +136,10 @@ known_uses None = []
 
 -- ---- how the tables are made
 
-abbrev pub at_node : Node → Place
+abbrev pub at_node : Node → PointKind
 at_node n = At n
 
-abbrev pub at_entry : ℕ → List ℕ → Place
+abbrev pub at_entry : ℕ → List ℕ → PointKind
 at_entry l xs = Entry l xs
 
 abbrev pub node_words : Node → ℕ
@@ -158,7 +158,7 @@ abbrev pub one_access : ℕ → Mem → ℕ → List pure.Access
 one_access k m n = record { point = k; mem = m; words = n } ∷ []
 
 -- what is kept of a place
-abbrev pub part_at : Names → ℕ → Place → Part
+abbrev pub part_at : Names → ℕ → PointKind → Part
 part_at of k q = record {
   point = k;
   words = place_words q;
@@ -170,7 +170,7 @@ part_at of k q = record {
   writes = writes_at k q;
 }
 
-abbrev pub parts_at : Names → ℕ → Place → List Part
+abbrev pub parts_at : Names → ℕ → PointKind → List Part
 parts_at of k q = part_at of k q ∷ []
 
 abbrev pub part_values : Part → List pure.Value
@@ -183,14 +183,14 @@ abbrev pub part_accesses : Part → List pure.Access
 part_accesses p = p.reads ++ p.writes
 
 -- how a value comes, where it is found
-abbrev pub sort_found : Option Sort → Option pure.Sort
-sort_found (Some s) = Some (sort_view s)
-sort_found None = None
+abbrev pub origin_found : Option Origin → Option pure.ValueOrigin
+origin_found (Some s) = Some (origin_view s)
+origin_found None = None
 
 -- it is noted where it wasn't found
-abbrev pub sort_noted : Option pure.Sort → pure.Value → ℕ → Option pure.Sort
-sort_noted (Some s) v x = Some s
-sort_noted None v x = if nat_eq v.var x then Some v.sort else None
+abbrev pub origin_noted : Option pure.ValueOrigin → pure.Value → ℕ → Option pure.ValueOrigin
+origin_noted (Some s) v x = Some s
+origin_noted None v x = if nat_eq v.var x then Some v.origin else None
 
 -- the use, where it is one of this value
 abbrev pub used_by : ℕ → pure.Use → List pure.Use
@@ -198,9 +198,9 @@ used_by x u = if nat_eq u.value x then u ∷ [] else []
 
 -- all that is kept of a form is so
 pub record AreTables (labels : List Label) (f : Tables) : Type 0 where
-  pub stops : map stop_view f.stops.items ≡ parts labels
+  pub summaries : map summary_view f.summaries.items ≡ parts labels
   pub values : map value_view f.values.items ≡ values labels
   pub uses : map use_view f.uses.items ≡ uses labels
   pub accesses : map access_view f.accesses.items ≡ accesses labels
-  pub sorts : (x : ℕ) → known_sort (get nat_eq f.sorts x) ≡ sort_of labels x
+  pub origins : (x : ℕ) → known_sort (get nat_eq f.origins x) ≡ origin_of labels x
   pub users : (x : ℕ) → known_uses (get nat_eq f.users x) ≡ uses_of labels x

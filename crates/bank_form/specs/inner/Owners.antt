@@ -3,11 +3,11 @@ use Rattle.std.specs.Prelude.{ℕ, suc, ◌+◌, nat_le, nat_lt, ◌&&◌, if◌
 use Rattle.std.specs.List.{flat_map}
 use Rattle.nv_base.specs.Sets.{is_in}
 use Rattle.ssu_ir.specs.Tree.{Label}
-use Rattle.slot_placement.specs.Uses as pure
+use Rattle.placement.specs.Uses as pure
 use Rattle.bank_form.specs.declared.column.Column.{Column}
 use Rattle.bank_form.specs.declared.column.Column.TheVariants.{First, PasL}
-use Rattle.bank_form.specs.Columns.{sort_of, eight}
-use Rattle.bank_form.specs.Rows.{Line, at_most, sort_stays, stays_at, is_sdram, covering, access_owners}
+use Rattle.bank_form.specs.Columns.{origin_of, eight}
+use Rattle.bank_form.specs.Rows.{Line, at_most, origin_stays, stays_at, is_sdram, covering, access_owners}
 use Rattle.bank_form.specs.inner.Form.{Part}
 
 abbrev pub one : Option ℕ → List ℕ
@@ -16,7 +16,7 @@ one None = []
 
 -- the column that a value stays in register r
 abbrev pub value_stays : List Label → Bool → ℕ → ℕ → List Column
-value_stays labels sdram r x = sort_stays sdram r x (sort_of labels x)
+value_stays labels sdram r x = origin_stays sdram r x (origin_of labels x)
 
 abbrev pub read_owner : List Label → ℕ → List ℕ → ℕ → List Line
 read_owner labels k xs r = at_most 1 (stays_at labels false r xs ++ PasL k r ∷ []) ∷ []
@@ -49,7 +49,7 @@ covering_at a r f = if covers_at a r f then First a.point f ∷ [] else []
 abbrev pub access_owner : List Label → List ℕ → pure.Access → ℕ → List Line
 access_owner labels xs a r = at_most 1 (stays_at labels (is_sdram a.mem) r xs ++ covering r a) ∷ []
 
--- the rows of a point, where these values are held at the next
+-- the rows of a point, where these values are live at the next
 abbrev pub part_fills : List Label → Part → List ℕ → List Line
 part_fills labels p next = flat_map (access_owners labels (flat_map (other (map (λ v. v.var) p.values)) next)) p.reads
 

@@ -2,19 +2,19 @@
 use Rattle.std.specs.Prelude.{◌≡◌, ℕ, nat_eq, List, [], ◌∷◌, Option, Some, None, slice_index_or}
 use Rattle.std.specs.HashMap.{get}
 use Rattle.ssu_ir.specs.Tree.{Label}
-use Rattle.ssu_ir.specs.Points.{Place, Entry, At}
-use Rattle.slot_placement.specs.Uses.{values}
+use Rattle.ssu_ir.specs.Points.{PointKind, Entry, At}
+use Rattle.placement.specs.Uses.{values}
 use Rattle.label_weights.specs.Weighted.{point_weight}
 use Rattle.bank_prog.specs.Weighted.{point_in}
 use Rattle.bank_prog.specs.declared.weighing.Located.{Located}
 
--- the label of a place, behind one of this label
-abbrev pub label_at : ℕ → Place → ℕ
+-- the label of a place, after one of this label
+abbrev pub label_at : ℕ → PointKind → ℕ
 label_at l (Entry m xs) = m
 label_at l (At n) = l
 
--- the labels of places, behind one of this label
-abbrev pub labels_behind : ℕ → List Place → List ℕ
+-- the labels of places, after one of this label
+abbrev pub labels_behind : ℕ → List PointKind → List ℕ
 labels_behind l [] = []
 labels_behind l (q ∷ qs) = label_at l q ∷ labels_behind (label_at l q) qs
 

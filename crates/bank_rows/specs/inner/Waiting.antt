@@ -4,8 +4,8 @@ use Rattle.std.specs.List.{flat_map}
 use Rattle.std.specs.declared.vec.Vec.{Vec}
 use Rattle.std.specs.declared.alloc.Global.{Global}
 use Rattle.ssu_ir.specs.Tree.{Label, Does, Forks, Ends}
-use Rattle.ssu_ir.specs.Points.{Place, Entry, At, Point, points}
-use Rattle.slot_placement.specs.Uses as pure
+use Rattle.ssu_ir.specs.Points.{PointKind, Entry, At, Point, points}
+use Rattle.placement.specs.Uses as pure
 use Rattle.bank_form.specs.declared.column.Column.{Column}
 use Rattle.bank_form.specs.declared.column.Column.TheVariants.{PasS}
 use Rattle.bank_form.specs.declared.form.Use.{Use}
@@ -86,13 +86,13 @@ each_waiting below point us k (x ∷ xs) = flat_map (kept_waiting below point k)
 -- ---- how many points lie below each
 
 -- how many nodes follow directly
-abbrev pub arms : Place → ℕ
+abbrev pub arms : PointKind → ℕ
 arms (Entry l params) = 1
 arms (At (Does s)) = 1
 arms (At (Forks c x y)) = 2
 arms (At (Ends l)) = 0
 
--- by those of the points behind it
+-- by those of the points after it
 abbrev pub below_at : ℕ → (ℕ → ℕ) → ℕ → ℕ
 below_at zero below k = 0
 below_at (suc zero) below k = 1 + below (k + 1)

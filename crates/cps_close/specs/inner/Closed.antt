@@ -1,4 +1,4 @@
--- Closing: each label of a function gets what it wants as parameters behind its own, and each jump gives it that.
+-- Closing: each label of a function gets what it wants as parameters after its own, and each jump gives it that.
 use Rattle.std.specs.Prelude.{◌≡◌, ℕ, suc, nat_eq, Bool, true, false, if◌then◌else◌, List, [], ◌∷◌, ◌++◌, map, Option, Some, None, slice_get, slice_set, length}
 use Rattle.nv_base.specs.declared.term.Atom.{Atom}
 use Rattle.nv_base.specs.declared.term.Atom.TheVariants.{Var}
@@ -51,12 +51,12 @@ or_nothing (Some xs) = xs
 or_nothing None = []
 
 -- what the label at an index wants
-abbrev pub wanted_there : List (List ℕ) → Option ℕ → List ℕ
-wanted_there ws (Some i) = or_nothing (slice_get ws i)
-wanted_there ws None = []
+abbrev pub needed_there : List (List ℕ) → Option ℕ → List ℕ
+needed_there ws (Some i) = or_nothing (slice_get ws i)
+needed_there ws None = []
 
-abbrev pub wanted : Table → ℕ → List ℕ
-wanted tab l = wanted_there tab.lists (tab.index l)
+abbrev pub needed : Table → ℕ → List ℕ
+needed tab l = needed_there tab.lists (tab.index l)
 
 -- labels are numbered from 1 on in the flow, since the function begins at 0
 abbrev pub number_there : Option ℕ → ℕ
@@ -80,10 +80,10 @@ tree_of tab (cps.Fix ls t) = tree_of tab t
 tree_of tab (cps.Call f bs k hs) = flow.Halt 0 []
 tree_of tab (cps.Return bs) = flow.Halt 0 []
 tree_of tab (cps.Throw e bs) = flow.Halt 0 []
-tree_of tab (cps.Jump l bs) = flow.Jump (number tab l) (bs ++ operands (wanted tab l))
+tree_of tab (cps.Jump l bs) = flow.Jump (number tab l) (bs ++ operands (needed tab l))
 tree_of tab (cps.Halt e bs) = flow.Halt e bs
 
--- a label with these behind its own parameters
+-- a label with these after its own parameters
 abbrev pub with_wanted : Table → Seen → List ℕ → flow.Label
 with_wanted tab c ws = record { params = c.params ++ ws; body = tree_of tab c.body }
 
@@ -109,7 +109,7 @@ used tab (cps.Fix ls t) = used tab t
 used tab (cps.Call f bs k hs) = []
 used tab (cps.Return bs) = []
 used tab (cps.Throw e bs) = []
-used tab (cps.Jump l bs) = all_vars bs ++ wanted tab l
+used tab (cps.Jump l bs) = all_vars bs ++ needed tab l
 used tab (cps.Halt e bs) = all_vars bs
 
 -- what it defines there
@@ -138,7 +138,7 @@ noted_all gone ws (x ∷ xs) = noted_all gone (noted gone ws x) xs
 
 -- what a label at an index wants, when it wants all that it uses
 abbrev pub grown : Table → Seen → ℕ → List ℕ
-grown tab c i = noted_all (bound c) (wanted_there tab.lists (Some i)) (used tab c.body)
+grown tab c i = noted_all (bound c) (needed_there tab.lists (Some i)) (used tab c.body)
 
 -- a table in which the label at an index wants these
 abbrev pub with_list : Table → ℕ → List ℕ → Table
@@ -172,7 +172,7 @@ pub record IsReached (cs : List Seen) (tab : Table) : Type 0 where
 
 -- no step changes what the label at an index wants
 abbrev pub IsStill : List Seen → Table → ℕ → Type 0
-IsStill cs tab i = (c : Seen) → slice_get cs i ≡ Some c → length (grown tab c i) ≡ length (wanted_there tab.lists (Some i))
+IsStill cs tab i = (c : Seen) → slice_get cs i ≡ Some c → length (grown tab c i) ≡ length (needed_there tab.lists (Some i))
 
 pub record IsTable (cs : List Seen) (tab : Table) : Type 0 where
   pub reached : IsReached cs tab

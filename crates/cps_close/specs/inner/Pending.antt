@@ -15,7 +15,7 @@ abbrev pub part_view : declared.Part → Part
 part_view (declared_part.Term t) = InTerm (term_view t.now)
 part_view (declared_part.Label c) = AtLabel (label_view c.now)
 
--- labels, and the body of each behind it
+-- labels, and the body of each after it
 abbrev pub parts_of : List Seen → List Part
 parts_of [] = []
 parts_of (c ∷ cs) = AtLabel c ∷ InTerm c.body ∷ parts_of cs

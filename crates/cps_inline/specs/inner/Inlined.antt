@@ -1,4 +1,4 @@
--- The program in one function: a call of an earlier group gets copies of that group's functions, each behind a label.
+-- The program in one function: a call of an earlier group gets copies of that group's functions, each after a label.
 -- A copy moves every number of its function up by the same base, so that no two copies share a variable or a label. The numbers of a
 -- copied group are the next ones: first a label for each function of the program, then those of the copies, in the order of the program.
 use Rattle.std.specs.Prelude.{◌≡◌, ℕ, zero, suc, ◌+◌, max, ◌==◌, Bool, true, false, ◌&&◌, if◌then◌else◌, List, [], ◌∷◌, ◌++◌, map, Option, Some, None, slice_get, length}
@@ -11,7 +11,7 @@ use Rattle.cps_ir.specs.Meaning.{handler_of}
 use Rattle.cps_ir.specs.Spine.{put_all}
 use Rattle.cps_ir.specs.View.{fun_view}
 use Rattle.cps_ir.specs.declared.spine.Step.{Step}
-use Rattle.cps_inline.specs.declared.copying.Place as declared
+use Rattle.cps_inline.specs.declared.copying.InlineContext as declared
 use Rattle.cps_ir.specs.Term.{Handler, Term, Let, Read, Write, If, Fix, Call, Return, Throw, Jump, Halt, Labels, none, label, Fun}
 
 -- ---- numbers moved up by a base
@@ -39,28 +39,28 @@ moved_handlers b hs = map (moved_handler b) hs
 
 -- ---- how many numbers a function has, from 0 on
 
--- the first number behind all of these
+-- the first number after all of these
 abbrev pub behind : List ℕ → ℕ
 behind [] = 0
 behind (x ∷ xs) = max (x + 1) (behind xs)
 
-abbrev pub behind_label : Option ℕ → ℕ
-behind_label (Some l) = l + 1
-behind_label None = 0
+abbrev pub after_label : Option ℕ → ℕ
+after_label (Some l) = l + 1
+after_label None = 0
 
-abbrev pub behind_handlers : List Handler → ℕ
-behind_handlers [] = 0
-behind_handlers (h ∷ hs) = max (h.1 + 1) (behind_handlers hs)
+abbrev pub after_handlers : List Handler → ℕ
+after_handlers [] = 0
+after_handlers (h ∷ hs) = max (h.1 + 1) (after_handlers hs)
 
 abbrev mutual
-  -- the first number behind all variables and labels that a term makes, and the labels of its calls
+  -- the first number after all variables and labels that a term makes, and the labels of its calls
   pub term_span : Term → ℕ
   term_span (Let x a t) = max (x + 1) (term_span t)
   term_span (Read m xs a t) = max (behind xs) (term_span t)
   term_span (Write m a bs t) = term_span t
   term_span (If c a b t u) = max (term_span t) (term_span u)
   term_span (Fix ls t) = max (term_span t) (labels_span ls)
-  term_span (Call f bs k hs) = max (behind_label k) (behind_handlers hs)
+  term_span (Call f bs k hs) = max (after_label k) (after_handlers hs)
   term_span (Return bs) = 0
   term_span (Throw e bs) = 0
   term_span (Jump l bs) = 0
@@ -123,19 +123,19 @@ counts funs (suc own) f = if f.group == own then group_count funs (counts funs o
 -- ---- the copy of a term
 
 -- where a copied group stands: the label of the program's first function, where the words go (else they end the run), and the handlers
-pub record Place : Type 0 where
+pub record InlineContext : Type 0 where
   pub first : ℕ
   pub to : Option ℕ
   pub handlers : List Handler
 
 -- of a call: its own label and handlers, those round its function, and its own labels from a number on
-abbrev pub place_behind : Place → ℕ → ℕ → List Handler → ℕ → Place
-place_behind p b k hs n = record { first = n; to = Some (b + k); handlers = moved_handlers b hs ++ p.handlers }
+abbrev pub context_of_call_in : InlineContext → ℕ → ℕ → List Handler → ℕ → InlineContext
+context_of_call_in p b k hs n = record { first = n; to = Some (b + k); handlers = moved_handlers b hs ++ p.handlers }
 
 -- words go to a label, or end the run under a number
-abbrev pub lands : Option ℕ → ℕ → List Atom → Term
-lands (Some l) e bs = Jump l bs
-lands None e bs = Halt e bs
+abbrev pub return_term : Option ℕ → ℕ → List Atom → Term
+return_term (Some l) e bs = Jump l bs
+return_term None e bs = Halt e bs
 
 -- a call of a function, by its number, at a place, where n is the next number
 abbrev pub Entering : Type 0
@@ -145,7 +145,7 @@ abbrev pub entered_call : Entering → ℕ → Option Fun → List Atom → Opti
 entered_call enter i (Some f) bs to hs n = enter i f bs to hs n
 entered_call enter i None bs to hs n = Halt 0 []
 
--- a single label is copied behind its term, several are copied before it
+-- a single label is copied after its term, several are copied before it
 abbrev pub is_one : Labels → Bool
 is_one none = false
 is_one (label l xs t none) = true
@@ -153,7 +153,7 @@ is_one (label l xs t (label k ys u ls)) = false
 
 abbrev mutual
   -- a term of a function whose numbers are moved by b, where n is the next number
-  pub copied : List Fun → Entering → Counts → Place → ℕ → Term → ℕ → Term
+  pub copied : List Fun → Entering → Counts → InlineContext → ℕ → Term → ℕ → Term
   copied funs enter w p b (Let x a t) n = Let (b + x) (moved_primitive b a) (copied funs enter w p b t n)
   copied funs enter w p b (Read m xs a t) n = Read m (moved b xs) (moved_atom b a) (copied funs enter w p b t n)
   copied funs enter w p b (Write m a bs t) n = Write m (moved_atom b a) (moved_atoms b bs) (copied funs enter w p b t n)
@@ -164,18 +164,18 @@ abbrev mutual
   copied funs enter w p b (Call f bs (Some k) hs) n =
       entered_call enter f (slice_get funs f) (moved_atoms b bs) (Some (b + k)) (moved_handlers b hs ++ p.handlers) n
   copied funs enter w p b (Call f bs None hs) n = Jump (p.first + f) (moved_atoms b bs)
-  copied funs enter w p b (Return bs) n = lands p.to 0 (moved_atoms b bs)
-  copied funs enter w p b (Throw e bs) n = lands (handler_of e p.handlers) e (moved_atoms b bs)
+  copied funs enter w p b (Return bs) n = return_term p.to 0 (moved_atoms b bs)
+  copied funs enter w p b (Throw e bs) n = return_term (handler_of e p.handlers) e (moved_atoms b bs)
   copied funs enter w p b (Jump l bs) n = Jump (b + l) (moved_atoms b bs)
   copied funs enter w p b (Halt e bs) n = Halt e (moved_atoms b bs)
 
-  pub copied_labels : List Fun → Entering → Counts → Place → ℕ → Labels → ℕ → Labels
+  pub copied_labels : List Fun → Entering → Counts → InlineContext → ℕ → Labels → ℕ → Labels
   copied_labels funs enter w p b none n = none
   copied_labels funs enter w p b (label l xs t ls) n =
       label (b + l) (moved b xs) (copied funs enter w p b t n) (copied_labels funs enter w p b ls (n + term_count funs w t))
 
 -- the labels of the copies for a callee among the functions from number j on
-abbrev pub copies : List Fun → Entering → Counts → Fun → Place → ℕ → List Fun → ℕ → Labels
+abbrev pub copies : List Fun → Entering → Counts → Fun → InlineContext → ℕ → List Fun → ℕ → Labels
 copies funs enter w f p j [] n = none
 copies funs enter w f p j (g ∷ gs) n =
     if is_copied f g
@@ -208,33 +208,33 @@ inlined_main funs main f = record {
 
 -- ---- what the code comes to
 
-abbrev pub place_view : declared.Place → Place
-place_view p = record { first = p.first; to = p.to; handlers = p.handlers.items }
+abbrev pub context_view : declared.InlineContext → InlineContext
+context_view p = record { first = p.first; to = p.to; handlers = p.handlers.items }
 
 -- at a place of the code
-abbrev pub count_at : List CpsFun → declared.Place → Term → ℕ
+abbrev pub count_at : List CpsFun → declared.InlineContext → Term → ℕ
 count_at funs p t = term_count (map fun_view funs) (counts (map fun_view funs) p.group) t
 
-abbrev pub labels_count_at : List CpsFun → declared.Place → Labels → ℕ
+abbrev pub labels_count_at : List CpsFun → declared.InlineContext → Labels → ℕ
 labels_count_at funs p ls = labels_count (map fun_view funs) (counts (map fun_view funs) p.group) ls
 
-abbrev pub copy_at : List CpsFun → declared.Place → ℕ → Term → ℕ → Term
-copy_at funs p b t n = copied (map fun_view funs) (entering (map fun_view funs) p.group) (counts (map fun_view funs) p.group) (place_view p) b t n
+abbrev pub copy_at : List CpsFun → declared.InlineContext → ℕ → Term → ℕ → Term
+copy_at funs p b t n = copied (map fun_view funs) (entering (map fun_view funs) p.group) (counts (map fun_view funs) p.group) (context_view p) b t n
 
-abbrev pub labels_at : List CpsFun → declared.Place → ℕ → Labels → ℕ → Labels
-labels_at funs p b ls n = copied_labels (map fun_view funs) (entering (map fun_view funs) p.group) (counts (map fun_view funs) p.group) (place_view p) b ls n
+abbrev pub labels_at : List CpsFun → declared.InlineContext → ℕ → Labels → ℕ → Labels
+labels_at funs p b ls n = copied_labels (map fun_view funs) (entering (map fun_view funs) p.group) (counts (map fun_view funs) p.group) (context_view p) b ls n
 
 -- of a callee's group, and of the functions from number j on in it
-abbrev pub group_count_at : List CpsFun → declared.Place → Fun → ℕ
+abbrev pub group_count_at : List CpsFun → declared.InlineContext → Fun → ℕ
 group_count_at funs p f = group_count (map fun_view funs) (counts (map fun_view funs) p.group) f
 
-abbrev pub copies_count_at : List CpsFun → declared.Place → Fun → List Fun → ℕ
+abbrev pub copies_count_at : List CpsFun → declared.InlineContext → Fun → List Fun → ℕ
 copies_count_at funs p f gs = copies_count (map fun_view funs) (counts (map fun_view funs) p.group) f gs
 
-abbrev pub copies_at : List CpsFun → declared.Place → Fun → ℕ → List Fun → ℕ → Labels
-copies_at funs p f j gs n = copies (map fun_view funs) (entering (map fun_view funs) p.group) (counts (map fun_view funs) p.group) f (place_view p) j gs n
+abbrev pub copies_at : List CpsFun → declared.InlineContext → Fun → ℕ → List Fun → ℕ → Labels
+copies_at funs p f j gs n = copies (map fun_view funs) (entering (map fun_view funs) p.group) (counts (map fun_view funs) p.group) f (context_view p) j gs n
 
-abbrev pub copy_count_at : List CpsFun → declared.Place → Fun → ℕ
+abbrev pub copy_count_at : List CpsFun → declared.InlineContext → Fun → ℕ
 copy_count_at funs p g = copy_count (map fun_view funs) (counts (map fun_view funs) p.group) g
 
 -- steps, and one more: a node of what follows

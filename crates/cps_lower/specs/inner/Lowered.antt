@@ -76,7 +76,7 @@ hands_on funs own (Raise e bs) = false
 hands_on funs own (Try' q t e xs r u) = hands_on funs own t || hands_on funs own u
 hands_on funs own (Give bs) = false
 
--- the first variable behind all of these
+-- the first variable after all of these
 abbrev pub next_variable : List ℕ → ℕ
 next_variable [] = 0
 next_variable (x ∷ xs) = max (x + 1) (next_variable xs)

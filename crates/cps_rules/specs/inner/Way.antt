@@ -130,7 +130,7 @@ pub record IsScoped (σ : Names) (S : Set) (t : Tree) : Type 0 where
   pub own : (x : ℕ) → is_in x known ≡ true → Within (atom_vars (σ x)) known
   pub unmarked : (x : ℕ) → is_in x (defined t) ≡ true → S x ≡ false
 
--- each variable that a `Let` defines is used somewhere behind it, and none is just another operand
+-- each variable that a `Let` defines is used somewhere after it, and none is just another operand
 abbrev pub AreUsed : Tree → Type 0
 AreUsed t = EachLet (λ x p rest. (is_in x (uses rest) ≡ true) × (is_same p ≡ false)) t
 

@@ -5,9 +5,9 @@ use Rattle.nova_commands.specs.Answers.{IsDone, IsStopped, IsRefused}
 use Rattle.command_line.specs.Command.{Command}
 use Rattle.command_line.specs.declared.refusal.Refusal.{Refusal}
 use Rattle.command_line.specs.declared.reply.Reply.{Reply}
-use Rattle.object_commands.specs.inner.Outcomes.{IsOutcome}
-use Rattle.object_commands.specs.declared.save.Made.{Made}
-use Rattle.object_commands.specs.declared.save.Outputs.TheVariants.{Nothing}
+use Rattle.machine_commands.specs.inner.Outcomes.{IsOutcome}
+use Rattle.machine_commands.specs.declared.save.Made.{Made}
+use Rattle.machine_commands.specs.declared.save.Outputs.TheVariants.{Nothing}
 use Rattle.command_line.specs.declared.status.Status.{Status}
 use Rattle.command_line.specs.declared.status.Status.TheVariants.{WriteFault}
 

@@ -11,12 +11,12 @@ use Rattle.nv_base.specs.Meanings.{FullOutcome, source_writes, left_by, IsPrefix
 use Rattle.nv_values.specs.Values.{Word, Tuple, Record, Scope}
 use Rattle.nv_values.specs.Running.{Running, Result, Gives, Results, GiveAll, Breaks, NamedResults, GiveNamed, BreaksNamed, Stated, GoesOn, StopsAt}
 use Rattle.nv_meaning.specs.Meaning.{Declared, Calls, calls_within}
-pub use Rattle.nv_values.specs.inner.Stopping.{now_of, Grown, Stopped, IsValue}
+pub use Rattle.nv_values.specs.inner.Interrupting.{now_of, Grown, Interrupted, IsValue}
 use Rattle.nv_values.specs.inner.View.{view, list_values, list_named_values}
 use Rattle.nv_values.specs.declared.value.Value.{Value}
 use Rattle.nv_meaning.specs.declared.step.Step.{Step}
 use Rattle.nv_meaning.specs.declared.step.Step.TheVariants.{Done, Again}
-use Rattle.nv_values.specs.declared.stop.Stop.{Stop}
+use Rattle.nv_values.specs.declared.stop.Interruption.{Interruption}
 
 -- ---- moments of the interpreter's work: the calls that are left, the memories and the log
 pub record At : Type 0 where
@@ -44,9 +44,9 @@ abbrev pub step_result : Calls → Step → Running → Result
 step_result call (Done v) now = Gives (view v) now
 step_result call (Again f vs) now = call f.now (list_values vs.items) now
 
-abbrev pub IsStep : Calls → Answer Step Stop → Running → Result → Type 0
+abbrev pub IsStep : Calls → Answer Step Interruption → Running → Result → Type 0
 IsStep call (Ok step) now r = r ≡ step_result call step now
-IsStep call (Err stop) now r = Stopped stop now r
+IsStep call (Err stop) now r = Interrupted stop now r
 
 -- some values as their tuple or record, and a scope as any value
 abbrev pub all_result : Results → Result
@@ -61,18 +61,18 @@ abbrev pub stated_result : Stated → Result
 stated_result (GoesOn scope now) = Gives (Word 0) now
 stated_result (StopsAt how) = how
 
-abbrev pub AreValues : Answer (Vec Value Global) Stop → Running → Results → Type 0
+abbrev pub AreValues : Answer (Vec Value Global) Interruption → Running → Results → Type 0
 AreValues (Ok vs) now r = r ≡ GiveAll (list_values vs.items) now
-AreValues (Err stop) now r = Stopped stop now (all_result r)
+AreValues (Err stop) now r = Interrupted stop now (all_result r)
 
-abbrev pub AreFields : Answer (Vec (Bor (List ℕ) × Value) Global) Stop → Running → NamedResults → Type 0
+abbrev pub AreFields : Answer (Vec (Bor (List ℕ) × Value) Global) Interruption → Running → NamedResults → Type 0
 AreFields (Ok fields) now r = r ≡ GiveNamed (list_named_values fields.items) now
-AreFields (Err stop) now r = Stopped stop now (named_result r)
+AreFields (Err stop) now r = Interrupted stop now (named_result r)
 
 -- the scope behind statements
-abbrev pub IsScope : Answer (Unit {0}) Stop → Scope → Running → Stated → Type 0
+abbrev pub IsScope : Answer (Unit {0}) Interruption → Scope → Running → Stated → Type 0
 IsScope (Ok u) scope now r = r ≡ GoesOn scope now
-IsScope (Err stop) scope now r = Stopped stop now (stated_result r)
+IsScope (Err stop) scope now r = Interrupted stop now (stated_result r)
 
 -- ---- from one moment to a later one, however deep calls may lie in one another beyond those that are left
 pub record Ran (d : Declared) (a b : At) (comes : Calls → Running → Running → Type 0) : Type 0 where
@@ -80,22 +80,22 @@ pub record Ran (d : Declared) (a b : At) (comes : Calls → Running → Running 
   pub change : Wrote a b wrote
   pub run : (depth : ℕ) → a.calls ≤ depth → (before : List Write) → comes (calls_within depth d) (running a before) (running b (before ++ wrote))
 
-abbrev pub RanStep : Declared → At → At → Answer Step Stop → (Calls → Running → Result) → Type 0
+abbrev pub RanStep : Declared → At → At → Answer Step Interruption → (Calls → Running → Result) → Type 0
 RanStep d a b answer r = Ran d a b (λ call now last. IsStep call answer last (r call now))
 
-abbrev pub RanValue : Declared → At → At → Answer Value Stop → (Calls → Running → Result) → Type 0
+abbrev pub RanValue : Declared → At → At → Answer Value Interruption → (Calls → Running → Result) → Type 0
 RanValue d a b answer r = Ran d a b (λ call now last. IsValue answer last (r call now))
 
-abbrev pub RanValues : Declared → At → At → Answer (Vec Value Global) Stop → (Calls → Running → Results) → Type 0
+abbrev pub RanValues : Declared → At → At → Answer (Vec Value Global) Interruption → (Calls → Running → Results) → Type 0
 RanValues d a b answer r = Ran d a b (λ call now last. AreValues answer last (r call now))
 
-abbrev pub RanFields : Declared → At → At → Answer (Vec (Bor (List ℕ) × Value) Global) Stop → (Calls → Running → NamedResults) → Type 0
+abbrev pub RanFields : Declared → At → At → Answer (Vec (Bor (List ℕ) × Value) Global) Interruption → (Calls → Running → NamedResults) → Type 0
 RanFields d a b answer r = Ran d a b (λ call now last. AreFields answer last (r call now))
 
-abbrev pub RanScope : Declared → At → At → Answer (Unit {0}) Stop → Scope → (Calls → Running → Stated) → Type 0
+abbrev pub RanScope : Declared → At → At → Answer (Unit {0}) Interruption → Scope → (Calls → Running → Stated) → Type 0
 RanScope d a b answer scope r = Ran d a b (λ call now last. IsScope answer scope last (r call now))
 
--- ---- a whole run: its full outcome, or after want of memory a moment before its end
+-- ---- a whole run: its full outcome, or after memory exhaustion a moment before its end
 abbrev pub Executes : Answer Outcome base.NoMemory → At → At → FullOutcome → Type 0
 Executes (Ok o) a b f = (f.outcome ≡ o) × (f.packet ≡ b.packet) × (b.log ≡ noted_all a.log (source_writes f.writes))
 Executes (Err e) a b f = (made : List Write) × IsPrefix made f.writes × (b.packet ≡ left_by made a.packet) × (b.log ≡ noted_all a.log (source_writes made))

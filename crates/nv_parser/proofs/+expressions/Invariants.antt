@@ -8,7 +8,7 @@ use Rattle.nv_ast.specs.ExprView.{tree_of, statement_tree, list_trees, list_name
 use Rattle.nv_parser.specs.inner.Follow.{Above}
 use Rattle.nv_parser.specs.inner.Failing.{ReadMany}
 use Rattle.nv_parser.specs.inner.ExprPhrases.{NextExpr, NextMember, ABody, ARest, Onward}
-use Rattle.nv_parser.specs.inner.Lists.{ExprsBehind, MembersBehind, StatementsBehind}
+use Rattle.nv_parser.specs.inner.Lists.{ExprsAfter, MembersAfter, StatementsAfter}
 use Rattle.nv_parser.proofs.+expressions.Given as goal
 
 abbrev pub decreases-operands::high_atom : goal.decreases-operands::high_atom
@@ -92,7 +92,7 @@ decreases-operands::level l = 32 * length l.tokens.now + l.l + 4
 abbrev pub invariant-expressions::more_exprs-loop-after : goal.invariant-expressions::more_exprs-loop-after
 invariant-expressions::more_exprs-loop-after l = record {
   items : ReadMany NextExpr (Above 9) l.room l.fn.tokens l.rest;
-  read : ExprsBehind (tree_of l.fn.first) (list_trees l.exprs.items) l.fn.tokens l.rest;
+  read : ExprsAfter (tree_of l.fn.first) (list_trees l.exprs.items) l.fn.tokens l.rest;
   measured : l.highest ≡ highest (list_trees l.exprs.items);
   low : l.highest ≤ l.room;
   inside : pattern_inside_all (list_trees l.exprs.items) ≤ 100;
@@ -105,7 +105,7 @@ decreases-expressions::more_exprs-loop-after l = length l.rest
 abbrev pub invariant-operands::more_members-loop-after : goal.invariant-operands::more_members-loop-after
 invariant-operands::more_members-loop-after l = record {
   items : ReadMany NextMember (Above 9) l.room l.fn.tokens l.rest;
-  read : MembersBehind l.fn.name (tree_of l.fn.first) (list_named_trees l.members.items) l.fn.tokens l.rest;
+  read : MembersAfter l.fn.name (tree_of l.fn.first) (list_named_trees l.members.items) l.fn.tokens l.rest;
   measured : l.highest ≡ highest_named (list_named_trees l.members.items);
   low : l.highest ≤ l.room;
   inside : pattern_inside_named (list_named_trees l.members.items) ≤ 100;
@@ -118,7 +118,7 @@ decreases-operands::more_members-loop-after l = length l.rest
 abbrev pub invariant-expressions::more_statements-loop-alloc : goal.invariant-expressions::more_statements-loop-alloc
 invariant-expressions::more_statements-loop-alloc l = record {
   onward : Onward ABody ABody (Above 9) l.room l.rest l.fn.tokens;
-  read : StatementsBehind (statement_tree l.fn.first) (list_statements l.statements.items) l.fn.tokens l.rest;
+  read : StatementsAfter (statement_tree l.fn.first) (list_statements l.statements.items) l.fn.tokens l.rest;
   measured : l.highest ≡ highest_statement (list_statements l.statements.items);
   low : l.highest ≤ l.room;
   inside : pattern_inside_statements (list_statements l.statements.items) ≤ 100;

@@ -32,7 +32,7 @@ IsSyntax ts (Syntax left) = left.now ≡ ts
 IsSyntax ts NoMemory = ⊥
 IsSyntax ts (Deep left) = ⊥
 
--- want of memory, or the first of these tokens fits nothing, and that is so
+-- memory exhaustion, or the first of these tokens fits nothing, and that is so
 abbrev pub IsSyntaxOrMemory : Type 0 → List Token → Failure → Type 0
 IsSyntaxOrMemory P ts (Syntax left) = (left.now ≡ ts) × P
 IsSyntaxOrMemory P ts NoMemory = Unit {0}

@@ -47,14 +47,14 @@ SomeStatements = Phrase IsStatements LowStatements
 abbrev pub ALevel : ℕ → Phrases
 ALevel l = Phrase (IsLevel l) LowExpr
 
--- the operators of a level behind a left operand
+-- the operators of a level after a left operand
 abbrev pub ARest : ℕ → Tree → Phrases
 ARest l a = Phrase (IsRest l a) LowExpr
 
 abbrev pub AnUna : Phrases
 AnUna = Phrase IsUna LowExpr
 
--- the dots behind an operand
+-- the dots after an operand
 abbrev pub SomeDots : Tree → Phrases
 SomeDots a = Phrase (IsDots a) LowExpr
 

@@ -74,10 +74,10 @@ pub record Phrase {T : Type 0} (R : T → List Token → List Token → Type 0) 
   pub low : Low b tree
 
 -- one token
-pub record One {X : Type 0} (sort_of : X → Sort) (b : Bound) (ts k : List Token) : Type 0 where
+pub record One {X : Type 0} (origin_of : X → Sort) (b : Bound) (ts k : List Token) : Type 0 where
   pub span : Span
   pub value : X
-  pub split : ts ≡ at span (sort_of value) ∷ k
+  pub split : ts ≡ at span (origin_of value) ∷ k
 
 abbrev pub ASign : ℕ → Phrases
 ASign n = One {X = Unit {0}} (λ x. Sign n)
@@ -103,7 +103,7 @@ pub data Many (P : Phrases) (b : Bound) : List Token → List Token → Type 0 w
   next : {ts us k : List Token} → P b ts us → Many P b us k → Many P b ts k
 
 -- a phrase whose first tokens are read
-pub record Behind (seen : List Token) (P : Phrases) (b : Bound) (ts k : List Token) : Type 0 where
+pub record HasRead (seen : List Token) (P : Phrases) (b : Bound) (ts k : List Token) : Type 0 where
   pub whole : P b (seen ++ ts) k
 
 -- ---- what is said of them
@@ -146,7 +146,7 @@ pub data ReadMany (P : Phrases) (F : Follow) (room : ℕ) : List Token → List 
 -- where only the height is at fault, higher phrases go on with the next token
 abbrev pub GoesOn : Phrases → Bool → List Token → List Token → Type 0
 GoesOn P false seen left = Unit {0}
-GoesOn P true seen left = Starts (Behind seen P) left
+GoesOn P true seen left = Starts (HasRead seen P) left
 
 -- the tokens before `left` begin a phrase within the room; with the first of `left` they begin none, or if `deep` none within the room
 pub record Fails (P : Phrases) (F : Follow) (deep : Bool) (room : ℕ) (ts left : List Token) : Type 0 where
@@ -156,7 +156,7 @@ pub record Fails (P : Phrases) (F : Follow) (deep : Bool) (room : ℕ) (ts left 
   pub goes_on : GoesOn P deep seen left
   pub dead : (us k : List Token) → SameFront left us → P (bound_of deep room) (seen ++ us) k → F k → ⊥
 
--- want of memory, or the tokens from the one on at which it fails
+-- memory exhaustion, or the tokens from the one on at which it fails
 pub data FailsAs (P : Phrases) (F : Follow) (room : ℕ) (ts : List Token) : Failure → Type 0 where
   no_memory : FailsAs P F room ts NoMemory
   syntax : {left : Bor (List Token)} → Fails P F false room ts left.now → FailsAs P F room ts (Syntax left)

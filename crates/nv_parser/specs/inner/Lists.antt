@@ -7,61 +7,61 @@ use Rattle.nv_ast.specs.Tree.{LayoutTree, LayoutTrees, no_layouts, layout_and, F
 use Rattle.nv_ast.specs.Grammar.{IsLayout, IsLayoutAtom, IsMoreLayouts, IsField, IsAlternative, IsMoreFields, IsMoreAlternatives, IsType, IsMoreTypes, IsMoreNamedTypes, IsPattern, IsMorePatterns, IsExpr, IsMoreExprs, IsMoreMembers, IsStatement, IsStatements, IsFun, IsMoreFuns, IsDecl, IsDecls}
 
 -- layouts: the first, and those that follow it in the tokens
-pub record LayoutsBehind (first : LayoutTree) (all : LayoutTrees) (ts k : List Token) : Type 0 where
+pub record LayoutsAfter (first : LayoutTree) (all : LayoutTrees) (ts k : List Token) : Type 0 where
   pub new : LayoutTrees
   pub list : IsMoreLayouts new ts k
   pub whole : all ≡ layout_and first new
 
 -- fields: the first, and those that follow it in the tokens
-pub record FieldsBehind (name : List ℕ) (first : FieldTree) (all : FieldTrees) (ts k : List Token) : Type 0 where
+pub record FieldsAfter (name : List ℕ) (first : FieldTree) (all : FieldTrees) (ts k : List Token) : Type 0 where
   pub new : FieldTrees
   pub list : IsMoreFields new ts k
   pub whole : all ≡ field_and name first new
 
 -- alternatives: the first, and those that follow it in the tokens
-pub record AlternativesBehind (name : List ℕ) (first : FieldTree) (all : FieldTrees) (ts k : List Token) : Type 0 where
+pub record AlternativesAfter (name : List ℕ) (first : FieldTree) (all : FieldTrees) (ts k : List Token) : Type 0 where
   pub new : FieldTrees
   pub list : IsMoreAlternatives new ts k
   pub whole : all ≡ field_and name first new
 
 -- types: the first, and those that follow it in the tokens
-pub record TypesBehind (first : TypeTree) (all : TypeTrees) (ts k : List Token) : Type 0 where
+pub record TypesAfter (first : TypeTree) (all : TypeTrees) (ts k : List Token) : Type 0 where
   pub new : TypeTrees
   pub list : IsMoreTypes new ts k
   pub whole : all ≡ type_and first new
 
 -- named types: the first, and those that follow it in the tokens
-pub record NamedTypesBehind (name : List ℕ) (first : TypeTree) (all : NamedTypes) (ts k : List Token) : Type 0 where
+pub record NamedTypesAfter (name : List ℕ) (first : TypeTree) (all : NamedTypes) (ts k : List Token) : Type 0 where
   pub new : NamedTypes
   pub list : IsMoreNamedTypes new ts k
   pub whole : all ≡ named_type_and name first new
 
 -- patterns: the first, and those that follow it in the tokens
-pub record PatternsBehind (first : PatternTree) (all : PatternTrees) (ts k : List Token) : Type 0 where
+pub record PatternsAfter (first : PatternTree) (all : PatternTrees) (ts k : List Token) : Type 0 where
   pub new : PatternTrees
   pub list : IsMorePatterns new ts k
   pub whole : all ≡ pattern_and first new
 
 -- exprs: the first, and those that follow it in the tokens
-pub record ExprsBehind (first : Tree) (all : Trees) (ts k : List Token) : Type 0 where
+pub record ExprsAfter (first : Tree) (all : Trees) (ts k : List Token) : Type 0 where
   pub new : Trees
   pub list : IsMoreExprs new ts k
   pub whole : all ≡ tree_and first new
 
 -- members: the first, and those that follow it in the tokens
-pub record MembersBehind (name : List ℕ) (first : Tree) (all : NamedTrees) (ts k : List Token) : Type 0 where
+pub record MembersAfter (name : List ℕ) (first : Tree) (all : NamedTrees) (ts k : List Token) : Type 0 where
   pub new : NamedTrees
   pub list : IsMoreMembers new ts k
   pub whole : all ≡ named_tree_and name first new
 
 -- statements: the first, and those that follow it in the tokens
-pub record StatementsBehind (first : StatementTree) (all : StatementTrees) (ts k : List Token) : Type 0 where
+pub record StatementsAfter (first : StatementTree) (all : StatementTrees) (ts k : List Token) : Type 0 where
   pub new : StatementTrees
   pub list : IsStatements new ts k
   pub whole : all ≡ statement_and first new
 
 -- functions: the first, and those that follow it in the tokens
-pub record FunsBehind (first : FunTree) (all : List FunTree) (ts k : List Token) : Type 0 where
+pub record FunsAfter (first : FunTree) (all : List FunTree) (ts k : List Token) : Type 0 where
   pub new : List FunTree
   pub list : IsMoreFuns new ts k
   pub whole : all ≡ first ∷ new

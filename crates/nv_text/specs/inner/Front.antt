@@ -25,7 +25,7 @@ pub record NoSignOf (n : ℕ) (bytes : List ℕ) : Type 0 where
 pub record NoSign (bytes : List ℕ) : Type 0 where
   pub none : (w rest : List ℕ) (k : ℕ) → bytes ≡ w ++ rest → sign_of w ≡ Some k → ⊥
 
--- want of memory, or the fault in front
+-- memory exhaustion, or the fault in front
 abbrev pub MayFail : List ℕ → ℕ → TextError → Type 0
 MayFail bytes at e = (e ≡ NoMemory) ⊎ FaultHere bytes at e
 

@@ -41,6 +41,6 @@ abbrev pub scope_of : List Named → Scope → Scope
 scope_of [] outer = outer
 scope_of (x ∷ xs) outer = scope_of xs ((x.0.now, view x.1) ∷ outer)
 
--- the second list is the first, with more behind it
+-- the second list is the first, with more after it
 abbrev pub Extends : List Named → List Named → Type 0
 Extends xs ys = (more : List Named) × (ys ≡ xs ++ more)

@@ -39,7 +39,7 @@ is_free x (Do s t) = is_in x (step_names s) || (not (is_in x (step_defs s)) && i
 is_free x (If c a b t u) = is_in x (a ∷ b ∷ []) || (is_free x t || is_free x u)
 is_free x (End l) = is_in x (last_uses l)
 
--- ---- behind a step, the names that stand for what a name stood for before it, where these have got another meaning
+-- ---- after a step, the names that stand for what a name stood for before it, where these have got another meaning
 
 abbrev pub clones_from : Step → ℕ → List ℕ
 clones_from (Lit x v) z = []
@@ -91,9 +91,9 @@ is_bound params body x = (is_in x params || not (is_free x body)) && addressed N
 abbrev pub is_once : List Label → ℕ → Bool
 is_once labels x = times_in x (all_defined labels) == 1
 
--- of a node, where the trees behind it use these names
+-- of a node, where the trees after it use these names
 abbrev pub node_kept : List Label → (ℕ → Bool) → Node → List ℕ → Bool
-node_kept labels known n behind = is_node labels n && (are_new (node_names n) behind && list_all known (node_names n))
+node_kept labels known n successors = is_node labels n && (are_new (node_names n) successors && list_all known (node_names n))
 
 -- of what a step defines
 abbrev pub step_kept : List Label → List ℕ → Step → Tree → Bool
@@ -156,6 +156,6 @@ defs_kept labels fresh n t =
     list_all (is_once labels) (node_defs n)
     && (node_fresh fresh n && (list_all (λ x. copy_used x t) (node_results n) && list_all (λ x. addressed (node_number n) x t) (node_values n)))
 
--- what needs nothing behind a node
+-- what needs nothing after a node
 abbrev pub node_alone : List Label → (ℕ → Bool) → Node → Bool
 node_alone labels known n = is_node labels n && (all_different (node_names n) && list_all known (node_names n))

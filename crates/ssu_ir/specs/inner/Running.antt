@@ -9,10 +9,10 @@ use Rattle.nv_base.specs.World.{World, over}
 use Rattle.ssu_ir.specs.declared.node.SsuLabel.{SsuLabel}
 use Rattle.ssu_ir.specs.declared.node.SsuNode.{SsuNode}
 use Rattle.ssu_ir.specs.declared.ssu.Ssu.{Ssu}
-use Rattle.ssu_ir.specs.declared.step.Leaving.{Leaving}
-use Rattle.ssu_ir.specs.declared.step.Leaving.TheVariants.{Jump as LeavesBy, Over}
-use Rattle.ssu_ir.specs.declared.step.Went.{Went}
-use Rattle.ssu_ir.specs.declared.step.Went.TheVariants.{On, Left}
+use Rattle.ssu_ir.specs.declared.step.LabelExit.{LabelExit}
+use Rattle.ssu_ir.specs.declared.step.LabelExit.TheVariants.{Jump as LeavesBy, Over}
+use Rattle.ssu_ir.specs.declared.step.NextStep.{NextStep}
+use Rattle.ssu_ir.specs.declared.step.NextStep.TheVariants.{On, Left}
 use Rattle.ssu_ir.specs.Tree.{Step, Lit, Una, Bin, Clone, Read, Write, Last, Jump, Halt, Node, Does, Forks, Ends, step_values, step_clones}
 use Rattle.ssu_ir.specs.Single.{is_step}
 use Rattle.ssu_ir.specs.Slots.{Slots, slot, node_of}
@@ -37,27 +37,27 @@ node_exit (Forks c x y) (j ∷ []) go env w = go j env w
 node_exit (Forks c x y) (j ∷ k ∷ ks) go env w = if compares c (env x) (env y) then go j env w else go k env w
 node_exit (Ends l) ks go env w = last_exit l env w
 
-abbrev pub leaving_exit : Leaving → List ℕ → World → Exit
+abbrev pub leaving_exit : LabelExit → List ℕ → World → Exit
 leaving_exit (LeavesBy l) ws w = JumpsTo l ws w
 leaving_exit (Over o) ws w = EndsWith (over o w)
 
-abbrev pub went_exit : Went → List ℕ → Env → World → (ℕ → Env → World → Exit) → Exit
+abbrev pub went_exit : NextStep → List ℕ → Env → World → (ℕ → Env → World → Exit) → Exit
 went_exit (On k) ws env w go = go k.0 env w
 went_exit (Left l) ws env w go = leaving_exit l ws w
 
 -- what a node does is what comes of its answer
-pub record Stepped (n : Node) (ks : List ℕ) (env : Env) (log0 : Log) (w : World) (r : Went) (ws : List ℕ) (env' : Env) (p : Memories) (log : Log) : Type 0 where
+pub record Stepped (n : Node) (ks : List ℕ) (env : Env) (log0 : Log) (w : World) (r : NextStep) (ws : List ℕ) (env' : Env) (p : Memories) (log : Log) : Type 0 where
   pub now : World
   pub at : At log0 p log now
   pub exit : (go : ℕ → Env → World → Exit) → node_exit n ks go env w ≡ went_exit r ws env' now go
 
 -- a run goes on with a child of the node
-abbrev pub GoesOn : List ℕ → Went → Type 0
+abbrev pub GoesOn : List ℕ → NextStep → Type 0
 GoesOn ks (On k) = is_in k.0 ks ≡ true
 GoesOn ks (Left l) = ⊤
 
 -- the run is left so
-pub record LeftBy (e : Exit) (log0 : Log) (l : Leaving) (ws : List ℕ) (p : Memories) (log : Log) : Type 0 where
+pub record LeftBy (e : Exit) (log0 : Log) (l : LabelExit) (ws : List ℕ) (p : Memories) (log : Log) : Type 0 where
   pub now : World
   pub at : At log0 p log now
   pub exit : e ≡ leaving_exit l ws now

@@ -1,8 +1,8 @@
 -- The tree under a number of a slab.
 use Rattle.std.specs.Prelude.{◌≡◌, ℕ, ◌≤◌, List, [], ◌∷◌}
 use Rattle.ssu_ir.specs.declared.node.SsuLabel.{SsuLabel}
-use Rattle.ssu_ir.specs.declared.pieces.Kids.{Kids}
-use Rattle.ssu_ir.specs.declared.pieces.Kids.TheVariants.{None, One, Two}
+use Rattle.ssu_ir.specs.declared.pieces.NextNodes.{NextNodes}
+use Rattle.ssu_ir.specs.declared.pieces.NextNodes.TheVariants.{None, One, Two}
 use Rattle.ssu_ir.specs.Tree.{Tree, Label}
 use Rattle.ssu_ir.specs.Slots.{Slots, Placed, root, bare, weight, Stands, filled, placed_at}
 
@@ -24,10 +24,10 @@ abbrev pub AllHave : Slots → List ℕ → Type 0
 AllHave slots [] = Unit {0}
 AllHave slots (i ∷ is) = HasTree slots i × AllHave slots is
 
-abbrev pub kid_numbers : Kids → List ℕ
-kid_numbers None = []
-kid_numbers (One k) = k.0 ∷ []
-kid_numbers (Two j k) = j.0 ∷ k.0 ∷ []
+abbrev pub successor_numbers : NextNodes → List ℕ
+successor_numbers None = []
+successor_numbers (One k) = k.0 ∷ []
+successor_numbers (Two j k) = j.0 ∷ k.0 ∷ []
 
 -- a label over the tree under its number
 abbrev pub label_of : Slots → SsuLabel → Label

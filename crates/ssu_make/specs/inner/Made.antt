@@ -1,5 +1,5 @@
--- The single use form of a tree. Each variable x has consecutive names from `base x` on: the use behind which k uses follow on the fullest path has
--- the name `base x + k`. A value that is used twice or more has the name behind those of its copies, and its clones directly behind its
+-- The single use form of a tree. Each variable x has consecutive names from `base x` on: the use after which k uses follow on the fullest path has
+-- the name `base x + k`. A value that is used twice or more has the name behind those of its copies, and its clones directly after its
 -- definition. Literals are made directly before their node, under new names, which are numbered from the end of the tree upwards.
 use Rattle.std.specs.Prelude.{◌≡◌, ℕ, ◌+◌, ◌*◌, ◌/◌, ◌%◌, ◌<◌, ◌≤◌, max, nat_lt, Bool, true, false, ◌⊎◌, ⊤, List, [], ◌∷◌, ◌++◌, map, drop, slice_index, if◌then◌else◌}
 use Rattle.std.specs.List.{range_with_len}

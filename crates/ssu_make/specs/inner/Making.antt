@@ -55,13 +55,13 @@ pub record AreRoots (b : SsuBuild) (i j : ℕ) : Type 0 where
 
 -- ---- what a label has
 
-abbrev pub kids : Tree → List Tree
-kids (Let x p t) = t ∷ []
-kids (Read m xs a t) = t ∷ []
-kids (Write m a bs t) = t ∷ []
-kids (If c a b t u) = t ∷ u ∷ []
-kids (Jump l bs) = []
-kids (Halt e bs) = []
+abbrev pub successor_list : Tree → List Tree
+successor_list (Let x p t) = t ∷ []
+successor_list (Read m xs a t) = t ∷ []
+successor_list (Write m a bs t) = t ∷ []
+successor_list (If c a b t u) = t ∷ u ∷ []
+successor_list (Jump l bs) = []
+successor_list (Halt e bs) = []
 
 -- the trees that references point to, the last one first
 abbrev pub tops : List (Bor Boxed) → List Tree
@@ -70,7 +70,7 @@ tops ts = reverse (map (λ t. tree_view t.now) ts)
 -- These nodes, one by one, turn a stack of trees into one tree: each takes what follows it from the top, and is the top then.
 abbrev pub Builds : List Tree → List Tree → Tree → Type 0
 Builds [] stack t = stack ≡ t ∷ []
-Builds (s ∷ nodes) stack t = (rest : List Tree) × (stack ≡ kids s ++ rest) × Builds nodes (s ∷ rest) t
+Builds (s ∷ nodes) stack t = (rest : List Tree) × (stack ≡ successor_list s ++ rest) × Builds nodes (s ∷ rest) t
 
 abbrev pub node_operands : Tree → List Atom
 node_operands (Let x p t) = operands p
@@ -100,7 +100,7 @@ pub record MadeTo (base : number.Counts) (n : ℕ) (t : Tree) (old new : SsuBuil
   pub counts : (y : ℕ) → counted part.counts y ≡ uses t y
   pub fresh : d ≡ n + spent t
 
--- where new names go on behind these trees, the first one last
+-- where new names go on after these trees, the first one last
 abbrev pub next_after : ℕ → List Tree → ℕ
 next_after n [] = n
 next_after n (t ∷ ts) = next_after n ts + spent t
@@ -118,7 +118,7 @@ AreCounted [] (part ∷ parts) = ⊥
 AreCounted (t ∷ ts) [] = ⊥
 AreCounted (t ∷ ts) (part ∷ parts) = ((y : ℕ) → counted part.counts y ≡ uses t y) × AreCounted ts parts
 
--- The parts on a stack, the top first, are these trees, which were made one behind the other, the top last.
+-- The parts on a stack, the top first, are these trees, which were made one after the other, the top last.
 pub record Stacked (base : number.Counts) (n : ℕ) (ts : List Tree) (old new : SsuBuild) (d : ℕ) (parts : List Part) : Type 0 where
   pub adds : (rest : List Rooted) → Holds old rest → Holds new (roots_of base n ts parts ++ rest)
   pub counts : AreCounted ts parts
@@ -130,11 +130,11 @@ pub record CanMake (base : number.Counts) (t : Tree) (b : SsuBuild) (d : ℕ) (p
   pub roots : HasRoots old
   pub first : ℕ
   pub rest : List Tree
-  pub stacked : Stacked base first (kids t ++ rest) old b d (reverse parts)
+  pub stacked : Stacked base first (successor_list t ++ rest) old b d (reverse parts)
 
 -- a part is a node over what was taken from the top of a stack
 pub record IsOver (base : number.Counts) (t : Tree) (b b' : SsuBuild) (d d' : ℕ) (parts parts' : List Part) (part : Part) : Type 0 where
-  pub by : (old : SsuBuild) (n : ℕ) (rest : List Tree) → Stacked base n (kids t ++ rest) old b d (reverse parts) → Stacked base n (t ∷ rest) old b' d' (part ∷ reverse parts')
+  pub by : (old : SsuBuild) (n : ℕ) (rest : List Tree) → Stacked base n (successor_list t ++ rest) old b d (reverse parts) → Stacked base n (t ∷ rest) old b' d' (part ∷ reverse parts')
 
 -- ---- labels
 

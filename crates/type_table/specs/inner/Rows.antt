@@ -21,17 +21,17 @@ abbrev pub ends_as_deep : List Row → Row → Bool
 ends_as_deep [] u = false
 ends_as_deep (t ∷ ts) u = depth t == depth u
 
--- rows, the last of them first, and one more behind them, where two that are equally deep become one
+-- rows, the last of them first, and one more after them, where two that are equally deep become one
 abbrev pub carried : List Row → Row → List Row
 carried [] u = u ∷ []
 carried (t ∷ ts) u = if depth t == depth u then carried ts (both t u) else u ∷ t ∷ ts
 
--- rows, the last of them first, and one more behind them, as one row
+-- rows, the last of them first, and one more after them, as one row
 abbrev pub hung : List Row → Row → Row
 hung [] u = u
 hung (t ∷ ts) u = hung ts (both t u)
 
--- the row of some rows, the last of them first, of a field behind them, and of more fields behind that
+-- the row of some rows, the last of them first, of a field after them, and of more fields after that
 abbrev pub grown : List Row → ℕ × ℕ → List (ℕ × ℕ) → Row
 grown ts p [] = hung ts (one p)
 grown ts p (q ∷ qs) = grown (carried ts (one p)) q qs

@@ -13,7 +13,7 @@ pub record Store : Type 0 where
   pub cells : List Cell
 
 -- what is there stays there under its number
-pub record Grows (old new : Store) : Type 0 where
+pub record Extends (old new : Store) : Type 0 where
   pub names_stay : (i : ℕ) (x : List ℕ) → slice_get old.names i ≡ Some x → slice_get new.names i ≡ Some x
   pub cells_stay : (i : ℕ) (c : Cell) → slice_get old.cells i ≡ Some c → slice_get new.cells i ≡ Some c
 

@@ -1,7 +1,7 @@
 -- What the reader of a text has read, and what is left.
 use Rattle.std.specs.Prelude.{◌≡◌, ℕ, ◌+◌, ◌*◌, ◌≤◌, List, ◌∷◌, ◌++◌, length, map}
 use Rattle.line_text.specs.Line.{text_of}
-use Rattle.asm_items.specs.Items.{Item, item_line, params_line}
+use Rattle.uc_asm.specs.Items.{Item, item_line, params_line}
 use Rattle.uc_asm.specs.Text.{AreItems}
 
 -- the first line and these items

@@ -1,11 +1,11 @@
 -- What the assembler makes of the items, by the first declaration of each name.
 use Rattle.std.specs.Prelude.{◌≡◌, ℕ, ◌+◌, List, length}
-use Rattle.asm_items.specs.Items.{Item, count, Stands, IsInstruction}
+use Rattle.uc_asm.specs.Items.{Item, count, Stands, IsInstruction}
 use Rattle.uc_asm.specs.Labels.{FirstMisnamed}
 use Rattle.uc_asm.specs.declared.error.AsmError.{AsmError}
 use Rattle.uc_asm.specs.declared.error.AsmError.TheVariants.{NoMemory, Syntax, Label, Unlawful}
 
--- want of memory, or the line of the first item with a name's fault
+-- memory exhaustion, or the line of the first item with a name's fault
 abbrev pub IsNameError : List Item → AsmError → Type 0
 IsNameError items NoMemory = Unit {0}
 IsNameError items (Syntax n) = ⊥

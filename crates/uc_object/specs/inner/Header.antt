@@ -11,7 +11,7 @@ pub record HasHeader (bytes : List ℕ) (version params count : ℕ) (rest : Lis
   pub some : 1 ≤ count
   pub few : count < 2 ^ 31
 
--- behind a header of version 2 there are these numbers of exceptions and of starts
+-- after a header of version 2 there are these numbers of exceptions and of starts
 pub record HasCounts (bytes : List ℕ) (exceptions starts : ℕ) : Type 0 where
   pub long : 20 ≤ length bytes
   pub layout : drop 12 bytes ≡ to_le_bytes w32 exceptions ++ (to_le_bytes w32 starts ++ drop 20 bytes)

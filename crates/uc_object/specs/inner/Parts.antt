@@ -6,7 +6,7 @@ use Rattle.uc_object.specs.Object.{AreEach}
 abbrev pub Spells : {T : Type 0} → (T → List ℕ → Type 0) → List ℕ → Type 0
 Spells {T} Is bytes = (x : T) × Is x bytes
 
--- the bytes of so many things, one behind another
+-- the bytes of so many things, one after another
 abbrev pub Many : {T : Type 0} → (T → List ℕ → Type 0) → ℕ → List T → List ℕ → Type 0
 Many Is count xs bytes = (length xs ≡ count) × AreEach Is xs bytes
 
@@ -28,5 +28,5 @@ pub record IsFaultOf (Form : List ℕ → Type 0) (bytes : List ℕ) (at : ℕ) 
   pub short : at ≡ length bytes → (word rest : List ℕ) → Form word → bytes ≢ word ++ rest
 
 -- the first place that no bytes of so many things have, where these begin at a start
-abbrev pub IsFaultBehind : {T : Type 0} → (T → List ℕ → Type 0) → ℕ → List ℕ → ℕ → ℕ → Type 0
-IsFaultBehind Is count bytes start at = (k : ℕ) × (at ≡ start + k) × IsFaultOf (Spells (Many Is count)) (drop start bytes) k
+abbrev pub IsFaultAfter : {T : Type 0} → (T → List ℕ → Type 0) → ℕ → List ℕ → ℕ → ℕ → Type 0
+IsFaultAfter Is count bytes start at = (k : ℕ) × (at ≡ start + k) × IsFaultOf (Spells (Many Is count)) (drop start bytes) k

@@ -2,15 +2,15 @@
 use Rattle.std.specs.Prelude.{◌≡◌, ℕ, zero, suc, ◌<◌, ◌≤◌, nat_eq, List, [], ◌∷◌, ◌++◌, length, map, Option, Some, None, if◌then◌else◌}
 use Rattle.std.specs.List.{AllByRecursion}
 use Rattle.ssu_ir.specs.Tree.{Step, Lit, Una, Bin, Clone, Read, Write, Does, Forks, Ends, node_uses}
-use Rattle.ssu_ir.specs.Points.{Place, Entry, At}
-use Rattle.slot_placement.specs.declared.place.Serve.{Serve}
-use Rattle.slot_placement.specs.Fits.{Rises, at_operand}
+use Rattle.ssu_ir.specs.Points.{PointKind, Entry, At}
+use Rattle.placement.specs.declared.place.Serve.{Serve}
+use Rattle.placement.specs.Fits.{Rises, at_operand}
 use Rattle.ucode_emit.specs.inner.Marks.{Mark}
 
 -- ---- what the points want of the lists
 
 -- how many operands a point has
-abbrev pub place_operands : Place → ℕ
+abbrev pub place_operands : PointKind → ℕ
 place_operands (Entry l params) = 0
 place_operands (At n) = length (node_uses n)
 
@@ -32,7 +32,7 @@ step_access k (Clone xs y) = []
 step_access k (Read m xs y) = k ∷ []
 step_access k (Write m y xs) = k ∷ []
 
-abbrev pub place_access : ℕ → Place → List ℕ
+abbrev pub place_access : ℕ → PointKind → List ℕ
 place_access k (Entry l params) = []
 place_access k (At (Does s)) = step_access k s
 place_access k (At (Forks c x y)) = []

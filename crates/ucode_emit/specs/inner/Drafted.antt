@@ -2,7 +2,7 @@
 use Rattle.std.specs.Prelude.{◌≡◌, ℕ, List, map, slice_index_or}
 use Rattle.uc_isa.specs.declared.instruction.Instr.{Instr}
 use Rattle.ssu_ir.specs.Tree.{Label}
-use Rattle.slot_placement.specs.Plan.{Plan}
+use Rattle.placement.specs.Plan.{Plan}
 use Rattle.ucode_emit.specs.inner.DraftItems.{draft}
 use Rattle.ucode_emit.specs.inner.Marks.{entries_from}
 use Rattle.ucode_emit.specs.inner.Pieces.{Sequences, instr_of, items, starts, parallel_moves}

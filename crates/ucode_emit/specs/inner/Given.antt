@@ -8,17 +8,17 @@ use Rattle.uc_isa.specs.declared.instruction.Dst.TheVariants as dst
 use Rattle.uc_isa.specs.declared.instruction.Cond.TheVariants.{Always}
 use Rattle.uc_isa.specs.Registers.{failing}
 use Rattle.ssu_ir.specs.Tree.{Step, Lit, Una, Bin, Clone, Read, Write, Last, Jump, Halt, Node, Does, Forks, Ends}
-use Rattle.slot_placement.specs.declared.place.Place.{Place}
-use Rattle.slot_placement.specs.declared.place.Place.TheVariants.{S, Slot}
-use Rattle.slot_placement.specs.declared.place.Serve.{Serve}
-use Rattle.slot_placement.specs.Plan.{Home, Plan, home}
-use Rattle.slot_placement.specs.Fits.{is_slot}
+use Rattle.placement.specs.declared.place.Place.{Place}
+use Rattle.placement.specs.declared.place.Place.TheVariants.{S, Slot}
+use Rattle.placement.specs.declared.place.Serve.{Serve}
+use Rattle.placement.specs.Plan.{Home, Plan, home}
+use Rattle.placement.specs.Fits.{is_slot}
 use Rattle.par_move.specs.Moves.{Move}
-use Rattle.ucode_emit.specs.declared.here.Here.{Here}
+use Rattle.ucode_emit.specs.declared.emit_context.EmitContext.{EmitContext}
 use Rattle.ucode_emit.specs.inner.Machine.{IsReadable, IsWritable}
 use Rattle.ucode_emit.specs.inner.Layers.{IsAddress}
 use Rattle.ucode_emit.specs.inner.DraftItems.{fetches, each_fetch, word_fetch}
-use Rattle.ucode_emit.specs.inner.Here.{CanAll}
+use Rattle.ucode_emit.specs.inner.EmitContext.{CanAll}
 use Rattle.ucode_emit.specs.inner.Pieces.{Item, Plain, Branch, moved, named, all_copied, single_moves, un_op, source, target, address_of, shift_of}
 
 -- what a value without a home has
@@ -63,42 +63,42 @@ CanResult p s x = IsWritable (result_at s (home p x).defined) × CanAll (result_
 
 -- ---- pieces
 
-abbrev pub given_step : Plan → Here → Step → List Item
-given_step p here (Lit x v) = result_items p here.pass.s x (λ d. instr.Immed d (v / 2 ^ shift_of v) (shift_of v))
-given_step p here (Una x op y) = moved (fetches here.pass.l here.serves.now) ++ result_items p here.pass.s x (λ d. instr.Un d (un_op op) (source (at_of here.serves.now 0)))
-given_step p here (Bin x op y z) =
-    moved (fetches here.pass.l here.serves.now) ++ result_items p here.pass.s x (λ d. instr.Alu d op (source (at_of here.serves.now 0)) (source (at_of here.serves.now 1)))
-given_step p here (Clone xs y) = []
-given_step p here (Read m xs y) =
-    moved (fetches here.pass.l here.serves.now) ++ Plain (instr.Read m here.first (length xs) (address_of (at_of here.serves.now 0)) 0) ∷ moved (each_copied p here.pass.s xs)
-given_step p here (Write m y xs) = moved (write_moves here.pass.l here.serves.now) ++ Plain (instr.Write m here.first (length xs) (address_of (at_of here.serves.now 0)) 0) ∷ []
+abbrev pub given_step : Plan → EmitContext → Step → List Item
+given_step p emit_context (Lit x v) = result_items p emit_context.pass.s x (λ d. instr.Immed d (v / 2 ^ shift_of v) (shift_of v))
+given_step p emit_context (Una x op y) = moved (fetches emit_context.pass.l emit_context.serves.now) ++ result_items p emit_context.pass.s x (λ d. instr.Un d (un_op op) (source (at_of emit_context.serves.now 0)))
+given_step p emit_context (Bin x op y z) =
+    moved (fetches emit_context.pass.l emit_context.serves.now) ++ result_items p emit_context.pass.s x (λ d. instr.Alu d op (source (at_of emit_context.serves.now 0)) (source (at_of emit_context.serves.now 1)))
+given_step p emit_context (Clone xs y) = []
+given_step p emit_context (Read m xs y) =
+    moved (fetches emit_context.pass.l emit_context.serves.now) ++ Plain (instr.Read m emit_context.first (length xs) (address_of (at_of emit_context.serves.now 0)) 0) ∷ moved (each_copied p emit_context.pass.s xs)
+given_step p emit_context (Write m y xs) = moved (write_moves emit_context.pass.l emit_context.serves.now) ++ Plain (instr.Write m emit_context.first (length xs) (address_of (at_of emit_context.serves.now 0)) 0) ∷ []
 
-abbrev pub given_last : Here → Last → List Item
-given_last here (Jump l xs) = moved (single_moves here.pass.l here.singles.now) ++ Branch Always here.to ∷ []
-given_last here (Halt e xs) = moved (single_moves here.pass.l here.singles.now) ++ Plain (instr.Halt e (length xs)) ∷ []
+abbrev pub given_last : EmitContext → Last → List Item
+given_last emit_context (Jump l xs) = moved (single_moves emit_context.pass.l emit_context.singles.now) ++ Branch Always emit_context.to ∷ []
+given_last emit_context (Halt e xs) = moved (single_moves emit_context.pass.l emit_context.singles.now) ++ Plain (instr.Halt e (length xs)) ∷ []
 
-abbrev pub given_node : Plan → Here → Node → List Item
-given_node p here (Does s) = given_step p here s
-given_node p here (Forks c x y) =
-    moved (fetches here.pass.l here.serves.now)
-    ++ Plain (instr.Alu dst.Nowhere Sub (source (at_of here.serves.now 0)) (source (at_of here.serves.now 1))) ∷ Branch (failing c) here.to ∷ []
-given_node p here (Ends l) = given_last here l
+abbrev pub given_node : Plan → EmitContext → Node → List Item
+given_node p emit_context (Does s) = given_step p emit_context s
+given_node p emit_context (Forks c x y) =
+    moved (fetches emit_context.pass.l emit_context.serves.now)
+    ++ Plain (instr.Alu dst.Nowhere Sub (source (at_of emit_context.serves.now 0)) (source (at_of emit_context.serves.now 1))) ∷ Branch (failing c) emit_context.to ∷ []
+given_node p emit_context (Ends l) = given_last emit_context l
 
-abbrev pub CanGivenStep : Plan → Here → Step → Type 0
-CanGivenStep p here (Lit x v) = (v / 2 ^ shift_of v < 2 ^ 16) × CanResult p here.pass.s x
-CanGivenStep p here (Una x op y) = CanAll (fetches here.pass.l here.serves.now) × IsReadable (at_of here.serves.now 0) × CanResult p here.pass.s x
-CanGivenStep p here (Bin x op y z) =
-    CanAll (fetches here.pass.l here.serves.now) × IsReadable (at_of here.serves.now 0) × IsReadable (at_of here.serves.now 1) × CanResult p here.pass.s x
-CanGivenStep p here (Clone xs y) = ⊤
-CanGivenStep p here (Read m xs y) =
-    CanAll (fetches here.pass.l here.serves.now) × IsAddress (at_of here.serves.now 0) × (length xs ≤ 8) × CanAll (each_copied p here.pass.s xs)
-CanGivenStep p here (Write m y xs) = CanAll (write_moves here.pass.l here.serves.now) × IsAddress (at_of here.serves.now 0) × (length xs ≤ 8)
+abbrev pub CanGivenStep : Plan → EmitContext → Step → Type 0
+CanGivenStep p emit_context (Lit x v) = (v / 2 ^ shift_of v < 2 ^ 16) × CanResult p emit_context.pass.s x
+CanGivenStep p emit_context (Una x op y) = CanAll (fetches emit_context.pass.l emit_context.serves.now) × IsReadable (at_of emit_context.serves.now 0) × CanResult p emit_context.pass.s x
+CanGivenStep p emit_context (Bin x op y z) =
+    CanAll (fetches emit_context.pass.l emit_context.serves.now) × IsReadable (at_of emit_context.serves.now 0) × IsReadable (at_of emit_context.serves.now 1) × CanResult p emit_context.pass.s x
+CanGivenStep p emit_context (Clone xs y) = ⊤
+CanGivenStep p emit_context (Read m xs y) =
+    CanAll (fetches emit_context.pass.l emit_context.serves.now) × IsAddress (at_of emit_context.serves.now 0) × (length xs ≤ 8) × CanAll (each_copied p emit_context.pass.s xs)
+CanGivenStep p emit_context (Write m y xs) = CanAll (write_moves emit_context.pass.l emit_context.serves.now) × IsAddress (at_of emit_context.serves.now 0) × (length xs ≤ 8)
 
-abbrev pub CanGivenLast : Here → Last → Type 0
-CanGivenLast here (Jump l xs) = CanAll (single_moves here.pass.l here.singles.now)
-CanGivenLast here (Halt e xs) = CanAll (single_moves here.pass.l here.singles.now) × (length xs ≤ 8)
+abbrev pub CanGivenLast : EmitContext → Last → Type 0
+CanGivenLast emit_context (Jump l xs) = CanAll (single_moves emit_context.pass.l emit_context.singles.now)
+CanGivenLast emit_context (Halt e xs) = CanAll (single_moves emit_context.pass.l emit_context.singles.now) × (length xs ≤ 8)
 
-abbrev pub CanGiven : Plan → Here → Node → Type 0
-CanGiven p here (Does s) = CanGivenStep p here s
-CanGiven p here (Forks c x y) = CanAll (fetches here.pass.l here.serves.now) × IsReadable (at_of here.serves.now 0) × IsReadable (at_of here.serves.now 1)
-CanGiven p here (Ends l) = CanGivenLast here l
+abbrev pub CanGiven : Plan → EmitContext → Node → Type 0
+CanGiven p emit_context (Does s) = CanGivenStep p emit_context s
+CanGiven p emit_context (Forks c x y) = CanAll (fetches emit_context.pass.l emit_context.serves.now) × IsReadable (at_of emit_context.serves.now 0) × IsReadable (at_of emit_context.serves.now 1)
+CanGiven p emit_context (Ends l) = CanGivenLast emit_context l

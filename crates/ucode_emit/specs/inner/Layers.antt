@@ -22,10 +22,10 @@ use Rattle.uc_isa.specs.Pieces.{Moment}
 use Rattle.ssu_ir.specs.Tree.{Lit, Una, Bin, Clone, Read, Write, Jump, Halt, Tree, Do, If, End, Label, Ends}
 use Rattle.ssu_ir.specs.Points.{Names, own, names_after, Point, points, tree_points, nodes, point}
 use Rattle.ssu_ir.specs.Single.{single}
-use Rattle.slot_placement.specs.declared.place.Place.{Place}
-use Rattle.slot_placement.specs.declared.place.Place.TheVariants.{A, B}
-use Rattle.slot_placement.specs.Plan.{Plan, first, pass}
-use Rattle.slot_placement.specs.Fits.{Fits, write_place}
+use Rattle.placement.specs.declared.place.Place.{Place}
+use Rattle.placement.specs.declared.place.Place.TheVariants.{A, B}
+use Rattle.placement.specs.Plan.{Plan, first, pass}
+use Rattle.placement.specs.Fits.{Fits, write_place}
 use Rattle.par_move.specs.Moves.{Move, Words, put, one_by_one, HaveOwnTargets, SpareTemporary}
 use Rattle.ucode_emit.specs.inner.Pieces.{operands, operand_at, words, result_place, to_slot, copies, all_copies, single_moves, un_op, source, target, address_of, entry_point, served_moves, entry_moves, parallel_moves}
 use Rattle.ucode_emit.specs.inner.Ready.{Ready, Entered, Begun, IsSequence}
@@ -106,9 +106,9 @@ abbrev pub OperandsAre : Plan → ℕ → ℕ → List ℕ → Env → Words →
 OperandsAre p k i [] env e = ⊤
 OperandsAre p k i (x ∷ xs) env e = (e (operand_at p k i) ≡ env x) × OperandsAre p k (suc i) xs env e
 
--- the moves of a piece are single instructions, and behind them this holds
-abbrev pub Behind : ℕ → List Move → Words → (Words → Type 0) → Type 0
-Behind slots ms e holds = AreDirect slots ms × holds (one_by_one ms e)
+-- the moves of a piece are single instructions, and after them this holds
+abbrev pub HoldsAfterMoves : ℕ → List Move → Words → (Words → Type 0) → Type 0
+HoldsAfterMoves slots ms e holds = AreDirect slots ms × holds (one_by_one ms e)
 
 pub record OperandsReady (labels : List Label) (p : Plan) (k : ℕ) (q : Point) (xs : List ℕ) (env : Env) (e : Words) : Type 0 where
   pub values : OperandsAre p k 0 xs env e
@@ -117,33 +117,33 @@ pub record OperandsReady (labels : List Label) (p : Plan) (k : ℕ) (q : Point) 
 -- what is asked of the steps from one point to the next. `env` gives each value its word, `of` the value of each name
 pub record ReadyLayer (labels : List Label) (p : Plan) : Type 0 where
   pub one_operand : (k : ℕ) (of : Names) (above : List ℕ) (x y : ℕ) (op : Unary) (t : Tree) (env : Env) (e : Words) → PointsAt labels k of above (Do (Una x op y) t)
-      → let q = root_point of above (Do (Una x op y) t) in Ready labels p k q env e → Behind p.slots (operands p k 1) e (λ e'. OperandsReady labels p k q (of y ∷ []) env e') × IsReadable (operand_at p k 0)
+      → let q = root_point of above (Do (Una x op y) t) in Ready labels p k q env e → HoldsAfterMoves p.slots (operands p k 1) e (λ e'. OperandsReady labels p k q (of y ∷ []) env e') × IsReadable (operand_at p k 0)
   pub two_operands : (k : ℕ) (of : Names) (above : List ℕ) (x y z : ℕ) (op : Binary) (t : Tree) (env : Env) (e : Words) → PointsAt labels k of above (Do (Bin x op y z) t)
       → let q = root_point of above (Do (Bin x op y z) t) in Ready labels p k q env e
-      → Behind p.slots (operands p k 2) e (λ e'. OperandsReady labels p k q (of y ∷ of z ∷ []) env e') × IsReadable (operand_at p k 0) × IsReadable (operand_at p k 1)
+      → HoldsAfterMoves p.slots (operands p k 2) e (λ e'. OperandsReady labels p k q (of y ∷ of z ∷ []) env e') × IsReadable (operand_at p k 0) × IsReadable (operand_at p k 1)
   pub compared : (k : ℕ) (of : Names) (above : List ℕ) (c : Cmp) (y z : ℕ) (t u : Tree) (env : Env) (e : Words) → PointsAt labels k of above (If c y z t u)
       → let q = root_point of above (If c y z t u) in Ready labels p k q env e
-      → Behind p.slots (operands p k 2) e (λ e'. OperandsReady labels p k q (of y ∷ of z ∷ []) env e') × IsReadable (operand_at p k 0) × IsReadable (operand_at p k 1)
+      → HoldsAfterMoves p.slots (operands p k 2) e (λ e'. OperandsReady labels p k q (of y ∷ of z ∷ []) env e') × IsReadable (operand_at p k 0) × IsReadable (operand_at p k 1)
   pub read_address : (k : ℕ) (of : Names) (above : List ℕ) (m : Mem) (xs : List ℕ) (y : ℕ) (t : Tree) (env : Env) (e : Words) → PointsAt labels k of above (Do (Read m xs y) t)
       → let q = root_point of above (Do (Read m xs y) t) in Ready labels p k q env e
-      → Behind p.slots (operands p k 1) e (λ e'. OperandsReady labels p k q (of y ∷ []) env e') × IsAddress (operand_at p k 0) × (first p k + length xs ≤ 8)
+      → HoldsAfterMoves p.slots (operands p k 1) e (λ e'. OperandsReady labels p k q (of y ∷ []) env e') × IsAddress (operand_at p k 0) × (first p k + length xs ≤ 8)
   pub written : (k : ℕ) (of : Names) (above : List ℕ) (m : Mem) (xs : List ℕ) (y : ℕ) (t : Tree) (env : Env) (e : Words) → PointsAt labels k of above (Do (Write m y xs) t)
       → let q = root_point of above (Do (Write m y xs) t) in Ready labels p k q env e
-      → Behind p.slots (operands p k 1 ++ words p k 1 (length xs)) e (λ e'. OperandsReady labels p k q (of y ∷ []) env e'
+      → HoldsAfterMoves p.slots (operands p k 1 ++ words p k 1 (length xs)) e (λ e'. OperandsReady labels p k q (of y ∷ []) env e'
       × ((i x : ℕ) → slice_get xs i ≡ Some x → e' (write_place m (first p k + i)) ≡ env (of x))) × IsAddress (operand_at p k 0) × (first p k + length xs ≤ 8)
   -- a step that defines one value
   pub literal : (k : ℕ) (of : Names) (above : List ℕ) (x v w : ℕ) (t : Tree) (env : Env) (e : Words) → PointsAt labels k of above (Do (Lit x v) t)
       → Ready labels p k (root_point of above (Do (Lit x v) t)) env e
-      → IsWritable (result_place p k x) × Behind p.slots (to_slot p k x ++ copies p k x) (put e (result_place p k x) w) (Ready labels p (suc k) (root_point of (above ++ x ∷ []) t) (assigned env x w))
+      → IsWritable (result_place p k x) × HoldsAfterMoves p.slots (to_slot p k x ++ copies p k x) (put e (result_place p k x) w) (Ready labels p (suc k) (root_point of (above ++ x ∷ []) t) (assigned env x w))
   pub unary : (k : ℕ) (of : Names) (above : List ℕ) (x y w : ℕ) (op : Unary) (t : Tree) (env : Env) (e : Words) → PointsAt labels k of above (Do (Una x op y) t)
       → Ready labels p k (root_point of above (Do (Una x op y) t)) env e
-      → IsWritable (result_place p k x) × Behind p.slots (to_slot p k x ++ copies p k x) (put e (result_place p k x) w) (Ready labels p (suc k) (root_point of (above ++ x ∷ []) t) (assigned env x w))
+      → IsWritable (result_place p k x) × HoldsAfterMoves p.slots (to_slot p k x ++ copies p k x) (put e (result_place p k x) w) (Ready labels p (suc k) (root_point of (above ++ x ∷ []) t) (assigned env x w))
   pub binary : (k : ℕ) (of : Names) (above : List ℕ) (x y z w : ℕ) (op : Binary) (t : Tree) (env : Env) (e : Words) → PointsAt labels k of above (Do (Bin x op y z) t)
       → Ready labels p k (root_point of above (Do (Bin x op y z) t)) env e
-      → IsWritable (result_place p k x) × Behind p.slots (to_slot p k x ++ copies p k x) (put e (result_place p k x) w) (Ready labels p (suc k) (root_point of (above ++ x ∷ []) t) (assigned env x w))
+      → IsWritable (result_place p k x) × HoldsAfterMoves p.slots (to_slot p k x ++ copies p k x) (put e (result_place p k x) w) (Ready labels p (suc k) (root_point of (above ++ x ∷ []) t) (assigned env x w))
   pub read : (k : ℕ) (of : Names) (above : List ℕ) (m : Mem) (xs ws : List ℕ) (y : ℕ) (t : Tree) (env : Env) (e : Words) → PointsAt labels k of above (Do (Read m xs y) t) → length ws ≡ length xs
       → Ready labels p k (root_point of above (Do (Read m xs y) t)) env e
-      → Behind p.slots (all_copies p k xs) (filled e m (first p k) ws) (Ready labels p (suc k) (root_point of (above ++ xs) t) (assigned_all env xs ws))
+      → HoldsAfterMoves p.slots (all_copies p k xs) (filled e m (first p k) ws) (Ready labels p (suc k) (root_point of (above ++ xs) t) (assigned_all env xs ws))
   pub write : (k : ℕ) (of : Names) (above : List ℕ) (m : Mem) (xs : List ℕ) (y : ℕ) (t : Tree) (env : Env) (e : Words) → PointsAt labels k of above (Do (Write m y xs) t)
       → Ready labels p k (root_point of above (Do (Write m y xs) t)) env e → Ready labels p (suc k) (root_point of (above ++ []) t) env e
   pub clone : (k : ℕ) (of : Names) (above : List ℕ) (xs : List ℕ) (y : ℕ) (t : Tree) (env : Env) (e : Words) → PointsAt labels k of above (Do (Clone xs y) t)
@@ -156,16 +156,16 @@ pub record ReadyLayer (labels : List Label) (p : Plan) : Type 0 where
   pub jump : (k : ℕ) (of : Names) (above : List ℕ) (l : ℕ) (xs : List ℕ) (to : Label) (ms : List Move) (env new : Env) (e : Words) → PointsAt labels k of above (End (Jump l xs)) → slice_get labels l ≡ Some to
       → ((i x y : ℕ) → slice_get xs i ≡ Some x → slice_get to.params i ≡ Some y → new y ≡ env (of x))
       → IsSequence (served_moves p k 0 (length xs)) ms → Ready labels p k (root_point of above (End (Jump l xs))) env e
-      → Behind p.slots (single_moves (pass p k).l ms) e (Entered p to.params new)
+      → HoldsAfterMoves p.slots (single_moves (pass p k).l ms) e (Entered p to.params new)
   pub halt : (k : ℕ) (of : Names) (above : List ℕ) (c : ℕ) (xs : List ℕ) (ms : List Move) (env : Env) (e : Words) → PointsAt labels k of above (End (Halt c xs))
       → IsSequence (served_moves p k 0 (length xs)) ms → Ready labels p k (root_point of above (End (Halt c xs))) env e
-      → Behind p.slots (single_moves (pass p k).l ms) e (λ e'. (i x : ℕ) → slice_get xs i ≡ Some x → e' (A i) ≡ env (of x))
+      → HoldsAfterMoves p.slots (single_moves (pass p k).l ms) e (λ e'. (i x : ℕ) → slice_get xs i ≡ Some x → e' (A i) ≡ env (of x))
   -- where a label begins
   pub entry : (l : ℕ) (it : Label) (env : Env) (e : Words) → slice_get labels l ≡ Some it → PointsAt labels (suc (entry_point labels l)) own it.params it.body
-      → Entered p it.params env e → Behind p.slots (all_copies p (entry_point labels l) it.params) e (Ready labels p (suc (entry_point labels l)) (root_point own it.params it.body) env)
+      → Entered p it.params env e → HoldsAfterMoves p.slots (all_copies p (entry_point labels l) it.params) e (Ready labels p (suc (entry_point labels l)) (root_point own it.params it.body) env)
   -- before the run
   pub begins : (it : Label) (ms : List Move) (args : List ℕ) (env : Env) (e : Words) → slice_get labels 0 ≡ Some it → length args ≡ length it.params
       → ((i x w : ℕ) → slice_get it.params i ≡ Some x → slice_get args i ≡ Some w → env x ≡ w)
-      → IsSequence (entry_moves p 0 it.params) ms → Begun args e → Behind p.slots (single_moves None ms) e (Entered p it.params env)
+      → IsSequence (entry_moves p 0 it.params) ms → Begun args e → HoldsAfterMoves p.slots (single_moves None ms) e (Entered p it.params env)
   -- the parallel moves can be put in sequence
   pub sequenced : All (λ moves. HaveOwnTargets moves × SpareTemporary moves) (parallel_moves p labels)

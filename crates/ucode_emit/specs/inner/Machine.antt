@@ -8,9 +8,9 @@ use Rattle.nv_base.specs.World.{World}
 use Rattle.uc_isa.specs.Engine.{IsEngine}
 use Rattle.uc_isa.specs.Pieces.{Moment, Leads, EndsIn}
 use Rattle.uc_isa.specs.declared.instruction.Instr.{Instr}
-use Rattle.slot_placement.specs.declared.place.Place.{Place}
-use Rattle.slot_placement.specs.declared.place.Place.TheVariants.{A, B, L, LD, S, SD, Slot}
-use Rattle.slot_placement.specs.Fits.{read_place}
+use Rattle.placement.specs.declared.place.Place.{Place}
+use Rattle.placement.specs.declared.place.Place.TheVariants.{A, B, L, LD, S, SD, Slot}
+use Rattle.placement.specs.Fits.{read_place}
 use Rattle.par_move.specs.Moves.{Move, Words, put}
 use Rattle.ucode_emit.specs.inner.Pieces.{move_instr}
 
@@ -49,7 +49,7 @@ IsWritable (S k) = k < 8
 IsWritable (SD k) = k < 8
 IsWritable _ = ⊥
 
--- a move that is one instruction, has the spill base in B15 for nothing but the addresses of so many slots, and leaves it there
+-- a move that is one instruction, has the spill base in B15 for nothing but the addresses of N slots, and leaves it there
 pub data IsDirect (slots : ℕ) : Place → Place → Type 0 where
   read_slot : {k r : ℕ} → k < slots → r < 8 → IsDirect slots (Slot k) (L r)
   write_slot : {r k : ℕ} → r < 8 → k < slots → IsDirect slots (S r) (Slot k)

@@ -2,17 +2,17 @@
 use Rattle.std.specs.Prelude.{ℕ, zero, suc, ◌+◌, List, [], ◌∷◌, ◌++◌, length, None}
 use Rattle.uc_isa.specs.Registers.{failing}
 use Rattle.ssu_ir.specs.Tree.{Tree, Do, If, End, Label, Node, Does, Forks, Ends}
-use Rattle.ssu_ir.specs.Points.{Place, Entry, At, nodes}
-use Rattle.slot_placement.specs.Plan.{Plan}
+use Rattle.ssu_ir.specs.Points.{PointKind, Entry, At, nodes}
+use Rattle.placement.specs.Plan.{Plan}
 use Rattle.par_move.specs.Moves.{Move}
 use Rattle.ucode_emit.specs.inner.Pieces.{Item, moved, single_moves, all_copies, step_items, fork_items, last_items, Sequences, sequence_at, entry_moves, last_moves}
 
 -- what stands at a point, and at a fork the number of points of its first arm
 pub record Mark : Type 0 where
-  pub place : Place
+  pub place : PointKind
   pub first_arm : ℕ
 
-abbrev pub mark : Place → ℕ → Mark
+abbrev pub mark : PointKind → ℕ → Mark
 mark q n = record { place = q; first_arm = n }
 
 abbrev pub tree_marks : Tree → List Mark
@@ -39,7 +39,7 @@ node_piece labels p k (Does s) n ms = step_items p k s
 node_piece labels p k (Forks c x y) n ms = fork_items p k (failing c) (suc k + n)
 node_piece labels p k (Ends l) n ms = last_items labels p k l ms
 
-abbrev pub place_piece : List Label → Plan → ℕ → Place → ℕ → List Move → List Item
+abbrev pub place_piece : List Label → Plan → ℕ → PointKind → ℕ → List Move → List Item
 place_piece labels p k (Entry l params) n ms = moved (single_moves None ms ++ all_copies p k params)
 place_piece labels p k (At it) n ms = node_piece labels p k it n ms
 
@@ -66,7 +66,7 @@ node_moves p k (Does s) = []
 node_moves p k (Forks c x y) = []
 node_moves p k (Ends l) = last_moves p k l
 
-abbrev pub place_moves : Plan → ℕ → Place → List Move
+abbrev pub place_moves : Plan → ℕ → PointKind → List Move
 place_moves p k (Entry zero params) = entry_moves p 0 params
 place_moves p k (Entry (suc l) params) = []
 place_moves p k (At it) = node_moves p k it

@@ -20,11 +20,11 @@ use Rattle.uc_isa.specs.declared.instruction.Cond.TheVariants.{Always}
 use Rattle.uc_isa.specs.Registers.{failing}
 use Rattle.ssu_ir.specs.Tree.{Step, Lit, Una, Bin, Clone, Read, Write, Last, Jump, Halt, Tree, Do, If, End, Label}
 use Rattle.ssu_ir.specs.Points.{nodes}
-use Rattle.slot_placement.specs.declared.place.Place.{Place}
-use Rattle.slot_placement.specs.declared.place.Place.TheVariants.{A, B, L, LD, S, SD, Slot}
-use Rattle.slot_placement.specs.Places.{same_place}
-use Rattle.slot_placement.specs.Plan.{Plan, home, first, serve, pass}
-use Rattle.slot_placement.specs.Fits.{is_slot, is_read_register}
+use Rattle.placement.specs.declared.place.Place.{Place}
+use Rattle.placement.specs.declared.place.Place.TheVariants.{A, B, L, LD, S, SD, Slot}
+use Rattle.placement.specs.Places.{same_place}
+use Rattle.placement.specs.Plan.{Plan, home, first, serve, pass}
+use Rattle.placement.specs.Fits.{is_slot, is_read_register}
 use Rattle.par_move.specs.Moves.{Move, temporary}
 
 -- ---- instructions of places
@@ -108,7 +108,7 @@ result_place p k x = let d = (home p x).defined in if is_slot d then S (named (p
 abbrev pub to_slot : Plan → ℕ → ℕ → List Move
 to_slot p k x = let d = (home p x).defined in if is_slot d then (S (named (pass p k).s), d) ∷ [] else []
 
--- the copies behind a definition
+-- the copies after a definition
 abbrev pub copied : Option ℕ → Place → Place → List Move
 copied s from q = if is_slot q then (from, S (named s)) ∷ (S (named s), q) ∷ [] else (from, q) ∷ []
 

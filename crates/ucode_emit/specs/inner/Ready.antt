@@ -4,11 +4,11 @@ use Rattle.nv_base.specs.Sets.{is_in}
 use Rattle.nv_base.specs.Words.{Env}
 use Rattle.ssu_ir.specs.Tree.{Label}
 use Rattle.ssu_ir.specs.Points.{Point}
-use Rattle.slot_placement.specs.declared.place.Place.{Place}
-use Rattle.slot_placement.specs.declared.place.Place.TheVariants.{A}
-use Rattle.slot_placement.specs.Plan.{Plan, home}
-use Rattle.slot_placement.specs.Uses.{Use, uses}
-use Rattle.slot_placement.specs.Fits.{general_places, read_places, has_place, is_early, word_register}
+use Rattle.placement.specs.declared.place.Place.{Place}
+use Rattle.placement.specs.declared.place.Place.TheVariants.{A}
+use Rattle.placement.specs.Plan.{Plan, home}
+use Rattle.placement.specs.Uses.{Use, uses}
+use Rattle.placement.specs.Fits.{general_places, read_places, has_place, is_early, word_register}
 use Rattle.par_move.specs.Moves.{Move, Words, all_at_once, one_by_one, temporary, StandFor}
 
 -- the places in which a value lasts while it is held
@@ -20,7 +20,7 @@ pub record WaitsAt (labels : List Label) (p : Plan) (k : ℕ) (q : Point) (u : U
   pub there : (i : ℕ) × (slice_get (uses labels) i ≡ Some u)
   pub early : is_early p u ≡ true
   pub defined : is_in u.value q.above ≡ true
-  pub here : nat_le k u.point ≡ true
+  pub emit_context : nat_le k u.point ≡ true
   pub below : nat_le u.point (k + q.below) ≡ true
 
 -- before the piece of a node: each value that is held has its word wherever it lasts, and each early word that is still to be written has

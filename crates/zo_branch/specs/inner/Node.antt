@@ -1,13 +1,13 @@
 -- what each node of a searched tree keeps
 use Rattle.std.specs.Prelude.{◌≡◌, ℕ, ◌+◌, List, [], ◌∷◌, ◌++◌, Bool, Option}
 use Rattle.zo_model.specs.declared.program.ZeroOne.{ZeroOne}
-use Rattle.zo_leaf.specs.inner.Path.{Pending}
-use Rattle.zo_leaf.specs.Node.{IsNode}
-use Rattle.zo_leaf.specs.Searched.{IsOpenWhereOpen, IsNoBetter, IsClosed}
-use Rattle.zo_leaf.specs.inner.Walk.{MayCome, after}
-use Rattle.zo_leaf.specs.declared.cert.CertNode.{CertNode}
-use Rattle.zo_leaf.specs.declared.cert.CertNode.TheVariants.{Branch, Bound, Clash, Left}
-use Rattle.zo_leaf.specs.declared.cert.Claim.{Claim}
+use Rattle.zo_proof.specs.inner.Path.{Pending}
+use Rattle.zo_proof.specs.Node.{IsNode}
+use Rattle.zo_proof.specs.Searched.{IsOpenWhereOpen, IsNoBetter, IsClosed}
+use Rattle.zo_proof.specs.inner.Walk.{MayCome, after}
+use Rattle.zo_proof.specs.declared.cert.CertNode.{CertNode}
+use Rattle.zo_proof.specs.declared.cert.CertNode.TheVariants.{Branch, Bound, Clash, Left}
+use Rattle.zo_proof.specs.declared.cert.Claim.{Claim}
 use Rattle.zo_branch.specs.Nodes.{IsPicked, IsBelow}
 
 -- all that a node of a searched tree keeps
@@ -19,7 +19,7 @@ pub record IsGood (z : ZeroOne) (start : Option ℕ) (answers : List (Option Boo
   pub picked : IsPicked answers fixed n
   pub below : IsBelow z start fixed n
 
--- the node is put behind the others, and the walk goes on
+-- the node is put after the others, and the walk goes on
 pub record Puts (node : CertNode) (old new : Pending) (ns ns' : List CertNode) : Type 0 where
   pub longer : ns' ≡ ns ++ node ∷ []
   pub next : new ≡ record old { fixings = after old.fixings node }

@@ -4,8 +4,8 @@ use Rattle.line_text.specs.Line.{text_of}
 use Rattle.zo_model.specs.inner.LineFault.{NoLine}
 use Rattle.zo_model.specs.declared.error.ZoError.{ZoError}
 use Rattle.zo_model.specs.declared.error.ZoError.TheVariants.{NoMemory, Bad}
-use Rattle.zo_leaf.specs.Node.{Node, IsNodeText, node_line}
-use Rattle.zo_leaf.specs.inner.NodeLine.{IsNodeLine}
+use Rattle.zo_proof.specs.Node.{Node, IsNodeText, node_line}
+use Rattle.zo_proof.specs.inner.NodeLine.{IsNodeLine}
 use Rattle.zo_cert.specs.ReportText.{x_line}
 
 -- the columns of n that are 1
@@ -22,7 +22,7 @@ pub record StopsAtNode (count : ℕ) (bytes : List ℕ) (nodes : List Node) : Ty
   pub spelled : bytes ≡ text_of (map node_line nodes) ++ rest
   pub no_line : NoLine IsNodeLine rest
 
--- want of memory, or the number of the line at which the nodes stop, counted behind so many
+-- memory exhaustion, or the number of the line at which the nodes stop, counted behind so many
 abbrev pub IsNodeFault : ℕ → List ℕ → ℕ → ZoError → Type 0
 IsNodeFault count bytes number NoMemory = Unit {0}
 IsNodeFault count bytes number (Bad k) = (nodes : List Node) × (k ≡ number + (length nodes + 1)) × StopsAtNode count bytes nodes

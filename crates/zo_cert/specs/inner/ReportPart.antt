@@ -6,7 +6,7 @@ use Rattle.zo_model.specs.inner.LineFault.{NoLine}
 use Rattle.zo_model.specs.Program.{vector, costs_of}
 use Rattle.zo_model.specs.declared.error.ZoError.{ZoError}
 use Rattle.zo_model.specs.declared.error.ZoError.TheVariants.{NoMemory, Bad}
-use Rattle.zo_leaf.specs.Node.{Node, IsNodeText}
+use Rattle.zo_proof.specs.Node.{Node, IsNodeText}
 use Rattle.zo_cert.specs.Report.{IsBlank}
 use Rattle.zo_cert.specs.ReportText.{counted_line, x_line}
 use Rattle.zo_cert.specs.ReportFault.{HasCost, stated_lines, tree_lines}
@@ -48,7 +48,7 @@ pub record StopsAt (Kind : List (List ℕ) → Type 0) (bytes : List ℕ) (front
   pub goes_on : Begins Kind (front ++ next ∷ [])
   pub no_line : NoLine (λ line. Begins Kind (front ++ line ∷ [])) rest
 
--- want of memory, or the number of the line at which the bytes stop, counted behind so many
+-- memory exhaustion, or the number of the line at which the bytes stop, counted behind so many
 abbrev pub IsStop : (List (List ℕ) → Type 0) → List ℕ → ℕ → ZoError → Type 0
 IsStop Kind bytes number NoMemory = Unit {0}
 IsStop Kind bytes number (Bad n) = (front : List (List ℕ)) × (n ≡ number + (length front + 1)) × StopsAt Kind bytes front

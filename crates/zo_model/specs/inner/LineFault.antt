@@ -29,7 +29,7 @@ pub data NoLine (Kind : List ℕ → Type 0) (bytes : List ℕ) : Type 0 where
   cut : Lacks 10 bytes → NoLine Kind bytes
   other : (line back : List ℕ) → bytes ≡ line ++ 10 ∷ back → Lacks 10 line → ¬ Kind line → NoLine Kind bytes
 
--- want of memory, or the number of the line behind so many, which isn't of this kind
+-- memory exhaustion, or the number of the line behind so many, which isn't of this kind
 abbrev pub IsLineFault : (List ℕ → Type 0) → List ℕ → ℕ → ZoError → Type 0
 IsLineFault Kind bytes number NoMemory = Unit {0}
 IsLineFault Kind bytes number (Bad n) = (n ≡ number + 1) × NoLine Kind bytes

@@ -9,17 +9,17 @@ use Rattle.zo_model.specs.declared.error.ZoError.{ZoError}
 use Rattle.zo_model.specs.declared.error.ZoError.TheVariants.{NoMemory, Bad}
 
 -- The lines `front` begin a program's text, and some line more; but the next line isn't there, or isn't one more.
-pub record Stops (bytes : List ℕ) (front : List (List ℕ)) : Type 0 where
+pub record HasFaultAfter (bytes : List ℕ) (front : List (List ℕ)) : Type 0 where
   pub rest : List ℕ
   pub spelled : bytes ≡ text_of front ++ rest
   pub next : List ℕ
   pub goes_on : Begins AreProgramLines (front ++ next ∷ [])
   pub no_line : NoLine (λ line. Begins AreProgramLines (front ++ line ∷ [])) rest
 
--- want of memory, or the number of the line at which the bytes stop, counted behind so many
+-- memory exhaustion, or the number of the line at which the bytes stop, counted behind so many
 abbrev pub IsProgramFault : List ℕ → ℕ → ZoError → Type 0
 IsProgramFault bytes number NoMemory = Unit {0}
-IsProgramFault bytes number (Bad n) = (front : List (List ℕ)) × (n ≡ number + (length front + 1)) × Stops bytes front
+IsProgramFault bytes number (Bad n) = (front : List (List ℕ)) × (n ≡ number + (length front + 1)) × HasFaultAfter bytes front
 
 -- some columns were read, and the next one wasn't
 pub record StopsAtCost (n : ℕ) (bytes : List ℕ) (costs : List ℕ) : Type 0 where

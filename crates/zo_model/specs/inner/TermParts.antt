@@ -1,4 +1,4 @@
--- the parts of a row's line behind its least
+-- the parts of a row's line after its least
 use Rattle.std.specs.Prelude.{◌≡◌, ℕ, ◌<◌, ◌≤◌, List, map, All, ℤ}
 use Rattle.zo_model.specs.Program.{Rise, IsCoefficient, AreTerms}
 use Rattle.zo_model.specs.ProgramText.{term_text}

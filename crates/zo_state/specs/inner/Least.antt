@@ -14,7 +14,7 @@ pub record IsFreeIn (fixed : List (Option Bool)) (ts : List (ℕ × ℤ)) (j : �
   pub there : HasColumn j ts
 
 -- an unfixed column of this row, which isn't met
-pub record IsWantedBy (fixed : List (Option Bool)) (r : Row) (j : ℕ) : Type 0 where
+pub record IsPreferredBy (fixed : List (Option Bool)) (r : Row) (j : ℕ) : Type 0 where
   pub free : IsFree fixed j
   pub lacks : Lacks fixed j r
 

@@ -1,6 +1,6 @@
 use Rattle.std.proofs.Common.{[], ◌∷◌}
 use Rattle.std.specs.HashMap.{get}
-use Rattle.held_values.proofs.RowSteps.{on-ok}
+use Rattle.ssu_liveness.proofs.RowSteps.{on-ok}
 use Rattle.bank_form.specs.Program.{same_column}
 use Rattle.bank_form.specs.Rows as lines
 use Rattle.bank_form.proofs.Loops.{adds-both}

@@ -1,7 +1,7 @@
 use Rattle.std.proofs.Common.{◌≡◌, ◌++◌, map, drop, nat_eq}
 use Rattle.std.specs.HashMap.{get}
-use Rattle.slot_placement.specs.Uses as pure
-use Rattle.held_values.specs.inner.Live.{value_by}
+use Rattle.placement.specs.Uses as pure
+use Rattle.ssu_liveness.specs.inner.Live.{value_by}
 use Rattle.bank_form.specs.inner.Form as form
 use Rattle.bank_form.specs.inner.Form.{use_view}
 use Rattle.bank_form.proofs.tables.add_arguments.Given as goal

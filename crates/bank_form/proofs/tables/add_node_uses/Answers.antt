@@ -2,8 +2,8 @@ use Rattle.std.proofs.Common.{◌∙◌, ◌++◌, map, nat_eq, sym, ap, append_
 use Rattle.std.specs.HashMap.{get}
 use Rattle.ssu_ir.specs.Slots.{node_of}
 use Rattle.ssu_ir.specs.Tree.{node_uses}
-use Rattle.slot_placement.specs.Uses as pure
-use Rattle.held_values.specs.inner.Live.{value_by}
+use Rattle.placement.specs.Uses as pure
+use Rattle.ssu_liveness.specs.inner.Live.{value_by}
 use Rattle.bank_form.specs.inner.Form as form
 use Rattle.bank_form.specs.inner.Form.{use_view}
 use Rattle.bank_form.proofs.Tabled.{uses-run}

@@ -1,6 +1,6 @@
 use Rattle.std.proofs.Common.{◌∙◌, sym, ap}
 use Rattle.ssu_ir.specs.Slots.{node_of}
-use Rattle.slot_placement.specs.Uses.{node_roles}
+use Rattle.placement.specs.Uses.{node_roles}
 use Rattle.bank_form.specs.Rows.{two_operands}
 use Rattle.bank_form.proofs.Tabled.{no-arguments, no-endings}
 use Rattle.bank_form.proofs.tables.has_two_operands.Goals as goal

@@ -1,6 +1,6 @@
 use Rattle.std.proofs.Common.{◌∙◌, ◌++◌, ◌∷◌, [], ℕ, map, ap, get_or, arith}
 use Rattle.std.proofs.lemmas.List.{map-append}
-use Rattle.slot_placement.specs.Uses as pure
+use Rattle.placement.specs.Uses as pure
 use Rattle.bank_form.specs.inner.Form.{value_view}
 use Rattle.bank_form.proofs.Tabled.{numbered-more, numbered-all}
 use Rattle.bank_form.proofs.tables.params.Goals as goal
@@ -10,7 +10,7 @@ loop-i-preserved c =
     numbered-more c.args.k (pure.Parameter c.args.l) c.loop-i.i c.args.xs.now 0 (map value_view c.loop-i.values.items) (map value_view c.push.new.self.items) (pure.numbered c.args.k (pure.Parameter c.args.l) 0 c.args.xs.now)
     (omega arith)
     (ap (map value_view) c.in_ok-push.ensures.items ∙ map-append value_view c.loop-i.values.items (_ ∷ [])
-    ∙ ap (λ (z : ℕ). map value_view c.loop-i.values.items ++ record { point = c.args.k; var = get_or c.args.xs.now c.loop-i.i 0; sort = pure.Parameter c.args.l z } ∷ []) c.in_ok-short.ensures)
+    ∙ ap (λ (z : ℕ). map value_view c.loop-i.values.items ++ record { point = c.args.k; var = get_or c.args.xs.now c.loop-i.i 0; origin = pure.Parameter c.args.l z } ∷ []) c.in_ok-short.ensures)
     c.loop-i.invariant
 
 pub returns : goal.returns

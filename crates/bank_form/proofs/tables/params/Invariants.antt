@@ -1,5 +1,5 @@
 use Rattle.std.proofs.Common.{◌≡◌, ◌++◌, map, drop}
-use Rattle.slot_placement.specs.Uses as pure
+use Rattle.placement.specs.Uses as pure
 use Rattle.bank_form.specs.inner.Form.{value_view}
 use Rattle.bank_form.proofs.tables.params.Given as goal
 

@@ -3,8 +3,8 @@ use Rattle.std.specs.HashMap.{get}
 use Rattle.zo_model.specs.Contents.{row_contents}
 use Rattle.ssu_ir.specs.Points.{points}
 use Rattle.ssu_ir.specs.View.{labels_view}
-use Rattle.held_values.specs.Held.{items_of}
-use Rattle.held_values.proofs.RowSteps.{on-ok}
+use Rattle.ssu_liveness.specs.LiveRows.{items_of}
+use Rattle.ssu_liveness.proofs.RowSteps.{on-ok}
 use Rattle.bank_form.specs.Program.{same_column}
 use Rattle.bank_form.proofs.Order.{all-rooms}
 use Rattle.bank_limits.proofs.capacity.push_capacity.Goals as goal

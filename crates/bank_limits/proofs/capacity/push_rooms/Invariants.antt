@@ -4,7 +4,7 @@ use Rattle.std.specs.List.{flat_map}
 use Rattle.zo_model.specs.Contents.{row_contents}
 use Rattle.bank_form.specs.Program.{same_column, row_of}
 use Rattle.bank_form.specs.Rows as lines
-use Rattle.held_values.specs.Held.{Kept}
+use Rattle.ssu_liveness.specs.LiveRows.{Kept}
 use Rattle.bank_limits.proofs.capacity.push_rooms.Given as goal
 
 abbrev pub invariant-loop-xs : goal.invariant-loop-xs

@@ -2,14 +2,14 @@ use Rattle.std.proofs.Common.{◌++◌, ◌∙◌, ap, map, arith}
 use Rattle.std.specs.List.{flat_map}
 use Rattle.bank_form.specs.Columns as columns
 use Rattle.bank_form.specs.inner.Form as form
-use Rattle.bank_form.specs.inner.Form.{stop_view}
+use Rattle.bank_form.specs.inner.Form.{summary_view}
 use Rattle.bank_form.proofs.Loops.{out-more, out-all}
 use Rattle.bank_limits.proofs.early.push_ears.Goals as goal
 
-pub loop-stop-preserved : goal.loop-stop-preserved
-loop-stop-preserved c =
-    out-more (form.part_ears) stop_view c.args.stops.now c.loop-stop.stop-index _ c.loop-stop.out.items c.push_stop_ears.new.out.items
-    (c.args.out.now.items ++ flat_map (form.part_ears) (map stop_view c.args.stops.now)) (omega arith) (c.in_ok-push_stop_ears.ensures ∙ ap (λ xs. c.loop-stop.out.items ++ flat_map (columns.ear_columns c.stop-item.result.words) (map form.use_view xs)) c.deref.ensures.value ∙ ap (λ s. c.loop-stop.out.items ++ form.part_ears (stop_view s)) c.stop-item.is) c.loop-stop.invariant
+pub loop-summary-preserved : goal.loop-summary-preserved
+loop-summary-preserved c =
+    out-more (form.part_ears) summary_view c.args.summaries.now c.loop-summary.summary-index _ c.loop-summary.out.items c.push_point_ears.new.out.items
+    (c.args.out.now.items ++ flat_map (form.part_ears) (map summary_view c.args.summaries.now)) (omega arith) (c.in_ok-push_point_ears.ensures ∙ ap (λ xs. c.loop-summary.out.items ++ flat_map (columns.ear_columns c.summary-item.result.words) (map form.use_view xs)) c.deref.ensures.value ∙ ap (λ s. c.loop-summary.out.items ++ form.part_ears (summary_view s)) c.summary-item.is) c.loop-summary.invariant
 
 pub returns : goal.returns
-returns c = out-all (form.part_ears) stop_view c.args.stops.now c.loop-stop.stop-index c.loop-stop.out.items (c.args.out.now.items ++ flat_map (form.part_ears) (map stop_view c.args.stops.now)) (omega arith) c.loop-stop.invariant
+returns c = out-all (form.part_ears) summary_view c.args.summaries.now c.loop-summary.summary-index c.loop-summary.out.items (c.args.out.now.items ++ flat_map (form.part_ears) (map summary_view c.args.summaries.now)) (omega arith) c.loop-summary.invariant

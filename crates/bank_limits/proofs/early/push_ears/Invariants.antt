@@ -1,8 +1,8 @@
 use Rattle.std.proofs.Common.{◌≡◌, ◌++◌, map, drop}
 use Rattle.std.specs.List.{flat_map}
 use Rattle.bank_form.specs.inner.Form as form
-use Rattle.bank_form.specs.inner.Form.{stop_view}
+use Rattle.bank_form.specs.inner.Form.{summary_view}
 use Rattle.bank_limits.proofs.early.push_ears.Given as goal
 
-abbrev pub invariant-loop-stop : goal.invariant-loop-stop
-invariant-loop-stop l = l.out.items ++ flat_map (form.part_ears) (map stop_view (drop l.stop-index l.stops)) ≡ l.fn.out.items ++ flat_map (form.part_ears) (map stop_view l.stops)
+abbrev pub invariant-loop-summary : goal.invariant-loop-summary
+invariant-loop-summary l = l.out.items ++ flat_map (form.part_ears) (map summary_view (drop l.summary-index l.summaries)) ≡ l.fn.out.items ++ flat_map (form.part_ears) (map summary_view l.summaries)

@@ -3,11 +3,11 @@ use Rattle.std.specs.HashMap.{get}
 use Rattle.std.specs.List.{flat_map}
 use Rattle.zo_model.specs.Contents.{row_contents}
 use Rattle.bank_form.specs.Program.{same_column, row_of}
-use Rattle.bank_form.specs.inner.Form.{stop_view}
+use Rattle.bank_form.specs.inner.Form.{summary_view}
 use Rattle.bank_form.specs.inner.Form as form
 use Rattle.bank_limits.proofs.operands.push_operands.Given as goal
 
-abbrev pub invariant-loop-stop : goal.invariant-loop-stop
-invariant-loop-stop l =
-    map row_contents l.rows.items ++ map (row_of (get same_column l.numbers)) (flat_map (form.part_operands) (map stop_view (drop l.stop-index l.stops)))
-    ≡ map row_contents l.fn.rows.items ++ map (row_of (get same_column l.numbers)) (flat_map (form.part_operands) (map stop_view l.stops))
+abbrev pub invariant-loop-summary : goal.invariant-loop-summary
+invariant-loop-summary l =
+    map row_contents l.rows.items ++ map (row_of (get same_column l.numbers)) (flat_map (form.part_operands) (map summary_view (drop l.summary-index l.summaries)))
+    ≡ map row_contents l.fn.rows.items ++ map (row_of (get same_column l.numbers)) (flat_map (form.part_operands) (map summary_view l.summaries))

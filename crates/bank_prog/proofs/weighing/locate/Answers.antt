@@ -1,7 +1,7 @@
 use Rattle.std.proofs.Common.{map, get_or, sym, ap, ◌∙◌}
 use Rattle.ssu_ir.specs.View.{labels_view}
-use Rattle.held_values.specs.inner.Spots.{spot_place}
-use Rattle.held_values.proofs.Kept.{length-view}
+use Rattle.ssu_liveness.specs.inner.PointIds.{kind_of_point}
+use Rattle.ssu_liveness.proofs.Kept.{length-view}
 use Rattle.label_weights.specs.Weighted.{weight_of}
 use Rattle.bank_form.specs.inner.Form.{value_view}
 use Rattle.bank_prog.specs.Weighted.{point_in}
@@ -16,7 +16,7 @@ returns-clause-located c =
     let ws = c.args.w.now in record {
       weights = λ k.
           ap (λ found. get_or found k c.of.result)
-          (c.in_ok-spot_weights.ensures s ∙ ap (λ spots. map (weight_of ws) (labels_behind 0 (map (spot_place s) spots))) c.deref.ensures.value ∙ ap (λ qs. map (weight_of ws) (labels_behind 0 qs)) c.in_ok-spots.ensures)
+          (c.in_ok-weights_of_points.ensures s ∙ ap (λ point_ids. map (weight_of ws) (labels_behind 0 (map (kind_of_point s) point_ids))) c.deref.ensures.value ∙ ap (λ qs. map (weight_of ws) (labels_behind 0 qs)) c.in_ok-point_ids.ensures)
           ∙ point-weights labels ws k c.of.result (c.of.ensures.weight ∙ ap (weight_of ws) (c.in_ok-short.ensures ∙ c.len.ensures ∙ c.args.f.now.ssu.now.labels.ok.0 ∙ sym (length-view s)));
       points = λ x. c.in_ok-points_of.ensures x ∙ ap (λ vs. point_in (map value_view vs) x) c.deref-2.ensures.value ∙ ap (λ vs. point_in vs x) c.args.f.now.right.values;
     }

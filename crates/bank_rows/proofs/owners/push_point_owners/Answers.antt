@@ -1,7 +1,7 @@
 use Rattle.std.specs.HashMap.{get}
 use Rattle.std.specs.List.{flat_map}
 use Rattle.ssu_ir.specs.View.{labels_view}
-use Rattle.held_values.proofs.RowSteps.{on-ok}
+use Rattle.ssu_liveness.proofs.RowSteps.{on-ok}
 use Rattle.bank_form.specs.Columns.{eight}
 use Rattle.bank_form.specs.Program.{same_column}
 use Rattle.bank_form.specs.inner.Owners.{read_owner, sdram_owner}

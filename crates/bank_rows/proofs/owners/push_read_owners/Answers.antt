@@ -2,7 +2,7 @@ use Rattle.std.proofs.Common.{◌∙◌, ◌++◌, ℕ, ap, map, arith}
 use Rattle.std.specs.HashMap.{get}
 use Rattle.zo_model.specs.Contents.{row_contents}
 use Rattle.ssu_ir.specs.View.{labels_view}
-use Rattle.held_values.specs.Held.{Kept, items_of}
+use Rattle.ssu_liveness.specs.LiveRows.{Kept, items_of}
 use Rattle.bank_form.specs.Program.{same_column, row_of}
 use Rattle.bank_form.specs.inner.Owners.{each_row, row_owners}
 use Rattle.bank_form.proofs.Loops.{adds-as}

@@ -2,7 +2,7 @@ use Rattle.std.proofs.Common.{◌≡◌, ◌++◌, map, drop}
 use Rattle.std.specs.HashMap.{get}
 use Rattle.zo_model.specs.Contents.{row_contents}
 use Rattle.ssu_ir.specs.View.{labels_view}
-use Rattle.held_values.specs.Held.{items_of}
+use Rattle.ssu_liveness.specs.LiveRows.{items_of}
 use Rattle.bank_form.specs.Program.{same_column, row_of}
 use Rattle.bank_form.specs.inner.Owners.{each_row, row_owners}
 use Rattle.bank_rows.proofs.owners.push_read_owners.Given as goal

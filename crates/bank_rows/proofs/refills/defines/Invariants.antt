@@ -1,6 +1,6 @@
 use Rattle.std.proofs.Common.{◌≡◌, map, drop}
 use Rattle.nv_base.specs.Sets.{is_in}
-use Rattle.slot_placement.specs.Uses as pure
+use Rattle.placement.specs.Uses as pure
 use Rattle.bank_form.specs.inner.Form.{value_view}
 use Rattle.bank_rows.proofs.refills.defines.Given as goal
 

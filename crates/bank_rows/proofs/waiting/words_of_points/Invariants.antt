@@ -6,4 +6,4 @@ use Rattle.bank_rows.proofs.waiting.words_of_points.Given as goal
 
 abbrev pub invariant-loop-k : goal.invariant-loop-k
 invariant-loop-k l =
-    lists_of l.words.items ++ each_waiting l.below (get nat_eq l.defined) (map use_view l.uses) l.k (drop l.k l.stops) ≡ each_waiting l.below (get nat_eq l.defined) (map use_view l.uses) 0 l.stops
+    lists_of l.words.items ++ each_waiting l.below (get nat_eq l.defined) (map use_view l.uses) l.k (drop l.k l.summaries) ≡ each_waiting l.below (get nat_eq l.defined) (map use_view l.uses) 0 l.summaries

@@ -3,4 +3,4 @@ use Rattle.cps_close.specs.inner.Closed.{operands}
 use Rattle.cps_close.proofs.trees.with_variables.Given as goal
 
 abbrev pub invariant-loop-x : goal.invariant-loop-x
-invariant-loop-x l = l.v.items ≡ l.initial.v.items ++ operands (take l.x-index l.wanted)
+invariant-loop-x l = l.v.items ≡ l.initial.v.items ++ operands (take l.x-index l.needed)

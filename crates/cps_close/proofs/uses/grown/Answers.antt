@@ -9,7 +9,7 @@ pub loop-x-init : goal.loop-x-init
 loop-x-init c = record {
   members = λ q.
       let none : set.contains nat_eq c.in_ok-seen.seen q ≡ false = search rules in
-      members-start c.args.gone.now c.args.wanted.now c.push_all.new.v.items q (set.contains nat_eq c.in_ok-seen.seen q) (set.contains nat_eq c.insert_all.new.s q) (set.contains nat_eq c.insert_all-2.new.s q) none (c.in_ok-insert_all.ensures q) (c.in_ok-insert_all-2.ensures q) (search rules);
+      members-start c.args.gone.now c.args.needed.now c.push_all.new.v.items q (set.contains nat_eq c.in_ok-seen.seen q) (set.contains nat_eq c.insert_all.new.s q) (set.contains nat_eq c.insert_all-2.new.s q) none (c.in_ok-insert_all.ensures q) (c.in_ok-insert_all-2.ensures q) (search rules);
   list = ap (λ l. noted_all c.args.gone.now l c.args.used.now) (search rules);
 }
 

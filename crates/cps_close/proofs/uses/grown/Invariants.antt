@@ -8,5 +8,5 @@ use Rattle.cps_close.proofs.uses.grown.Given as goal
 abbrev pub invariant-loop-x : goal.invariant-loop-x
 invariant-loop-x l = record {
   members : (q : ℕ) → set.contains nat_eq l.seen q ≡ is_in q (l.gone ++ l.v.items);
-  list : noted_all l.gone l.v.items (drop l.x-index l.used) ≡ noted_all l.gone l.wanted l.used;
+  list : noted_all l.gone l.v.items (drop l.x-index l.used) ≡ noted_all l.gone l.needed l.used;
 }

@@ -7,7 +7,7 @@ use Rattle.cps_ir.specs.Meaning.{handler_of}
 use Rattle.cps_ir.specs.Spine.{put_all}
 use Rattle.cps_ir.specs.Term as cps
 use Rattle.cps_ir.specs.View.{term_view, labels_view, fun_view}
-use Rattle.cps_inline.specs.inner.Inlined.{moved, moved_atom, moved_atoms, lands, copy_at, counts, group_count}
+use Rattle.cps_inline.specs.inner.Inlined.{moved, moved_atom, moved_atoms, return_term, copy_at, counts, group_count}
 use Rattle.cps_inline.proofs.Seen.{view-Throw, seen-If, seen-Fix, seen-one, many-labels}
 use Rattle.cps_inline.proofs.Along.{label-within, function-within, item_next, in_next, in_end, copies_take, copies_pass, copies_end, on_if, on_one, on_several, on_end, call-counted, call-entered, body-at}
 use Rattle.cps_inline.proofs.copying.+copies.Goals as goal
@@ -15,9 +15,9 @@ use Rattle.cps_inline.proofs.copying.+copies.Goals.{copy_group-then-is_copied+in
 
 pub copy_call-returns-in-None-clause-term : goal.copy_call-returns-in-None-clause-term
 copy_call-returns-in-None-clause-term t c =
-    IfOk-weaker c.land.result _ _
+    IfOk-weaker c.return_to.result _ _
     (λ u e. e ∙ ap (λ l. cps.Jump l (moved_atoms c.args.site.now.base c.args.bs.now)) c.in_ok-moved-in-None.ensures
-    ∙ ap (λ k. copy_at c.args.site.now.funs.now c.args.site.now.place.now c.args.site.now.base (cps.Call c.args.i c.args.bs.now k c.args.hs.now) c.args.fresh.now) (sym c.in-None.is)) c.land.ensures
+    ∙ ap (λ k. copy_at c.args.site.now.funs.now c.args.site.now.place.now c.args.site.now.base (cps.Call c.args.i c.args.bs.now k c.args.hs.now) c.args.fresh.now) (sym c.in-None.is)) c.return_to.ensures
 
 pub copy_call-returns-in_ok-words-in-Some-get-clause-count : goal.copy_call-returns-in_ok-words-in-Some-get-clause-count
 copy_call-returns-in_ok-words-in-Some-get-clause-count t c =
@@ -89,8 +89,8 @@ copy_term-returns-clause-term t c =
 pub copy_steps-returns-in-Throw-clause-term : goal.copy_steps-returns-in-Throw-clause-term
 copy_steps-returns-in-Throw-clause-term t c =
     on_end (cps.Throw c.in-Throw.e c.in-Throw.bs.items) c.in_ok-end-in-Throw.end c.spine.invariant (ap term_view c.in-Throw.is ∙ view-Throw c.in-Throw.e c.in-Throw.bs)
-    (c.in_ok-end-in-Throw.ensures ∙ ap (λ k. lands k c.in-Throw.e (moved_atoms c.args.site.now.base c.deref-in-Throw-2.result.now)) (c.find_handler-to.ensures ∙ ap (handler_of c.in-Throw.e) c.deref-in-Throw.ensures.value)
-    ∙ ap (λ l. lands (handler_of c.in-Throw.e c.args.site.now.place.now.handlers.items) c.in-Throw.e (moved_atoms c.args.site.now.base l)) c.deref-in-Throw-2.ensures)
+    (c.in_ok-end-in-Throw.ensures ∙ ap (λ k. return_term k c.in-Throw.e (moved_atoms c.args.site.now.base c.deref-in-Throw-2.result.now)) (c.find_handler-to.ensures ∙ ap (handler_of c.in-Throw.e) c.deref-in-Throw.ensures.value)
+    ∙ ap (λ l. return_term (handler_of c.in-Throw.e c.args.site.now.place.now.handlers.items) c.in-Throw.e (moved_atoms c.args.site.now.base l)) c.deref-in-Throw-2.ensures)
 
 pub copy_steps-spine-preserved-in-If : goal.copy_steps-spine-preserved-in-If
 copy_steps-spine-preserved-in-If t c =

@@ -1,17 +1,17 @@
 use Rattle.std.proofs.Common.{◌+◌, ◌*◌, map, drop}
 use Rattle.cps_ir.specs.View.{term_view, label_view, labels_view, fun_view}
-use Rattle.cps_inline.specs.inner.Inlined.{entering, counts, place_view, weight, labels_weight, weights}
+use Rattle.cps_inline.specs.inner.Inlined.{entering, counts, context_view, weight, labels_weight, weights}
 use Rattle.cps_inline.proofs.Along.{On, InLabels, InCopies}
 use Rattle.cps_inline.proofs.copying.+copies.Given as goal
 
 abbrev pub invariant-copy_steps-spine : goal.invariant-copy_steps-spine
-invariant-copy_steps-spine l = On (map fun_view l.site.funs.now) (entering (map fun_view l.site.funs.now) l.site.place.now.group) (counts (map fun_view l.site.funs.now) l.site.place.now.group) (place_view l.site.place.now) l.site.base l.t l.initial.fresh l.initial.steps.items l.steps.items l.cur l.fresh
+invariant-copy_steps-spine l = On (map fun_view l.site.funs.now) (entering (map fun_view l.site.funs.now) l.site.place.now.group) (counts (map fun_view l.site.funs.now) l.site.place.now.group) (context_view l.site.place.now) l.site.base l.t l.initial.fresh l.initial.steps.items l.steps.items l.cur l.fresh
 
 abbrev pub invariant-copy_labels-loop-c : goal.invariant-copy_labels-loop-c
-invariant-copy_labels-loop-c l = InLabels (map fun_view l.site.funs.now) (entering (map fun_view l.site.funs.now) l.site.place.now.group) (counts (map fun_view l.site.funs.now) l.site.place.now.group) (place_view l.site.place.now) l.site.base l.conts l.initial.fresh l.v.items (drop l.c-index l.conts) l.fresh
+invariant-copy_labels-loop-c l = InLabels (map fun_view l.site.funs.now) (entering (map fun_view l.site.funs.now) l.site.place.now.group) (counts (map fun_view l.site.funs.now) l.site.place.now.group) (context_view l.site.place.now) l.site.base l.conts l.initial.fresh l.v.items (drop l.c-index l.conts) l.fresh
 
 abbrev pub invariant-copy_group-loop-j : goal.invariant-copy_group-loop-j
-invariant-copy_group-loop-j l = InCopies (map fun_view l.funs) (entering (map fun_view l.funs) l.place.group) (counts (map fun_view l.funs) l.place.group) (place_view l.place) (fun_view l.f) l.funs l.initial.fresh l.v.items l.j (drop l.j l.funs) l.fresh
+invariant-copy_group-loop-j l = InCopies (map fun_view l.funs) (entering (map fun_view l.funs) l.place.group) (counts (map fun_view l.funs) l.place.group) (context_view l.place) (fun_view l.f) l.funs l.initial.fresh l.v.items l.j (drop l.j l.funs) l.fresh
 
 -- the loop goes down the term
 abbrev pub decreases-copy_steps-spine : goal.decreases-copy_steps-spine

@@ -8,7 +8,7 @@ use Rattle.nv_meaning.specs.Packing.{value_at}
 use Rattle.nv_meaning.specs.inner.Blanks.{blank}
 use Rattle.nv_meaning.specs.inner.TableView.{declared_in}
 use Rattle.nv_values.specs.inner.View.{view, list_named_values}
-use Rattle.nv_meaning.proofs.Places.{all-laid}
+use Rattle.nv_meaning.proofs.NameIndices.{all-laid}
 use Rattle.nv_values.proofs.Rows.{record_view}
 use Rattle.nv_meaning.proofs.Filling.{blank-record, packed-none}
 use Rattle.nv_meaning.proofs.arguments.blank_record.Goals as goal

@@ -5,7 +5,7 @@ use Rattle.nv_ast.specs.Outline.{outline, size}
 use Rattle.nv_values.specs.Values.{words_value}
 use Rattle.nv_meaning.specs.Packing.{packed_value}
 use Rattle.nv_values.specs.inner.View.{view}
-use Rattle.nv_meaning.proofs.Places.{all-laid}
+use Rattle.nv_meaning.proofs.NameIndices.{all-laid}
 use Rattle.nv_meaning.proofs.pack.packed.Goals as goal
 
 pub packed_words-requires : goal.packed_words-requires

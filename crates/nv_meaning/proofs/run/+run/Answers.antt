@@ -15,7 +15,7 @@ use Rattle.nv_values.specs.inner.View.{view, list_values, scope_of}
 use Rattle.nv_meaning.specs.inner.Ran.{at, IsStep, RanScope}
 use Rattle.nv_values.specs.declared.value.Value as code
 use Rattle.nv_meaning.specs.declared.step.Step.TheVariants.{Done, Again}
-use Rattle.nv_values.specs.declared.stop.Stop.TheVariants.{NoMemory, Raised, Fault, Going}
+use Rattle.nv_values.specs.declared.stop.Interruption.TheVariants.{NoMemory, Raised, Fault, Going}
 use Rattle.nv_meaning.proofs.Bindings.{extends-more}
 use Rattle.nv_meaning.proofs.Moments.{ran-here}
 use Rattle.nv_meaning.proofs.Arms.{Front, FrontNamed, in-scope, in-scope_value, of-tree, of-step, of-stop, settled-again, front-none, front-more, front-all, front-stop, front-short, named-none, named-more, named-all, named-stop, named-short, led-none, led-more, led-all, led-stop, let-stop, let-short, let-done, store-stop, store-stop_value, store-done, tuple-stop, tuple-done, again-stop, again-done, raise-stop, raise-done, record-stop, record-done}

@@ -2,7 +2,7 @@ use Rattle.std.proofs.Common.{◌∙◌, ap, sym, map, ◌++◌, ◌∷◌, [], 
 use Rattle.nv_ast.specs.Exceptions.{exceptions}
 use Rattle.nv_ast.specs.ProgramView.{decl_tree}
 use Rattle.nv_meaning.specs.inner.Tables.{exceptions_in}
-use Rattle.nv_meaning.proofs.Places.{names-push}
+use Rattle.nv_meaning.proofs.NameIndices.{names-push}
 use Rattle.nv_meaning.proofs.table.add_exception.Goals as goal
 
 pub returns-in_ok-push-in-Exception-clause-names : goal.returns-in_ok-push-in-Exception-clause-names

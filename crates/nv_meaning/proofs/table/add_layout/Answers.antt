@@ -1,7 +1,7 @@
 use Rattle.std.proofs.Common.{◌∙◌, ap, sym, ◌++◌, ◌∷◌, [], append-nil}
 use Rattle.nv_ast.specs.ProgramView.{decl_tree}
 use Rattle.nv_meaning.specs.inner.Tables.{layouts_in, layout_pairs}
-use Rattle.nv_meaning.proofs.Places.{pairs-push}
+use Rattle.nv_meaning.proofs.NameIndices.{pairs-push}
 use Rattle.nv_meaning.proofs.table.add_layout.Goals as goal
 
 pub returns-in_ok-push-in-Layout : goal.returns-in_ok-push-in-Layout

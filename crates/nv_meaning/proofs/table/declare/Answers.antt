@@ -1,7 +1,7 @@
 use Rattle.std.proofs.Common.{bytes_eq}
 use Rattle.std.specs.HashMap.{get_by}
 use Rattle.std.proofs.lemmas.Map.Text.{hash_map_updates_str}
-use Rattle.nv_meaning.proofs.Places.{place-new, none-copied}
+use Rattle.nv_meaning.proofs.NameIndices.{place-new, none-copied}
 use Rattle.nv_meaning.proofs.table.declare.Goals as goal
 
 pub returns-in_ok-insert : goal.returns-in_ok-insert

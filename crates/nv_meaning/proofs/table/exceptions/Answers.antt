@@ -1,5 +1,5 @@
 use Rattle.std.proofs.Common.{refl, arith}
-use Rattle.nv_meaning.proofs.Places.{exceptions-turn, counts-turn}
+use Rattle.nv_meaning.proofs.NameIndices.{exceptions-turn, counts-turn}
 use Rattle.nv_meaning.proofs.table.exceptions.Goals as goal
 
 pub loop-decl-preserved : goal.loop-decl-preserved

@@ -1,5 +1,5 @@
 use Rattle.std.proofs.Common.{refl}
-use Rattle.nv_meaning.proofs.Places.{functions-turn}
+use Rattle.nv_meaning.proofs.NameIndices.{functions-turn}
 use Rattle.nv_meaning.proofs.table.functions.Goals as goal
 
 pub loop-decl-preserved : goal.loop-decl-preserved

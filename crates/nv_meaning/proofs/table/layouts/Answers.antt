@@ -1,5 +1,5 @@
 use Rattle.std.proofs.Common.{refl}
-use Rattle.nv_meaning.proofs.Places.{layouts-turn}
+use Rattle.nv_meaning.proofs.NameIndices.{layouts-turn}
 use Rattle.nv_meaning.proofs.table.layouts.Goals as goal
 
 pub loop-decl-preserved : goal.loop-decl-preserved

@@ -1,7 +1,7 @@
 use Rattle.std.proofs.Common.{◌++◌, ◌∷◌, [], sym, ap, ◌∙◌, append_assoc, codes, decimal, rules}
 use Rattle.std.specs.List.{flat_map}
 use Rattle.line_text.specs.Number.{hex_word}
-use Rattle.mem_lines.specs.Spelling.{name_of}
+use Rattle.nv_memtext.specs.Spelling.{name_of}
 use Rattle.nv_memtext.proofs.PrintLemmas.{listed_pieces, piece_as}
 use Rattle.nv_memtext.proofs.print.push_outcome.Goals as goal
 

@@ -5,7 +5,7 @@ use Rattle.nv_ast.specs.LayoutView.{layout_tree, field_tree, list_layouts, list_
 use Rattle.nv_parser.specs.inner.Failing.{Anything, ReadMany}
 use Rattle.nv_parser.specs.inner.Follow.{Above}
 use Rattle.nv_parser.specs.inner.Phrases.{NextLayout, NextField, NextAlternative}
-use Rattle.nv_parser.specs.inner.Lists.{LayoutsBehind, FieldsBehind, AlternativesBehind}
+use Rattle.nv_parser.specs.inner.Lists.{LayoutsAfter, FieldsAfter, AlternativesAfter}
 use Rattle.nv_parser.proofs.layouts.+layouts.Given as goal
 
 abbrev pub decreases-layout_atom : goal.decreases-layout_atom
@@ -40,7 +40,7 @@ decreases-more_alternatives l = 8 * length l.tokens.now + 7
 
 abbrev pub invariant-more_layouts-loop-after : goal.invariant-more_layouts-loop-after
 invariant-more_layouts-loop-after l = record {
-  read : LayoutsBehind (layout_tree l.fn.first) (list_layouts l.layouts.items) l.fn.tokens l.rest;
+  read : LayoutsAfter (layout_tree l.fn.first) (list_layouts l.layouts.items) l.fn.tokens l.rest;
   items : ReadMany NextLayout Anything l.room l.fn.tokens l.rest;
   measured : l.highest ≡ highest_layout (list_layouts l.layouts.items);
   low : l.highest ≤ l.room;
@@ -52,7 +52,7 @@ decreases-more_layouts-loop-after l = length l.rest
 
 abbrev pub invariant-more_fields-loop-after : goal.invariant-more_fields-loop-after
 invariant-more_fields-loop-after l = record {
-  read : FieldsBehind l.fn.name (field_tree l.fn.first) (list_fields l.fields.items) l.fn.tokens l.rest;
+  read : FieldsAfter l.fn.name (field_tree l.fn.first) (list_fields l.fields.items) l.fn.tokens l.rest;
   items : ReadMany NextField (Above 0) l.room l.fn.tokens l.rest;
   measured : l.highest ≡ highest_field (list_fields l.fields.items);
   low : l.highest ≤ l.room;
@@ -64,7 +64,7 @@ decreases-more_fields-loop-after l = length l.rest
 
 abbrev pub invariant-more_alternatives-loop-after : goal.invariant-more_alternatives-loop-after
 invariant-more_alternatives-loop-after l = record {
-  read : AlternativesBehind l.fn.name (field_tree l.fn.first) (list_fields l.alternatives.items) l.fn.tokens l.rest;
+  read : AlternativesAfter l.fn.name (field_tree l.fn.first) (list_fields l.alternatives.items) l.fn.tokens l.rest;
   items : ReadMany NextAlternative (Above 0) l.room l.fn.tokens l.rest;
   measured : l.highest ≡ highest_field (list_fields l.alternatives.items);
   low : l.highest ≤ l.room;

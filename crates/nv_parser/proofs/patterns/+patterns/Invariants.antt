@@ -3,7 +3,7 @@ use Rattle.std.proofs.Common.{◌≡◌, ◌≤◌, ◌+◌, ◌*◌, length}
 use Rattle.nv_ast.specs.Height.{highest_pattern}
 use Rattle.nv_ast.specs.PatternView.{pattern_tree, list_patterns}
 use Rattle.nv_parser.specs.inner.Failing.{Anything, ReadMany}
-use Rattle.nv_parser.specs.inner.Lists.{PatternsBehind}
+use Rattle.nv_parser.specs.inner.Lists.{PatternsAfter}
 use Rattle.nv_parser.specs.inner.Phrases.{NextPattern}
 use Rattle.nv_parser.proofs.patterns.+patterns.Given as goal
 
@@ -18,7 +18,7 @@ decreases-more_patterns l = 8 * length l.tokens.now + 2
 
 abbrev pub invariant-more_patterns-loop-after : goal.invariant-more_patterns-loop-after
 invariant-more_patterns-loop-after l = record {
-  read : PatternsBehind (pattern_tree l.fn.first) (list_patterns l.patterns.items) l.fn.tokens l.rest;
+  read : PatternsAfter (pattern_tree l.fn.first) (list_patterns l.patterns.items) l.fn.tokens l.rest;
   items : ReadMany NextPattern Anything l.room l.fn.tokens l.rest;
   measured : l.highest ≡ highest_pattern (list_patterns l.patterns.items);
   low : l.highest ≤ l.room;

@@ -4,7 +4,7 @@ use Rattle.nv_ast.specs.Height.{highest_type, highest_named_type}
 use Rattle.nv_ast.specs.TypeView.{type_tree, list_types, list_named_types}
 use Rattle.nv_parser.specs.inner.Failing.{ReadMany}
 use Rattle.nv_parser.specs.inner.Follow.{Above}
-use Rattle.nv_parser.specs.inner.Lists.{TypesBehind, NamedTypesBehind}
+use Rattle.nv_parser.specs.inner.Lists.{TypesAfter, NamedTypesAfter}
 use Rattle.nv_parser.specs.inner.Phrases.{NextType, NextNamedType}
 use Rattle.nv_parser.proofs.types.+types.Given as goal
 
@@ -25,7 +25,7 @@ decreases-more_named_types l = 8 * length l.tokens.now + 2
 
 abbrev pub invariant-more_types-loop-after : goal.invariant-more_types-loop-after
 invariant-more_types-loop-after l = record {
-  read : TypesBehind (type_tree l.fn.first) (list_types l.types.items) l.fn.tokens l.rest;
+  read : TypesAfter (type_tree l.fn.first) (list_types l.types.items) l.fn.tokens l.rest;
   items : ReadMany NextType (Above 0) l.room l.fn.tokens l.rest;
   measured : l.highest ≡ highest_type (list_types l.types.items);
   low : l.highest ≤ l.room;
@@ -37,7 +37,7 @@ decreases-more_types-loop-after l = length l.rest
 
 abbrev pub invariant-more_named_types-loop-after : goal.invariant-more_named_types-loop-after
 invariant-more_named_types-loop-after l = record {
-  read : NamedTypesBehind l.fn.name (type_tree l.fn.first) (list_named_types l.types.items) l.fn.tokens l.rest;
+  read : NamedTypesAfter l.fn.name (type_tree l.fn.first) (list_named_types l.types.items) l.fn.tokens l.rest;
   items : ReadMany NextNamedType (Above 0) l.room l.fn.tokens l.rest;
   measured : l.highest ≡ highest_named_type (list_named_types l.types.items);
   low : l.highest ≤ l.room;

@@ -1,6 +1,6 @@
 use Rattle.std.proofs.Common.{◌≡◌, drop, map, None}
-use Rattle.slot_placement.specs.Plan.{home_view, plan_view}
-use Rattle.place_checks.specs.inner.Checks as checks
+use Rattle.placement.specs.Plan.{home_view, plan_view}
+use Rattle.placement_checks.specs.inner.Checks as checks
 use Rattle.place_ir.proofs.checking.homes_rise.Given as goal
 
 abbrev pub invariant-loop-h : goal.invariant-loop-h

@@ -1,8 +1,8 @@
 use Rattle.std.proofs.Common.{◌≡◌, false, take}
-use Rattle.slot_placement.specs.Plan.{plan_view}
+use Rattle.placement.specs.Plan.{plan_view}
 use Rattle.ssu_ir.specs.View.{labels_view}
 use Rattle.std.specs.List.{list_any}
-use Rattle.place_checks.specs.inner.Checks as checks
+use Rattle.placement_checks.specs.inner.Checks as checks
 use Rattle.place_ir.proofs.keeps.any_used.Given as goal
 
 abbrev pub invariant-loop-x : goal.invariant-loop-x

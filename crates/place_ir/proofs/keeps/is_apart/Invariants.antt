@@ -1,8 +1,8 @@
 use Rattle.std.proofs.Common.{◌≡◌, true, take, map}
-use Rattle.slot_placement.specs.Plan.{home_view, plan_view}
+use Rattle.placement.specs.Plan.{home_view, plan_view}
 use Rattle.ssu_ir.specs.View.{labels_view}
 use Rattle.std.specs.List.{list_all}
-use Rattle.place_checks.specs.inner.Checks as checks
+use Rattle.placement_checks.specs.inner.Checks as checks
 use Rattle.place_ir.proofs.keeps.is_apart.Given as goal
 
 abbrev pub invariant-loop-h : goal.invariant-loop-h

@@ -1,16 +1,16 @@
 use Rattle.std.proofs.Common.{◌≡◌, ℕ, ◌≤◌, List}
 use Rattle.std.proofs.lemmas.Result.{IfOk-weaker}
 use Rattle.ssu_ir.specs.View.{labels_view}
-use Rattle.slot_placement.specs.declared.place.Placement.{Placement}
-use Rattle.slot_placement.specs.Costs.{cost}
-use Rattle.slot_placement.specs.Fits.{Fits}
-use Rattle.slot_placement.specs.Plan.{plan_view}
+use Rattle.placement.specs.declared.place.Placement.{Placement}
+use Rattle.placement.specs.Costs.{cost}
+use Rattle.placement.specs.Fits.{Fits}
+use Rattle.placement.specs.Plan.{plan_view}
 use Rattle.zo_model.specs.Program.{vector, costs_of}
 use Rattle.bank_form.specs.Columns.{costs}
 use Rattle.bank_prog.specs.Weighted.{weighted_costs}
 use Rattle.label_weights.specs.ByLabel.{label_cost}
 use Rattle.label_weights.specs.Weighted.{weighted_cost}
-use Rattle.bank_places.specs.ByLabel.{label_price}
+use Rattle.bank_assignment.specs.ByLabel.{label_price}
 use Rattle.reg_assign.proofs.Promised.{IsAssigned, assigned}
 use Rattle.reg_assign.proofs.assigned.assign.Goals as goal
 

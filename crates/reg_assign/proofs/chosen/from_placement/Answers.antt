@@ -1,8 +1,8 @@
 use Rattle.std.proofs.Common.{◌∙◌, map, ap}
 use Rattle.ssu_ir.specs.View.{labels_view}
-use Rattle.slot_placement.specs.Plan.{plan_view}
-use Rattle.bank_places.specs.inner.Chosen.{chosen}
-use Rattle.bank_places.proofs.ChosenVector.{IsVector, vector-long, vector-feasible, vector-costs, vector-weighted}
+use Rattle.placement.specs.Plan.{plan_view}
+use Rattle.bank_assignment.specs.inner.Chosen.{chosen}
+use Rattle.bank_assignment.proofs.ChosenVector.{IsVector, vector-long, vector-feasible, vector-costs, vector-weighted}
 use Rattle.reg_assign.proofs.chosen.from_placement.Goals as goal
 
 pub returns : goal.returns

@@ -3,10 +3,10 @@ use Rattle.std.proofs.lemmas.Result.{IfOk-weaker}
 use Rattle.std.specs.declared.vec.Vec.{Vec}
 use Rattle.std.specs.declared.alloc.Global.{Global}
 use Rattle.ssu_ir.specs.View.{labels_view}
-use Rattle.slot_placement.specs.Plan.{plan_view}
-use Rattle.bank_places.specs.inner.Chosen.{chosen}
-use Rattle.bank_places.specs.inner.PlanTables.{told}
-use Rattle.bank_places.proofs.ChosenVector.{all-told}
+use Rattle.placement.specs.Plan.{plan_view}
+use Rattle.bank_assignment.specs.inner.Chosen.{chosen}
+use Rattle.bank_assignment.specs.inner.PlanTables.{told}
+use Rattle.bank_assignment.proofs.ChosenVector.{all-told}
 use Rattle.reg_assign.proofs.chosen.on_of.Goals as goal
 
 pub returns : goal.returns

@@ -1,9 +1,9 @@
 use Rattle.std.proofs.Common.{List, ◌++◌, ap, map, ◌∙◌}
-use Rattle.slot_placement.specs.declared.place.Place.{Place}
+use Rattle.placement.specs.declared.place.Place.{Place}
 use Rattle.bank_form.specs.declared.column.Bank.TheVariants.{A}
 use Rattle.bank_form.specs.inner.Form.{use_view}
-use Rattle.bank_places.specs.inner.ReadOff.{fill_at}
-use Rattle.reg_assign.specs.inner.Given.{labels_in, says_in, numbers_in}
+use Rattle.bank_assignment.specs.inner.ReadOff.{fill_at}
+use Rattle.reg_assign.specs.inner.AssignmentInputs.{labels_in, says_in, numbers_in}
 use Rattle.reg_assign.proofs.Placed.{copies-made}
 use Rattle.reg_assign.proofs.homes.copies_of.Goals as goal
 

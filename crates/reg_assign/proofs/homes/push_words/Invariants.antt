@@ -1,7 +1,7 @@
 use Rattle.std.proofs.Common.{◌≡◌, ◌++◌, map, drop}
 use Rattle.std.specs.List.{flat_map}
 use Rattle.bank_form.specs.inner.Form.{use_view}
-use Rattle.bank_places.specs.inner.Reading.{says, early_word}
+use Rattle.bank_assignment.specs.inner.Reading.{says, early_word}
 use Rattle.reg_assign.proofs.homes.push_words.Given as goal
 
 abbrev pub invariant-loop-u : goal.invariant-loop-u

@@ -1,6 +1,6 @@
 use Rattle.std.proofs.Common.{◌≡◌, map, drop}
 use Rattle.bank_form.specs.inner.Form.{use_view}
-use Rattle.bank_places.specs.inner.PlanTables.{stays_told}
+use Rattle.bank_assignment.specs.inner.PlanTables.{stays_told}
 use Rattle.reg_assign.proofs.plan_columns.stays.Given as goal
 
 abbrev pub invariant-loop-u : goal.invariant-loop-u

@@ -1,8 +1,8 @@
 use Rattle.std.proofs.Common.{◌≡◌, ◌++◌, map, drop}
 use Rattle.std.specs.List.{flat_map}
-use Rattle.bank_form.specs.inner.Form.{stop_view}
-use Rattle.bank_places.specs.inner.Reading.{says, part_pass}
+use Rattle.bank_form.specs.inner.Form.{summary_view}
+use Rattle.bank_assignment.specs.inner.Reading.{says, part_pass}
 use Rattle.reg_assign.proofs.serves.passes_of.Given as goal
 
-abbrev pub invariant-loop-stop : goal.invariant-loop-stop
-invariant-loop-stop l = l.passes.items ++ flat_map (part_pass (says l.r)) (map stop_view (drop l.stop-index l.stops)) ≡ flat_map (part_pass (says l.r)) (map stop_view l.stops)
+abbrev pub invariant-loop-summary : goal.invariant-loop-summary
+invariant-loop-summary l = l.passes.items ++ flat_map (part_pass (says l.r)) (map summary_view (drop l.summary-index l.summaries)) ≡ flat_map (part_pass (says l.r)) (map summary_view l.summaries)

@@ -23,7 +23,7 @@ walk-smaller c =
 
 pub walk-preserved : goal.walk-preserved
 walk-preserved c =
-    let h = sum_step node_size tree_size size-is_sum _ _ _ c.push_kids.new.work.items _ _ _ _ c.in-Some.ensures.items c.node-n.ensures c.in_ok-push_kids.ensures c.walk.invariant.todo c.walk.invariant.sum in record {
+    let h = sum_step node_size tree_size size-is_sum _ _ _ c.push_successors.new.work.items _ _ _ _ c.in-Some.ensures.items c.node-n.ensures c.in_ok-push_successors.ensures c.walk.invariant.todo c.walk.invariant.sum in record {
       todo = h.todo;
       sum = ap (λ k. k + sum_trees tree_size (bare_all h.todo.left)) (c.in_ok-total-2.ensures ∙ ap (λ k. c.walk.total + k) c.in_ok-node_size.ensures) ∙ h.sum;
     }

@@ -4,7 +4,7 @@ use Rattle.ssu_ir.specs.View.{labels_view}
 use Rattle.ssu_ir.specs.inner.Running.{env_of}
 use Rattle.ssu_ir.proofs.Unders.{present_tree}
 use Rattle.ssu_ir.proofs.Runs.{made-none, made-few}
-use Rattle.ssu_ir.proofs.Walking.{came-first, walk-on, walk-left, fits-at, room-same, few-behind}
+use Rattle.ssu_ir.proofs.Walking.{came-first, walk-on, walk-left, fits-at, room-same, few-successors}
 use Rattle.ssu_ir.proofs.run.leave.Goals as goal
 
 pub walk-init : goal.walk-init
@@ -45,7 +45,7 @@ returns-in-Left-clause-left c =
 
 pub returns-in-Left-clause-counted : goal.returns-in-Left-clause-counted
 returns-in-Left-clause-counted c =
-    few-behind c.args.s.now.nodes.slots c.walk.id.0 c.node.result.now c.args.log.now.count c.walk.log.count c.step.new.log.count c.walk.invariant.walking.has c.node.ensures c.walk.invariant.walking.once c.walk.invariant.walking.made c.step.ensures.counted c.step.ensures.addresses
+    few-successors c.args.s.now.nodes.slots c.walk.id.0 c.node.result.now c.args.log.now.count c.walk.log.count c.step.new.log.count c.walk.invariant.walking.has c.node.ensures c.walk.invariant.walking.once c.walk.invariant.walking.made c.step.ensures.counted c.step.ensures.addresses
 
 pub returns-in-Left-clause-room : goal.returns-in-Left-clause-room
 returns-in-Left-clause-room c = c.step.ensures.room ∙ c.walk.invariant.room

@@ -38,7 +38,7 @@ pub is_kept-requires : goal.is_kept-requires
 is_kept-requires t c = let o = one_kid _ _ _ _ c.requires.tree c.node-n.ensures c.in-One.ensures in (omega (arith, c.decreases, o.kid.lighter), (c.requires.all, (c.requires.body, o.kid.has)))
 
 pub returns-else-not-defs_kept : goal.returns-else-not-defs_kept
-returns-else-not-defs_kept t c = two_passing _ _ _ _ _ (sym c.operands_new.ensures ∙ c.if-not-operands_new.false) (sym c.defs_kept.ensures ∙ c.if-not-defs_kept.false) (c.is_kept.ensures ∙ ap (λ l. is_kept (labels_view c.args.s.now) (is_bound c.args.l.now.params.items (tree_at c.args.s.now.nodes.slots c.args.l.now.body.0)) l (tree_at c.args.s.now.nodes.slots c.in-One.k.0)) c.fresh_behind.ensures) (kept_one _ _ _ _ _ _ _ c.requires.tree c.node-n.ensures c.in-One.ensures (sym c.node_alone.ensures ∙ c.if-not-node_alone.false))
+returns-else-not-defs_kept t c = two_passing _ _ _ _ _ (sym c.operands_new.ensures ∙ c.if-not-operands_new.false) (sym c.defs_kept.ensures ∙ c.if-not-defs_kept.false) (c.is_kept.ensures ∙ ap (λ l. is_kept (labels_view c.args.s.now) (is_bound c.args.l.now.params.items (tree_at c.args.s.now.nodes.slots c.args.l.now.body.0)) l (tree_at c.args.s.now.nodes.slots c.in-One.k.0)) c.fresh_below.ensures) (kept_one _ _ _ _ _ _ _ c.requires.tree c.node-n.ensures c.in-One.ensures (sym c.node_alone.ensures ∙ c.if-not-node_alone.false))
 
 pub operands_new-requires-in-Two : goal.operands_new-requires-in-Two
 operands_new-requires-in-Two t c = (two_kids _ _ _ _ _ c.requires.tree c.node-n.ensures c.in-Two.ensures).first.has

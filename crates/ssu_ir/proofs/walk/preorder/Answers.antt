@@ -17,12 +17,12 @@ node-requires c = present _ _ _ _ c.in-Some.ensures.items c.walk.invariant.todo
 
 pub walk-smaller : goal.walk-smaller
 walk-smaller c =
-    let h = order_step _ _ _ c.push_kids.new.work.items _ _ _ _ _ c.in-Some.ensures.items c.node.ensures c.in_ok-push_kids.ensures c.in_ok-push.ensures.items c.walk.invariant.todo c.walk.invariant.so_far in
+    let h = order_step _ _ _ c.push_successors.new.work.items _ _ _ _ _ c.in-Some.ensures.items c.node.ensures c.in_ok-push_successors.ensures c.in_ok-push.ensures.items c.walk.invariant.todo c.walk.invariant.so_far in
     order_smaller _ _ _ _ _ c.in_ok-push.ensures.items h.so_far
 
 pub walk-preserved : goal.walk-preserved
 walk-preserved c =
-    let h = order_step _ _ _ c.push_kids.new.work.items _ _ _ _ _ c.in-Some.ensures.items c.node.ensures c.in_ok-push_kids.ensures c.in_ok-push.ensures.items c.walk.invariant.todo c.walk.invariant.so_far in record {
+    let h = order_step _ _ _ c.push_successors.new.work.items _ _ _ _ _ c.in-Some.ensures.items c.node.ensures c.in_ok-push_successors.ensures c.in_ok-push.ensures.items c.walk.invariant.todo c.walk.invariant.so_far in record {
       todo = h.todo;
       so_far = h.so_far;
     }

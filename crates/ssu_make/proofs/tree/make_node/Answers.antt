@@ -1,12 +1,12 @@
 use Rattle.std.proofs.Common.{ap}
 use Rattle.flow_ir.specs.View.{tree_view}
-use Rattle.ssu_make.specs.inner.Making.{counted, kids}
+use Rattle.ssu_make.specs.inner.Making.{counted, successor_list}
 use Rattle.ssu_make.proofs.Stack.{can-none, can-one, can-two, as-read, as-write, with-three, over-let, over-read, over-write, over-if}
 use Rattle.ssu_make.proofs.tree.make_node.Goals as goal
 
 pub make_let-requires : goal.make_let-requires
 make_let-requires c =
-    can-one (counted c.args.bases.now) (tree_view c.args.t.now) _ c.args.build.now c.args.fresh.now c.args.parts.now.items c.take_part-rest.new.parts.items c.take_part-rest.result c.requires (ap (λ t. kids (tree_view t)) c.in-Let.is) c.take_part-rest.ensures
+    can-one (counted c.args.bases.now) (tree_view c.args.t.now) _ c.args.build.now c.args.fresh.now c.args.parts.now.items c.take_part-rest.new.parts.items c.take_part-rest.result c.requires (ap (λ t. successor_list (tree_view t)) c.in-Let.is) c.take_part-rest.ensures
 
 pub returns-in-Let : goal.returns-in-Let
 returns-in-Let c =
@@ -17,7 +17,7 @@ returns-in-Let c =
 
 pub make_read-requires : goal.make_read-requires
 make_read-requires c =
-    can-one (counted c.args.bases.now) (tree_view c.args.t.now) _ c.args.build.now c.args.fresh.now c.args.parts.now.items c.take_part-rest-in-Read.new.parts.items c.take_part-rest-in-Read.result c.requires (ap (λ t. kids (tree_view t)) c.in-Read.is) c.take_part-rest-in-Read.ensures
+    can-one (counted c.args.bases.now) (tree_view c.args.t.now) _ c.args.build.now c.args.fresh.now c.args.parts.now.items c.take_part-rest-in-Read.new.parts.items c.take_part-rest-in-Read.result c.requires (ap (λ t. successor_list (tree_view t)) c.in-Read.is) c.take_part-rest-in-Read.ensures
 
 pub returns-in-Read : goal.returns-in-Read
 returns-in-Read c =
@@ -28,7 +28,7 @@ returns-in-Read c =
 
 pub make_write-requires : goal.make_write-requires
 make_write-requires c =
-    can-one (counted c.args.bases.now) (tree_view c.args.t.now) _ c.args.build.now c.args.fresh.now c.args.parts.now.items c.take_part-rest-in-Write.new.parts.items c.take_part-rest-in-Write.result c.requires (ap (λ t. kids (tree_view t)) c.in-Write.is) c.take_part-rest-in-Write.ensures
+    can-one (counted c.args.bases.now) (tree_view c.args.t.now) _ c.args.build.now c.args.fresh.now c.args.parts.now.items c.take_part-rest-in-Write.new.parts.items c.take_part-rest-in-Write.result c.requires (ap (λ t. successor_list (tree_view t)) c.in-Write.is) c.take_part-rest-in-Write.ensures
 
 pub returns-in-Write : goal.returns-in-Write
 returns-in-Write c =
@@ -40,7 +40,7 @@ returns-in-Write c =
 pub make_if-requires : goal.make_if-requires
 make_if-requires c =
     can-two (counted c.args.bases.now) (tree_view c.args.t.now) _ _ c.args.build.now c.args.fresh.now c.args.parts.now.items c.take_part-first.new.parts.items c.take_part-second.new.parts.items c.take_part-first.result c.take_part-second.result
-    c.requires (ap (λ t. kids (tree_view t)) c.in-If.is) c.take_part-first.ensures c.take_part-second.ensures
+    c.requires (ap (λ t. successor_list (tree_view t)) c.in-If.is) c.take_part-first.ensures c.take_part-second.ensures
 
 pub returns-in-If : goal.returns-in-If
 returns-in-If c =

@@ -1,10 +1,10 @@
 use Rattle.std.proofs.Common.{◌≡◌, List, ◌+◌, arith, subst, length, ◌∙◌, refl}
 use Rattle.std.proofs.lemmas.Bool.{false≢true}
 use lib.ListN.{length-map}
-use Rattle.asm_items.specs.Items.{count}
+use Rattle.uc_asm.specs.Items.{count}
 use Rattle.uc_asm.specs.Text.{IsSyntaxError}
-use Rattle.asm_items.specs.declared.item.Item.{Item}
-use Rattle.asm_items.specs.inner.Seen.{seen, all_seen}
+use Rattle.uc_asm.specs.declared.item.Item.{Item}
+use Rattle.uc_asm.specs.inner.Seen.{seen, all_seen}
 use Rattle.uc_asm.proofs.TextLemmas.{line-wrong, has-seen-more, seen-short}
 use Rattle.uc_asm.proofs.assembler.read_text.Goals as goal
 

@@ -1,5 +1,5 @@
 use Rattle.uc_asm.specs.inner.Reading.{HasItems}
-use Rattle.asm_items.specs.inner.Seen.{all_seen}
+use Rattle.uc_asm.specs.inner.Seen.{all_seen}
 use Rattle.std.proofs.Common.{length}
 use Rattle.uc_asm.proofs.assembler.read_text.Given as goal
 

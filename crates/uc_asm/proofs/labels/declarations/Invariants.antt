@@ -1,6 +1,6 @@
 use Rattle.std.proofs.Common.{◌≡◌, ◌≤◌, ℕ, List, drop}
-use Rattle.asm_items.specs.inner.First.{first_declared, noted, or_else}
-use Rattle.asm_items.specs.inner.Seen.{all_seen}
+use Rattle.uc_asm.specs.inner.First.{first_declared, noted, or_else}
+use Rattle.uc_asm.specs.inner.Seen.{all_seen}
 use Rattle.uc_asm.proofs.labels.declarations.Given as goal
 
 -- what is found so far, or else what the rest declares, is the whole

@@ -3,8 +3,8 @@ use Rattle.std.specs.Prelude.{not}
 use Rattle.std.specs.Cmp.Lexicographic.{pointwise}
 use Rattle.std.specs.Map.{lookup}
 use Rattle.indexmap.proofs.CallerLemmas.{insert_entry-new}
-use Rattle.asm_items.specs.declared.given.Declared.{Declared}
-use Rattle.asm_items.proofs.LabelLemmas.{lookup-more, copied-none}
+use Rattle.uc_asm.specs.declared.given.Declared.{Declared}
+use Rattle.uc_asm.proofs.LabelLemmas.{lookup-more, copied-none}
 use Rattle.uc_asm.proofs.labels.declare.Goals as goal
 
 pub returns-in_ok-insert : goal.returns-in_ok-insert

@@ -1,6 +1,6 @@
 use Rattle.std.proofs.Common.{◌≡◌, ◌≢◌, sym, ◌∙◌, ap, List, ℕ, ◌∷◌, codes, arith}
 use Rattle.std.specs.Cmp.Lexicographic.{bytes_decides}
-use Rattle.asm_parts.specs.Words.{words}
+use Rattle.uc_asm.specs.Words.{words}
 use Rattle.uc_asm.proofs.LineLemmas.{from_parts}
 use Rattle.uc_asm.proofs.ItemLemmas.{branch-some, branch-none, other-none}
 use Rattle.uc_asm.proofs.line.item_of.Goals as goal

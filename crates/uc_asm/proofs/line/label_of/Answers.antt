@@ -1,6 +1,6 @@
 use Rattle.std.proofs.Common.{sym, ◌∙◌, subst}
 use Rattle.std.proofs.lemmas.Bool.{false≢true}
-use Rattle.asm_items.specs.Items.{IsName}
+use Rattle.uc_asm.specs.Items.{IsName}
 use Rattle.uc_asm.proofs.LineLemmas.{no-label, other-label, empty-test}
 use Rattle.uc_asm.proofs.line.label_of.Goals as goal
 

@@ -1,6 +1,6 @@
 use Rattle.std.proofs.Common.{◌≡◌, ◌++◌, map, drop}
 use Rattle.line_text.specs.Line.{text_of}
-use Rattle.asm_items.specs.Items.{instruction_line}
+use Rattle.uc_asm.specs.Items.{instruction_line}
 use Rattle.uc_asm.specs.Text.{listing}
 use Rattle.uc_asm.proofs.ListingLemmas.{FitBelow}
 use Rattle.uc_asm.proofs.listing.print.Given as goal

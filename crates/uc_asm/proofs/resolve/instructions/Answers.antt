@@ -1,9 +1,9 @@
 use Rattle.std.proofs.Common.{◌+◌, suc, List, take, drop, sym, ap, subst, ◌∙◌, arith, Vec, Global}
 use Rattle.uc_isa.specs.declared.instruction.Instr.{Instr}
-use Rattle.asm_items.specs.inner.Gives.{Gives}
-use Rattle.asm_items.specs.inner.Seen.{seen, all_seen}
-use Rattle.asm_items.specs.declared.given.Resolved.{Resolved}
-use Rattle.asm_items.proofs.StandLemmas.{stands-at, length-front}
+use Rattle.uc_asm.specs.inner.Gives.{Gives}
+use Rattle.uc_asm.specs.inner.Seen.{seen, all_seen}
+use Rattle.uc_asm.specs.declared.given.Resolved.{Resolved}
+use Rattle.uc_asm.proofs.StandLemmas.{stands-at, length-front}
 use Rattle.uc_asm.proofs.MeaningLemmas.{ResolvedBelow, misnamed-here, below-nothing, below-more}
 use Rattle.uc_asm.proofs.resolve.instructions.Goals as goal
 use Rattle.uc_asm.proofs.resolve.instructions.Goals.{in-Instruction+in_ok-push-in-Instruction, in-Nothing}

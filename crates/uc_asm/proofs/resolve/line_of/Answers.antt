@@ -1,8 +1,8 @@
 use Rattle.std.proofs.Common.{[], arith, sym, ◌∙◌}
 use Rattle.std.proofs.lemmas.Bool.{false≢true}
-use Rattle.asm_items.specs.inner.Seen.{seen}
+use Rattle.uc_asm.specs.inner.Seen.{seen}
 use Rattle.uc_asm.proofs.MeaningLemmas.{line-found}
-use Rattle.asm_items.proofs.StandLemmas.{count-more-seen, count-label, count-instruction}
+use Rattle.uc_asm.proofs.StandLemmas.{count-more-seen, count-label, count-instruction}
 use Rattle.uc_asm.proofs.resolve.line_of.Goals as goal
 use Rattle.uc_asm.proofs.resolve.line_of.Goals.{then-is_instruction+else-left-eq0, else-is_instruction}
 

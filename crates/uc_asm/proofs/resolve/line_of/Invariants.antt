@@ -1,6 +1,6 @@
 use Rattle.std.proofs.Common.{◌≡◌, ◌+◌, take}
-use Rattle.asm_items.specs.Items.{count}
-use Rattle.asm_items.specs.inner.Seen.{all_seen}
+use Rattle.uc_asm.specs.Items.{count}
+use Rattle.uc_asm.specs.inner.Seen.{all_seen}
 use Rattle.uc_asm.proofs.resolve.line_of.Given as goal
 
 -- the instructions so far and those that are left before the place

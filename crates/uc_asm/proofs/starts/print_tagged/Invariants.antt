@@ -1,6 +1,6 @@
 use Rattle.std.proofs.Common.{◌≡◌, ◌++◌, map, drop}
 use Rattle.line_text.specs.Line.{text_of}
-use Rattle.asm_items.specs.Items.{item_line}
+use Rattle.uc_asm.specs.Items.{item_line}
 use Rattle.uc_asm.specs.Starts.{labelled, tagged_listing}
 use Rattle.uc_asm.proofs.ListingLemmas.{FitBelow}
 use Rattle.uc_asm.proofs.starts.print_tagged.Given as goal

@@ -1,6 +1,6 @@
 use Rattle.std.proofs.Common.{◌≡◌, ◌++◌, map, take}
 use Rattle.line_text.specs.Line.{text_of}
-use Rattle.asm_items.specs.Items.{item_line}
+use Rattle.uc_asm.specs.Items.{item_line}
 use Rattle.uc_asm.specs.Starts.{start_label}
 use Rattle.uc_asm.proofs.starts.push_labels.Given as goal
 

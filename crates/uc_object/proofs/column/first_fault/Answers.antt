@@ -1,7 +1,7 @@
 use Rattle.std.proofs.Common.{◌≡◌, ◌<◌, ◌≤◌, length, get_or, subst, arith, suc, add-zero}
 use Rattle.std.proofs.lemmas.Bool.Decides.{nat_tests}
-use Rattle.object_bytes.specs.Columns.{Allows, IsFault}
-use Rattle.object_bytes.specs.declared.column.Column.TheVariants.{Between}
+use Rattle.uc_object.specs.Columns.{Allows, IsFault}
+use Rattle.uc_object.specs.declared.byte_set.Column.TheVariants.{Between}
 use Rattle.uc_object.proofs.Faults.{fault_here, fault_end, fit_more, fault_more}
 use Rattle.uc_object.proofs.column.first_fault.Goals as goal
 

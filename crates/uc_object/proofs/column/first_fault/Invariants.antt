@@ -1,5 +1,5 @@
 use Rattle.std.proofs.Common.{ℕ, ◌+◌, drop}
-use Rattle.object_bytes.specs.Columns.{Fit, IsFault}
+use Rattle.uc_object.specs.Columns.{Fit, IsFault}
 use Rattle.uc_object.proofs.column.first_fault.Given as goal
 
 -- what holds of the rest holds of the whole

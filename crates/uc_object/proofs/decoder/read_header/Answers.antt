@@ -1,7 +1,7 @@
 use Rattle.std.proofs.Common.{◌≡◌, ℕ, List, rules, arith, subst, ◌<◌, length, get_or}
-use Rattle.object_bytes.specs.Columns.{Fit, IsFault, IsHeaderFault, header_columns}
+use Rattle.uc_object.specs.Columns.{Fit, IsFault, IsHeaderFault, header_columns}
 use Rattle.uc_object.specs.Object.{IsBadPlace}
-use Rattle.object_bytes.specs.declared.column.Column.{Column}
+use Rattle.uc_object.specs.declared.byte_set.Column.{Column}
 use Rattle.uc_object.proofs.Places.{header-bad}
 use Rattle.uc_object.proofs.Faults.{fit-length, fault-within}
 use Rattle.uc_object.proofs.Headers.{fits-header, its-columns}

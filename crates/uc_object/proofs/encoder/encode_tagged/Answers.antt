@@ -3,7 +3,7 @@ use Rattle.std.specs.Int.{to_le_bytes, w32}
 use Rattle.std.specs.List.{All}
 use Rattle.uc_isa.specs.Code.{CodeView, IsCode}
 use Rattle.uc_isa.specs.declared.instruction.Instr.{Instr}
-use Rattle.object_bytes.specs.Rows.{IsRow}
+use Rattle.uc_object.specs.Rows.{IsRow}
 use Rattle.uc_object.specs.Object.{IsException, IsNumber, header_of}
 use Rattle.uc_object.specs.inner.Parts.{Adds}
 use Rattle.uc_object.proofs.Encoding.{written}

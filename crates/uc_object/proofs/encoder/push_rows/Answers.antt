@@ -1,6 +1,6 @@
 use Rattle.std.proofs.Common.{◌≡◌, ◌+◌, [], ◌∷◌, ◌++◌, sym, subst, take, arith}
 use Rattle.std.proofs.lemmas.Grind.{common_steps}
-use Rattle.object_bytes.specs.Rows.{IsRow}
+use Rattle.uc_object.specs.Rows.{IsRow}
 use Rattle.uc_object.specs.inner.Parts.{Adds}
 use Rattle.uc_object.proofs.Together.{adds-none, adds-more}
 use Rattle.uc_object.proofs.encoder.push_rows.Goals as goal

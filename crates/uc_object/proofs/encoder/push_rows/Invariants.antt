@@ -1,5 +1,5 @@
 use Rattle.std.proofs.Common.{take}
-use Rattle.object_bytes.specs.Rows.{IsRow}
+use Rattle.uc_object.specs.Rows.{IsRow}
 use Rattle.uc_object.specs.inner.Parts.{Adds}
 use Rattle.uc_object.proofs.encoder.push_rows.Given as goal
 

@@ -1,6 +1,6 @@
 use Rattle.std.proofs.Common.{◌≡◌, ℕ, ◌+◌, ◌≤◌, List, length, take, min, get_or, subst, sym, ap, ◌∙◌}
-use Rattle.object_bytes.specs.declared.column.Column.{Column}
-use Rattle.object_bytes.specs.Columns.{Fit, IsFault, exception_columns}
+use Rattle.uc_object.specs.declared.byte_set.Column.{Column}
+use Rattle.uc_object.specs.Columns.{Fit, IsFault, exception_columns}
 use Rattle.uc_object.specs.Object.{IsException}
 use Rattle.uc_object.specs.inner.Parts.{Spells}
 use Rattle.uc_object.proofs.Exceptions.{columns-of, size-fits}

@@ -1,6 +1,6 @@
 use Rattle.std.proofs.Common.{◌≡◌, ◌+◌, ◌≤◌, length, take, drop, arith, length-drop, subst, sym}
 use Rattle.std.proofs.lemmas.List.{take_rest}
-use Rattle.object_bytes.specs.Columns.{IsExceptionFault}
+use Rattle.uc_object.specs.Columns.{IsExceptionFault}
 use Rattle.uc_object.specs.Object.{IsException}
 use Rattle.uc_object.specs.inner.Parts.{Has}
 use Rattle.uc_object.proofs.Exceptions.{exception-fault, exception-code, least_exception, least_exception-is, short-name}

@@ -1,7 +1,7 @@
 use Rattle.std.proofs.Common.{◌≡◌, ◌+◌, ◌≤◌, length, take, drop, arith, length-drop, subst, sym}
 use Rattle.std.proofs.lemmas.List.{take_rest}
-use Rattle.object_bytes.specs.Columns.{IsRowFault}
-use Rattle.object_bytes.specs.Rows.{IsRow}
+use Rattle.uc_object.specs.Columns.{IsRowFault}
+use Rattle.uc_object.specs.Rows.{IsRow}
 use Rattle.uc_object.specs.inner.Parts.{Has}
 use Rattle.uc_object.proofs.RowFaults.{row-fault}
 use Rattle.uc_object.proofs.Rows.{row-code, zero_instruction, zeros, zeros-row}

@@ -1,5 +1,5 @@
 use Rattle.std.proofs.Common.{◌≤◌, length, drop}
-use Rattle.object_bytes.specs.Rows.{IsRow}
+use Rattle.uc_object.specs.Rows.{IsRow}
 use Rattle.uc_object.specs.inner.Parts.{Has}
 use Rattle.uc_object.proofs.parts.instructions.Given as goal
 

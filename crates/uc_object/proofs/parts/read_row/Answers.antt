@@ -1,5 +1,5 @@
 use Rattle.std.proofs.Common.{subst}
-use Rattle.object_bytes.specs.Columns.{Fit}
+use Rattle.uc_object.specs.Columns.{Fit}
 use Rattle.uc_object.proofs.Faults.{fit-eight, row-columns}
 use Rattle.uc_object.proofs.parts.read_row.Goals as goal
 

@@ -1,6 +1,6 @@
 use Rattle.std.proofs.Common.{◌≡◌, map, slice_index_or, ap, ◌∙◌}
 use Rattle.ssu_ir.specs.View.{labels_view}
-use Rattle.slot_placement.specs.Plan.{plan_view}
+use Rattle.placement.specs.Plan.{plan_view}
 use Rattle.ucode_emit.specs.inner.Walk.{moves_of}
 use Rattle.ucode_emit.proofs.Drafting.{drafted_all, spots_many}
 use Rattle.ucode_emit.proofs.drafted.draft_of.Goals as goal
@@ -13,5 +13,5 @@ returns c =
     let points = c.in_ok-points.points.entries.items in
     let begins : c.in_ok-starts.starts.items ≡ map (λ k. slice_index_or places k 0) points =
     c.in_ok-starts.ensures ∙ (ap (λ ps. map (λ k. slice_index_or ps k 0) c.deref.result.now) c.deref-2.ensures.value ∙ ap (map (λ k. slice_index_or places k 0)) c.deref.ensures.value) in
-    drafted_all labels p (moves_of c.in_ok-points.points.sequences.items) _ _ places points c.in_ok-starts.starts.items c.in_ok-points.ensures.sequences (spots_many c.args.s.now c.in_ok-points.points.spots.items c.in_ok-points.ensures.spots)
+    drafted_all labels p (moves_of c.in_ok-points.points.sequences.items) _ _ places points c.in_ok-starts.starts.items c.in_ok-points.ensures.sequences (spots_many c.args.s.now c.in_ok-points.points.point_ids.items c.in_ok-points.ensures.point_ids)
     c.in_ok-points.ensures.entries begins c.in_ok-places.ensures

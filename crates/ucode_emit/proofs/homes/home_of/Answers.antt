@@ -1,6 +1,6 @@
 use Rattle.std.proofs.Common.{rules, sym, ap, ◌∙◌}
 use Rattle.std.proofs.lemmas.List.Sorted.{answers_always}
-use Rattle.slot_placement.specs.Plan.{home_view}
+use Rattle.placement.specs.Plan.{home_view}
 use Rattle.ucode_emit.proofs.HomesFound.{found_at, found_nowhere}
 use Rattle.ucode_emit.proofs.homes.home_of.Goals as goal
 

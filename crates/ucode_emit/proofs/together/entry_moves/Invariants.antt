@@ -1,5 +1,5 @@
 use Rattle.std.proofs.Common.{◌≡◌, take}
-use Rattle.slot_placement.specs.Plan.{plan_view}
+use Rattle.placement.specs.Plan.{plan_view}
 use Rattle.ucode_emit.specs.inner.Pieces as pieces
 use Rattle.ucode_emit.proofs.together.entry_moves.Given as goal
 

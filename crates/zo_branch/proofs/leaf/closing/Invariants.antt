@@ -1,5 +1,5 @@
 use Rattle.zo_model.specs.Program.{columns}
-use Rattle.zo_leaf.specs.inner.Leaf.{IsClear}
+use Rattle.zo_proof.specs.inner.Leaf.{IsClear}
 use Rattle.zo_branch.proofs.leaf.closing.Given as goal
 
 abbrev pub invariant-loop-denominator : goal.invariant-loop-denominator

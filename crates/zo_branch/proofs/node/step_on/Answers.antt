@@ -3,9 +3,9 @@ use Rattle.std.specs.Prelude.{IfSome}
 use Rattle.std.proofs.lemmas.Bool.{false≢true}
 use Rattle.zo_model.specs.Program.{cost_of, costs_of}
 use Rattle.zo_model.specs.declared.program.ZeroOne.{ZeroOne}
-use Rattle.zo_leaf.specs.Fixing.{ones}
-use Rattle.zo_leaf.specs.inner.Path.{current}
-use Rattle.zo_leaf.specs.Searched.{IsInReach, IsMet}
+use Rattle.zo_proof.specs.Fixing.{ones}
+use Rattle.zo_proof.specs.inner.Path.{current}
+use Rattle.zo_proof.specs.Searched.{IsInReach, IsMet}
 use Rattle.zo_state.specs.Sums.{SumsOf}
 use Rattle.zo_state.specs.inner.Better.{CostsAsMuch}
 use Rattle.zo_branch.proofs.Close.{clash_closes, clash_node, plain_closes, plain_node}

@@ -3,10 +3,10 @@ use Rattle.std.specs.Prelude.{IfSome}
 use Rattle.std.proofs.lemmas.Option.{slice_get_within}
 use Rattle.std.proofs.lemmas.Bool.{false≢true}
 use Rattle.zo_model.specs.Program.{cost_of, costs_of, columns}
-use Rattle.zo_leaf.specs.Certificate.{Closes}
-use Rattle.zo_leaf.specs.Fixing.{ones}
-use Rattle.zo_leaf.specs.inner.Path.{current}
-use Rattle.zo_leaf.specs.Node.{IsNode}
+use Rattle.zo_proof.specs.Certificate.{ClosesLeaf}
+use Rattle.zo_proof.specs.Fixing.{ones}
+use Rattle.zo_proof.specs.inner.Path.{current}
+use Rattle.zo_proof.specs.Node.{IsNode}
 use Rattle.zo_state.specs.Pick.{HasFree}
 use Rattle.zo_branch.specs.Nodes.{CostsLess}
 use Rattle.zo_state.specs.inner.Better.{CostsAsMuch}
@@ -26,7 +26,7 @@ returns-then-costs_as_much-clause-steps g c =
 pub returns-in-Some-clause-steps : goal.returns-in-Some-clause-steps
 returns-in-Some-clause-steps g c =
     closed_steps c.args.z.now c.args.best.now.start _ c.args.best.now.claim c.in-Some.node c.args.path.now c.put-in-Some.new.path c.args.nodes.now.items c.put-in-Some.new.nodes.items c.args.left c.in_ok-put-2.ensures c.requires.more
-    (subst (λ o. IfSome o (λ n. Closes c.args.z.now c.args.best.now.claim (current c.args.path.now.fixings) n)) c.in-Some.is c.in_ok-node.ensures.closes)
+    (subst (λ o. IfSome o (λ n. ClosesLeaf c.args.z.now c.args.best.now.claim (current c.args.path.now.fixings) n)) c.in-Some.is c.in_ok-node.ensures.closes)
     (subst (λ o. IfSome o IsNode) c.in-Some.is c.in_ok-node.ensures.within)
     (no_better_open c.args.z.now c.args.best.now.claim (current c.args.path.now.fixings) c.in-Some.node c.requires.open_.not_met)
 

@@ -1,6 +1,6 @@
 use Rattle.std.proofs.Common.{arith}
-use Rattle.zo_leaf.specs.Certificate.{unfixed}
-use Rattle.zo_leaf.specs.declared.cert.Claim.TheVariants.{Least}
+use Rattle.zo_proof.specs.Certificate.{unfixed}
+use Rattle.zo_proof.specs.declared.cert.Claim.TheVariants.{Least}
 use Rattle.zo_branch.proofs.Close.{plain_closes}
 use Rattle.zo_solve.proofs.bound.root_bound.Goals as goal
 

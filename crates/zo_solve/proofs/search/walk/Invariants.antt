@@ -1,7 +1,7 @@
 use Rattle.std.proofs.Common.{◌≡◌, ◌+◌, ◌*◌, length}
 use Rattle.zo_model.specs.Program.{columns}
-use Rattle.zo_leaf.specs.Certificate.{branches, HasLeft}
-use Rattle.zo_leaf.specs.inner.Leaf.{IsClear}
+use Rattle.zo_proof.specs.Certificate.{branches, HasLeft}
+use Rattle.zo_proof.specs.inner.Leaf.{IsClear}
 use Rattle.zo_state.specs.Pick.{Answers}
 use Rattle.zo_state.specs.inner.Better.{IsBest}
 use Rattle.zo_solve.specs.inner.Search.{LeftsLast}

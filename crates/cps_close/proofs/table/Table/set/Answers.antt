@@ -5,4 +5,4 @@ use Rattle.cps_close.proofs.Steps.{relisted}
 use Rattle.cps_close.proofs.table.Table.set.Goals as goal
 
 pub returns-then-i-len : goal.returns-then-i-len
-returns-then-i-len c = ap (relisted (table_view c.args.self.now)) (map-set (λ (v : Vec ℕ Global). v.items) c.args.self.now.lists.items c.args.i c.args.wanted)
+returns-then-i-len c = ap (relisted (table_view c.args.self.now)) (map-set (λ (v : Vec ℕ Global). v.items) c.args.self.now.lists.items c.args.i c.args.needed)

@@ -1,5 +1,5 @@
 use Rattle.std.proofs.Common.{◌∙◌, sym, map, arith}
-use Rattle.nv_meaning.proofs.Places.{place-below}
+use Rattle.nv_meaning.proofs.NameIndices.{place-below}
 use Rattle.nv_meaning.proofs.table.Table.exception.Goals as goal
 
 pub exception_at-requires : goal.exception_at-requires

@@ -1,6 +1,6 @@
 use Rattle.std.proofs.Common.{◌≡◌, ◌∙◌, ◌+◌, ap, sym, Some, arith}
 use Rattle.nv_ast.specs.ProgramView.{fun_tree}
-use Rattle.nv_meaning.proofs.Places.{place-below, function-none, function-found}
+use Rattle.nv_meaning.proofs.NameIndices.{place-below, function-none, function-found}
 use Rattle.nv_meaning.proofs.table.Table.function.Goals as goal
 
 pub returns-in_err-place : goal.returns-in_err-place

@@ -1,7 +1,7 @@
 use Rattle.std.proofs.Common.{◌∙◌, ap, sym, refl, take, arith}
 use Rattle.nv_ast.specs.Outline.{outline}
 use Rattle.nv_meaning.specs.inner.TableView.{declared_in}
-use Rattle.nv_meaning.proofs.Places.{place-below, layout-none, layout-beyond, layout-found}
+use Rattle.nv_meaning.proofs.NameIndices.{place-below, layout-none, layout-beyond, layout-found}
 use Rattle.nv_meaning.proofs.table.Table.layout.Goals as goal
 
 pub returns-in_err-place-clause-outline : goal.returns-in_err-place-clause-outline

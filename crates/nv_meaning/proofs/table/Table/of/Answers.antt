@@ -3,7 +3,7 @@ use Rattle.nv_ast.specs.Exceptions.{exceptions}
 use Rattle.nv_ast.specs.ProgramView.{decl_tree, program_of}
 use Rattle.nv_meaning.specs.inner.TableView.{declared_in}
 use Rattle.nv_meaning.specs.inner.Tables.{functions_in, layouts_in, exceptions_in}
-use Rattle.nv_meaning.proofs.Places.{declared-is}
+use Rattle.nv_meaning.proofs.NameIndices.{declared-is}
 use Rattle.nv_meaning.proofs.table.Table.of.Goals as goal
 
 pub placed-requires : goal.placed-requires

@@ -1,6 +1,6 @@
 use Rattle.std.proofs.Common.{◌≡◌, ◌+◌, [], get_or, drop, arith}
 use Rattle.std.proofs.lemmas.List.{drop_more, drop_all}
-use Rattle.type_table.proofs.Growing.{Grows-trans, grows_after}
+use Rattle.type_table.proofs.Growing.{Extends-trans, grows_after}
 use Rattle.type_table.proofs.RowMaking.{grown_step, grown_end}
 use Rattle.type_table.proofs.table.Table.extended.Goals as goal
 
@@ -12,7 +12,7 @@ loop-next-preserved c =
     let xs = c.args.behind.now in
     let i = c.loop-next.next-index in
     record {
-      grows = Grows-trans a s b c.loop-next.invariant.grows c.in_ok-carry.ensures.grows;
+      grows = Extends-trans a s b c.loop-next.invariant.grows c.in_ok-carry.ensures.grows;
       grown = grown_step a s b c.args.rows.items xs c.loop-next.rows.items c.carry.new.rows.items (drop i xs) (drop (i + 1) xs) c.args.last c.loop-next.last (get_or xs i 0)
           (drop_more xs i 0 (omega (arith, c.loop-next-test.true))) c.in_ok-carry.ensures.grows c.in_ok-carry.ensures.carried c.loop-next.invariant.grown;
     }

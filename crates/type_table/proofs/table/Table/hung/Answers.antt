@@ -1,6 +1,6 @@
 use Rattle.std.proofs.Common.{◌≡◌, ◌∙◌, [], sym}
 use Rattle.std.proofs.lemmas.List.{nil_from_length}
-use Rattle.type_table.proofs.Growing.{Grows-trans}
+use Rattle.type_table.proofs.Growing.{Extends-trans}
 use Rattle.type_table.proofs.RowMaking.{hung_step, hung_end}
 use Rattle.type_table.proofs.table.Table.hung.Goals as goal
 
@@ -10,7 +10,7 @@ loop-before-preserved c =
     let s = c.loop-before.self in
     let b = c.both.new.self in
     record {
-      grows = Grows-trans a s b c.loop-before.invariant.grows c.in_ok-row.ensures.grows;
+      grows = Extends-trans a s b c.loop-before.invariant.grows c.in_ok-row.ensures.grows;
       comes = hung_step a s b c.args.rows.items c.loop-before.rows.items c.pop.new.self.items c.args.last c.loop-before.row c.in-Some.before c.in_ok-row.row c.in-Some.ensures.items c.in_ok-row.ensures.grows c.in_ok-row.ensures.made c.loop-before.invariant.comes;
     }
 

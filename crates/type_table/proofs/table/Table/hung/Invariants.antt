@@ -1,12 +1,12 @@
 use Rattle.std.proofs.Common.{vec_len}
 use Rattle.type_table.specs.inner.Rows.{hung}
-use Rattle.type_table.specs.inner.Store.{Grows}
+use Rattle.type_table.specs.inner.Store.{Extends}
 use Rattle.type_table.proofs.RowMaking.{ComesTo}
 use Rattle.type_table.proofs.table.Table.hung.Given as goal
 
 abbrev pub invariant-loop-before : goal.invariant-loop-before
 invariant-loop-before l = record {
-  grows : Grows l.initial.self l.self;
+  grows : Extends l.initial.self l.self;
   comes : ComesTo hung l.initial.self l.initial.rows.items l.initial.row l.self l.rows.items l.row;
 }
 

@@ -4,8 +4,8 @@ use Rattle.std.specs.Borrow.{Bor}
 use Rattle.std.specs.Cmp.Lexicographic.{bytes_decides}
 use Rattle.type_table.specs.inner.Cells.{IsTable}
 use Rattle.type_table.specs.inner.Named.{plain_names}
-use Rattle.type_table.specs.inner.Store.{Store, Grows}
-use Rattle.type_table.proofs.Growing.{IsTable-name, Grows-names, Grows-refl}
+use Rattle.type_table.specs.inner.Store.{Store, Extends}
+use Rattle.type_table.proofs.Growing.{IsTable-name, Extends-names, Extends-refl}
 use Rattle.type_table.proofs.Found.{name_at, plain-append, any_name, absent_name}
 use Rattle.type_table.proofs.table.Table.name_number.Goals as goal
 
@@ -34,6 +34,6 @@ pub returns-clause-grows : goal.returns-clause-grows
 returns-clause-grows c =
     let cells = c.self.inside.cells.keys in
     let old = plain_names c.self.inside.names.keys in
-    let P : List (List ℕ) → Type 0 = λ l. Grows (record { names = plain_names c.self.inside.names.keys; cells = c.self.inside.cells.keys }) (record { names = l; cells = c.self.inside.cells.keys }) in
-    subst (λ (s : Store). Grows s (record { names = plain_names c.insert_full.new.self.keys; cells = c.self.inside.cells.keys })) c.self.view_is
-    (insertion P c.self.inside.names.keys c.insert_full.new.self.keys c.args.name _ refl c.in_ok-i.ensures.keys (Grows-refl _) (λ new. Grows-names old (c.args.name.now ∷ []) cells))
+    let P : List (List ℕ) → Type 0 = λ l. Extends (record { names = plain_names c.self.inside.names.keys; cells = c.self.inside.cells.keys }) (record { names = l; cells = c.self.inside.cells.keys }) in
+    subst (λ (s : Store). Extends s (record { names = plain_names c.insert_full.new.self.keys; cells = c.self.inside.cells.keys })) c.self.view_is
+    (insertion P c.self.inside.names.keys c.insert_full.new.self.keys c.args.name _ refl c.in_ok-i.ensures.keys (Extends-refl _) (λ new. Extends-names old (c.args.name.now ∷ []) cells))

@@ -5,8 +5,8 @@ use Rattle.type_table.specs.declared.table.Facts.{Facts}
 use Rattle.type_table.specs.contracts.table.CellPartialEq.TheImpl.{eq-value}
 use Rattle.type_table.specs.inner.Cells.{AreBelow, IsTable, cell_facts}
 use Rattle.type_table.specs.inner.Named.{plain_names}
-use Rattle.type_table.specs.inner.Store.{Store, Grows}
-use Rattle.type_table.proofs.Growing.{get_last, IsTable-push, Grows-cells}
+use Rattle.type_table.specs.inner.Store.{Store, Extends}
+use Rattle.type_table.proofs.Growing.{get_last, IsTable-push, Extends-cells}
 use Rattle.type_table.proofs.Found.{was_ok, found_cell, absent_cell, inserted_cell}
 use Rattle.type_table.proofs.table.Table.number.Goals as goal
 
@@ -39,6 +39,6 @@ returns-clause-grows c =
     let cells = c.self.inside.cells.keys in
     let none : list_any (eq-value.it c.args.cell) c.self.inside.cells.keys ≡ false = sym c.in_default.ensures.found in
     let pushed = inserted_cell cells c.insert.new.self.keys c.args.cell none (was_ok c.insert.result _ (sym c.if-is_err.ensures.value) c.insert.ensures.keys) in
-    subst (λ (s : Store). Grows s (record { names = plain_names c.self.inside.names.keys; cells = c.insert.new.self.keys })) c.self.view_is
-    (subst (λ (l : List Cell). Grows (record { names = plain_names c.self.inside.names.keys; cells = cells }) (record { names = plain_names c.self.inside.names.keys; cells = l })) (sym pushed)
-    (Grows-cells (plain_names c.self.inside.names.keys) cells (c.args.cell ∷ [])))
+    subst (λ (s : Store). Extends s (record { names = plain_names c.self.inside.names.keys; cells = c.insert.new.self.keys })) c.self.view_is
+    (subst (λ (l : List Cell). Extends (record { names = plain_names c.self.inside.names.keys; cells = cells }) (record { names = plain_names c.self.inside.names.keys; cells = l })) (sym pushed)
+    (Extends-cells (plain_names c.self.inside.names.keys) cells (c.args.cell ∷ [])))

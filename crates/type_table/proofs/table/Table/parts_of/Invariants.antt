@@ -1,12 +1,12 @@
 use Rattle.std.proofs.Common.{◌≤◌, length, drop}
 use Rattle.nv_ast.specs.Types.{Tys}
-use Rattle.type_table.specs.inner.Store.{Grows, IsParts, AreTypes}
+use Rattle.type_table.specs.inner.Store.{Extends, IsParts, AreTypes}
 use Rattle.type_table.proofs.table.Table.parts_of.Given as goal
 
 abbrev pub invariant-loop-left : goal.invariant-loop-left
 invariant-loop-left l = record {
   within : l.left ≤ length l.types;
-  grows : Grows l.initial.self l.self;
+  grows : Extends l.initial.self l.self;
   made : (ts : Tys) → AreTypes l.initial.self (drop l.left l.types) ts → IsParts l.self l.list ts;
 }
 

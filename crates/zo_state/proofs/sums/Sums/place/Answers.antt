@@ -1,10 +1,10 @@
 use Rattle.std.proofs.Common.{◌≡◌, ◌<◌, ◌++◌, List, length, take, drop, get_or, set, Some, slice_get, ℤ, pos, refl, sym, ◌∙◌, ap, subst, arith, rules}
 use Rattle.std.proofs.lemmas.Option.{slice_get_read}
 use Rattle.zo_model.specs.Program.{columns}
-use Rattle.zo_leaf.proofs.Paths.{whole_back}
+use Rattle.zo_proof.proofs.Paths.{whole_back}
 use Rattle.zo_state.specs.Sums.{SumsOf}
-use Rattle.zo_sums.specs.inner.Keeping.{KeepsSums, moved}
-use Rattle.zo_sums.proofs.Placed.{column_at, gains, may_move, placed, reach_small, small_shown, sum_small}
+use Rattle.zo_state.specs.inner.Keeping.{KeepsSums, moved}
+use Rattle.zo_state.proofs.Placed.{column_at, gains, may_move, placed, reach_small, small_shown, sum_small}
 use Rattle.zo_state.proofs.sums.Sums.place.Goals as goal
 
 pub move_sums-requires : goal.move_sums-requires

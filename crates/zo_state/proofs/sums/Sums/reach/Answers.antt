@@ -4,10 +4,10 @@ use Rattle.std.specs.Prelude.{IfSome}
 use Rattle.std.proofs.lemmas.Int.{ints}
 use Rattle.std.proofs.lemmas.List.{get_or_read}
 use Rattle.zo_model.specs.Program.{AtMost}
-use Rattle.zo_leaf.specs.Certificate.{terms_of}
-use Rattle.zo_leaf.specs.Searched.{reach}
+use Rattle.zo_proof.specs.Certificate.{terms_of}
+use Rattle.zo_proof.specs.Searched.{reach}
 use Rattle.zo_state.specs.Sums.{SumsOf}
-use Rattle.zo_sums.proofs.Placed.{of_terms, reach_small}
+use Rattle.zo_state.proofs.Placed.{of_terms, reach_small}
 use Rattle.zo_state.proofs.sums.Sums.reach.Goals as goal
 
 pub overflow_cast-result : goal.overflow_cast-result

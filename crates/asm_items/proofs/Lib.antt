@@ -1,3 +1,0 @@
-pub mod StandLemmas
-pub mod LabelLemmas
-pub mod FirstLemmas

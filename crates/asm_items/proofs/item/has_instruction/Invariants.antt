@@ -1,8 +1,0 @@
-use Rattle.std.proofs.Common.{◌≡◌, drop}
-use Rattle.asm_items.specs.Items.{count}
-use Rattle.asm_items.specs.inner.Seen.{all_seen}
-use Rattle.asm_items.proofs.item.has_instruction.Given as goal
-
--- the items so far are labels
-abbrev pub invariant-loop-item : goal.invariant-loop-item
-invariant-loop-item l = count (all_seen l.items) ≡ count (all_seen (drop l.item-index l.items))

@@ -1,0 +1,93 @@
+-- How the code keeps what a placement is read off from: a vector by the names of its columns, and the numbers of homes.
+use Rattle.std.specs.Prelude.{◌≡◌, ℕ, nat_eq, if◌then◌else◌, List, [], ◌∷◌, map, Option, Some, None, unwrap_or}
+use Rattle.std.specs.HashMap.{get}
+use Rattle.ssu_ir.specs.Tree.{Label}
+use Rattle.ssu_ir.specs.View.{labels_view}
+use Rattle.placement.specs.declared.place.Place.{Place}
+use Rattle.placement.specs.declared.place.Place.TheVariants as place
+use Rattle.placement.specs.declared.place.Pass.{Pass}
+use Rattle.placement.specs.declared.place.Placement.{Placement}
+use Rattle.placement.specs.inner.Parts.{in_byte}
+use Rattle.placement.specs.Fits.{wants_home}
+use Rattle.placement.specs.Plan.{Home, home_view, plan_view}
+use Rattle.placement.specs.Uses.{Value, Use}
+use Rattle.zo_model.specs.Program.{vector}
+use Rattle.bank_form.specs.declared.column.Bank.{Bank}
+use Rattle.bank_form.specs.declared.column.Bank.TheVariants.{A, B, M, T, L, A15, W}
+use Rattle.bank_form.specs.declared.column.Column.{Column}
+use Rattle.bank_form.specs.declared.column.Column.TheVariants as column
+use Rattle.bank_prog.specs.Meaning.{Chosen, on}
+use Rattle.bank_form.specs.inner.Form.{Part}
+use Rattle.bank_assignment.specs.declared.columns.Family.{Family}
+use Rattle.bank_assignment.specs.declared.columns.Family.TheVariants as family
+use Rattle.bank_assignment.specs.declared.reading.Reading.{Reading}
+use Rattle.bank_assignment.specs.declared.numbers.BankNumbers.{BankNumbers}
+use Rattle.bank_assignment.specs.inner.ReadOff.{Numbers, has_home, goes_early, word_place, value_home, AreRead, read_off, pass_by, pass_l, pass_s}
+
+-- ---- columns
+
+abbrev pub labels_of : Reading → List Label
+labels_of r = labels_view r.form.ssu.now
+
+-- the columns that are on
+abbrev pub says : Reading → Chosen
+says r = on (labels_of r) (vector r.x.now.on.items)
+
+-- the column of a family for a register
+abbrev pub column_of : Family → ℕ → Column
+column_of (family.First k) r = column.First k r
+column_of (family.Dir k i) r = column.Dir k i r
+column_of (family.Ear k i) r = column.Ear k i r
+column_of (family.PasL k) r = column.PasL k r
+column_of (family.PasS k) r = column.PasS k r
+
+-- ---- numbers
+
+abbrev pub number_in : Option ℕ → ℕ
+number_in o = unwrap_or (in_byte o) 0
+
+abbrev pub numbers_of : BankNumbers → Numbers
+numbers_of n A x = number_in (get nat_eq n.a x)
+numbers_of n B x = number_in (get nat_eq n.b x)
+numbers_of n M x = number_in (get nat_eq n.m x)
+numbers_of n T x = 0
+numbers_of n L x = 0
+numbers_of n A15 x = 0
+numbers_of n W x = 0
+
+-- the value, if it has a home in a bank
+abbrev pub kept_value : Chosen → Bank → ℕ → List ℕ
+kept_value on h x = if has_home on x h then x ∷ [] else []
+
+-- ---- places
+
+-- where the value of a variable comes, if it is known
+abbrev pub known_place : Option Place → Place
+known_place (Some q) = q
+known_place None = place.Slot 0
+
+-- the first place that is noted
+abbrev pub place_noted : Option Place → ℕ → Place → ℕ → Option Place
+place_noted (Some p) y q x = Some p
+place_noted None y q x = if nat_eq y x then Some q else None
+
+-- ---- pieces
+
+-- the word, where it is put early
+abbrev pub early_word : Chosen → Use → List Place
+early_word on u = if goes_early on u then word_place on u ∷ [] else []
+
+-- the home of a value, where it wants one
+abbrev pub preferred_home : List Label → Chosen → Numbers → Value → List Home
+preferred_home labels on numbers v = if wants_home labels v then value_home labels on numbers v ∷ [] else []
+
+-- the pass of a point
+abbrev pub part_pass : Chosen → Part → List Pass
+part_pass on p = pass_by p.point (pass_l on p.point) (pass_s on p.point)
+
+-- ---- the whole
+
+-- the placement is the one that is read off, with these homes
+pub record IsReadOff (labels : List Label) (slots : ℕ) (on : Chosen) (numbers : Numbers) (p : Placement) : Type 0 where
+  pub homes : AreRead labels on numbers (map home_view p.homes.items)
+  pub same : plan_view p ≡ read_off labels slots on numbers (map home_view p.homes.items)

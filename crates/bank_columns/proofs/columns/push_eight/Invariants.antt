@@ -1,6 +1,0 @@
-use Rattle.std.proofs.Common.{◌≡◌, ◌++◌, map, drop}
-use Rattle.bank_form.specs.declared.column.Column.TheVariants as column
-use Rattle.bank_columns.proofs.columns.push_eight.Given as goal
-
-abbrev pub invariant-loop-c : goal.invariant-loop-c
-invariant-loop-c l = l.out.items ++ map (λ (c : column.the_data). (c, 0)) (drop l.c-index l.cs) ≡ l.fn.out.items ++ map (λ (c : column.the_data). (c, 0)) l.cs

@@ -1,8 +1,0 @@
-use Rattle.std.proofs.Common.{◌≡◌, ◌++◌, map, drop, filter}
-use Rattle.held_values.specs.Held.{items_of}
-use Rattle.bank_places.specs.inner.ReadOff.{has_home}
-use Rattle.bank_places.specs.inner.Reading.{says}
-use Rattle.bank_places.proofs.numbers.rows_in.Given as goal
-
-abbrev pub invariant-loop-row : goal.invariant-loop-row
-invariant-loop-row l = items_of l.kept.items ++ map (filter (λ x. has_home (says l.r) x l.h)) (items_of (drop l.row-index l.rows)) ≡ map (filter (λ x. has_home (says l.r) x l.h)) (items_of l.rows)

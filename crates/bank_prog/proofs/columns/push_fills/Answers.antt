@@ -1,0 +1,15 @@
+use Rattle.std.proofs.Common.{◌++◌, map, arith}
+use Rattle.std.specs.List.{flat_map}
+use Rattle.bank_form.specs.Columns as columns
+use Rattle.bank_form.specs.inner.Form.{value_view}
+use Rattle.ssu_ir.specs.View.{labels_view}
+use Rattle.bank_form.proofs.Loops.{out-more, out-all}
+use Rattle.bank_prog.proofs.columns.push_fills.Goals as goal
+
+pub loop-v-preserved : goal.loop-v-preserved
+loop-v-preserved c =
+    out-more (columns.fill_columns (labels_view c.args.f.now.ssu.now)) value_view c.args.values.now c.loop-v.v-index _ c.loop-v.out.items c.push_fill.new.out.items
+    (c.args.out.now.items ++ flat_map (columns.fill_columns (labels_view c.args.f.now.ssu.now)) (map value_view c.args.values.now)) (omega arith) c.in_ok-push_fill.ensures c.loop-v.invariant
+
+pub returns : goal.returns
+returns c = out-all (columns.fill_columns (labels_view c.args.f.now.ssu.now)) value_view c.args.values.now c.loop-v.v-index c.loop-v.out.items (c.args.out.now.items ++ flat_map (columns.fill_columns (labels_view c.args.f.now.ssu.now)) (map value_view c.args.values.now)) (omega arith) c.loop-v.invariant

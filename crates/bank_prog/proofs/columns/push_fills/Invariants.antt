@@ -1,0 +1,9 @@
+use Rattle.std.proofs.Common.{◌≡◌, ◌++◌, map, drop}
+use Rattle.std.specs.List.{flat_map}
+use Rattle.bank_form.specs.Columns as columns
+use Rattle.bank_form.specs.inner.Form.{value_view}
+use Rattle.ssu_ir.specs.View.{labels_view}
+use Rattle.bank_prog.proofs.columns.push_fills.Given as goal
+
+abbrev pub invariant-loop-v : goal.invariant-loop-v
+invariant-loop-v l = l.out.items ++ flat_map (columns.fill_columns (labels_view l.f.ssu.now)) (map value_view (drop l.v-index l.values)) ≡ l.fn.out.items ++ flat_map (columns.fill_columns (labels_view l.f.ssu.now)) (map value_view l.values)

@@ -1,0 +1,14 @@
+use Rattle.std.proofs.Common.{◌++◌, ◌∙◌, ap, map, arith}
+use Rattle.std.specs.List.{flat_map}
+use Rattle.bank_form.specs.inner.Form as form
+use Rattle.bank_form.specs.inner.Form.{summary_view}
+use Rattle.bank_form.proofs.Loops.{out-more, out-all}
+use Rattle.bank_prog.proofs.columns.push_pas_ls.Goals as goal
+
+pub loop-summary-preserved : goal.loop-summary-preserved
+loop-summary-preserved c =
+    out-more (form.part_pas_l) summary_view c.args.summaries.now c.loop-summary.summary-index _ c.loop-summary.out.items c.push_pas_l.new.out.items
+    (c.args.out.now.items ++ flat_map (form.part_pas_l) (map summary_view c.args.summaries.now)) (omega arith) (c.in_ok-push_pas_l.ensures ∙ ap (λ s. c.loop-summary.out.items ++ form.part_pas_l (summary_view s)) c.summary-item.is) c.loop-summary.invariant
+
+pub returns : goal.returns
+returns c = out-all (form.part_pas_l) summary_view c.args.summaries.now c.loop-summary.summary-index c.loop-summary.out.items (c.args.out.now.items ++ flat_map (form.part_pas_l) (map summary_view c.args.summaries.now)) (omega arith) c.loop-summary.invariant

@@ -1,0 +1,15 @@
+use Rattle.std.proofs.Common.{◌++◌, map, arith}
+use Rattle.std.specs.List.{flat_map}
+use Rattle.bank_form.specs.Columns as columns
+use Rattle.bank_form.specs.inner.Form.{use_view}
+use Rattle.ssu_ir.specs.View.{labels_view}
+use Rattle.bank_form.proofs.Loops.{out-more, out-all}
+use Rattle.bank_prog.proofs.columns.push_point_dirs.Goals as goal
+
+pub loop-u-preserved : goal.loop-u-preserved
+loop-u-preserved c =
+    out-more (columns.dir_columns (labels_view c.args.f.now.ssu.now) c.args.n) use_view c.args.uses.now c.loop-u.u-index _ c.loop-u.out.items c.push_dir.new.out.items
+    (c.args.out.now.items ++ flat_map (columns.dir_columns (labels_view c.args.f.now.ssu.now) c.args.n) (map use_view c.args.uses.now)) (omega arith) c.in_ok-push_dir.ensures c.loop-u.invariant
+
+pub returns : goal.returns
+returns c = out-all (columns.dir_columns (labels_view c.args.f.now.ssu.now) c.args.n) use_view c.args.uses.now c.loop-u.u-index c.loop-u.out.items (c.args.out.now.items ++ flat_map (columns.dir_columns (labels_view c.args.f.now.ssu.now) c.args.n) (map use_view c.args.uses.now)) (omega arith) c.loop-u.invariant

@@ -1,4 +1,0 @@
-pub mod Lengths
-pub mod UseSums
-pub mod FewColumns
-pub mod FewRows

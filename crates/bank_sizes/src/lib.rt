@@ -1,4 +1,0 @@
-//! How large the program of the banks gets.
-#![tactic(auto)]
-
-pub mod laws;

@@ -1,6 +1,0 @@
-use Rattle.std.proofs.Common.{◌≡◌, drop}
-use Rattle.held_values.specs.inner.Live.{add_all}
-use Rattle.held_values.proofs.row.add_each.Given as goal
-
-abbrev pub invariant-loop-x : goal.invariant-loop-x
-invariant-loop-x l = add_all (drop l.x-index l.xs) l.row.items ≡ add_all l.xs l.fn.row.items

@@ -1,7 +1,0 @@
-use Rattle.std.proofs.Common.{◌≡◌, max, drop}
-use Rattle.held_values.specs.Held.{items_of}
-use Rattle.held_values.specs.inner.Live.{longest}
-use Rattle.held_values.proofs.rows.longest_row.Given as goal
-
-abbrev pub invariant-loop-row : goal.invariant-loop-row
-invariant-loop-row l = max l.most (longest (items_of (drop l.row-index l.rows))) ≡ longest (items_of l.rows)

@@ -1,0 +1,27 @@
+//! The types in the texts of functions.
+
+ghost use Rattle.nv_ast.specs.ProgramView.{fun_tree};
+ghost use Rattle.type_scopes.specs.inner.Declarations.{SignsFunction};
+
+use nv_ast::Fun;
+use type_costs::error::TypeError;
+use type_scopes::functions::{Checker, Function};
+
+/// The types in a function's text; 9: two parameters of one name. That counts before a main of other words than it
+/// may have.
+pub fn signature<'a>(checker: &mut Checker<'a>, f: &'a Fun) -> Result<(), TypeError>
+    ensures { SignsFunction checker.old checker.new (fun_tree f.now) result }
+{
+    let params = checker.named_texts(f.span, &f.params)?;
+    let result = checker.type_text(f.span, &f.result)?;
+    checker.without_twice_param(f.span, &params)?;
+    let types = checker.param_types(&params)?;
+    let list = checker.table.parts_of(&types)?;
+    checker.fitting_main(f, list, result)?;
+    let function = Function {
+        params: list,
+        result,
+    };
+    checker.functions.add(&f.name, function)?;
+    Ok(())
+}

@@ -1,4 +1,0 @@
-pub mod Files
-pub mod Outcomes
-pub mod Own
-pub mod Given

@@ -1,0 +1,2 @@
+pub mod NodeLookups
+pub mod Checks

@@ -1,0 +1,8 @@
+//! Numbers of registers and slots for the homes of values. Those of registers go by what the values want: a word that
+//! a jump hands on wants the register of the parameter that takes it.
+#![tactic(auto)]
+
+mod allocation_hints;
+mod homes;
+
+pub use homes::{HomeNumbers, number_homes};

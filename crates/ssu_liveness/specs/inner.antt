@@ -1,0 +1,3 @@
+pub mod Live
+pub mod PointIds
+pub mod Numbers

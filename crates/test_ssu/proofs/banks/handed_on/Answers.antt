@@ -1,0 +1,24 @@
+use Rattle.std.proofs.Common.{[], ◌∷◌, refl, sym, ap}
+use Rattle.ssu_ir.specs.Tree.{End, Jump, Halt}
+use Rattle.ssu_ir.specs.Build.{Rooted}
+use Rattle.ssu_ir.specs.Slots.{bodies}
+use Rattle.test_ssu.proofs.banks.handed_on.Goals as goal
+
+pub add-requires : goal.add-requires
+add-requires c = record { taken = []; rest = []; children = refl; holds = c.new-b.ensures }
+
+pub add-requires-2 : goal.add-requires-2
+add-requires-2 c = record {
+  taken = [];
+  rest = (c.in_ok-second.second.0, End (Halt 0 c.in_ok-words.words.items)) ∷ [];
+  children = refl;
+  holds = c.in_ok-second.ensures.grown [] [] refl c.new-b.ensures;
+}
+
+pub finish-requires : goal.finish-requires
+finish-requires c =
+    let second : Rooted = (c.in_ok-second.second.0, End (Halt 0 c.in_ok-words.words.items)) in record {
+      roots = (c.in_ok-first.first.0, End (Jump 1 c.in_ok-arguments.arguments.items)) ∷ second ∷ [];
+      holds = c.in_ok-first.ensures.grown [] (second ∷ []) refl (c.in_ok-second.ensures.grown [] [] refl c.new-b.ensures);
+      at_bodies = sym (ap bodies c.in_ok-labels.ensures.items);
+    }

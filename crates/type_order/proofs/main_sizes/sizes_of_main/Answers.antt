@@ -1,8 +1,0 @@
-use Rattle.std.proofs.Common.{refl}
-use Rattle.type_order.proofs.main_sizes.sizes_of_main.Goals as goal
-
-pub returns-in-Some : goal.returns-in-Some
-returns-in-Some c = c.in-Some.ensures
-
-pub returns-in-None : goal.returns-in-None
-returns-in-None c = (c.in-None.ensures, refl)

@@ -1,5 +1,0 @@
-use Rattle.type_steps.proofs.Walked.{IsAfter}
-use Rattle.type_steps.proofs.patterns.has_length.Given as goal
-
-abbrev pub invariant-loop-i : goal.invariant-loop-i
-invariant-loop-i l = IsAfter l.table l.types l.list l.i

@@ -1,8 +1,0 @@
-use Rattle.uc_peep.specs.Liveness.{IsGrown}
-use Rattle.uc_peep.proofs.hurrying.hurry.Given as goal
-
-abbrev pub invariant-first : goal.invariant-first
-invariant-first l = IsGrown l.code l.fn.sets l.sets
-
-abbrev pub invariant-rest : goal.invariant-rest
-invariant-rest l = IsGrown l.code l.fn.sets l.sets

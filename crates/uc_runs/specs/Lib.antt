@@ -1,8 +1,0 @@
-pub mod Spots
-pub mod Program
-pub mod Visits
-pub mod Alike
-pub mod Starts
-pub mod Entries
-pub mod Relocated
-pub mod StraightCode

@@ -1,5 +1,0 @@
-pub mod Certificate
-pub mod Fixing
-pub mod Node
-pub mod Searched
-pub mod inner

@@ -1,2 +1,0 @@
-pub mod Vector
-pub mod inner
