@@ -189,7 +189,7 @@ pass-read labels p on k q r g at =
     both-most on (stays_at labels false r q.before) (PasL k r ∷ []) (before-most labels p on k q false r g at) (one-most on (PasL k r)) (λ a b.
     let s = some-stays labels p on false r q.before g a in
     let l : (pass p k).l ≡ Some r = named (pass p k).l r (chosen-on labels p on g (PasL k r) (on-one on (PasL k r) b)) in
-    let apart = (g.fits.points k q at).held.through s.0 (in-test s.0 q.before s.1) in
+    let apart = (g.fits.points k q at).held.read_through s.0 (in-test s.0 q.before s.1) in
     shared (maybe place.L (pass p k).l) (read_places labels p s.0) (place.L r) (read_place s.2.mem r) apart
     (subst (λ o. In (place.L r) (maybe place.L o)) (sym l) (inl refl)) (in-places labels p s.0 false r s.2) (read-same Sram s.2.mem r (sym s.2.side)))
 
@@ -449,7 +449,7 @@ wait-written labels p on k q sdram r u g at i s w =
 wait-passed : (labels : List Label) (p : Plan) (on : Chosen) (k : ℕ) (q : Point) (r : ℕ) (u : Use) → Placed labels p on → IsThere labels k q → In u (waiting labels k q) → WaitsAt p u false r → on (PasS k r) ≡ true → ⊥
 wait-passed labels p on k q r u g at i s e =
     let o : (pass p k).s ≡ Some r = named (pass p k).s r (chosen-on labels p on g (PasS k r) e) in
-    let off = (g.fits.points k q at).waiting.through u (waits-there labels p k q u false r i s) in
+    let off = (g.fits.points k q at).waiting.read_through u (waits-there labels p k q u false r i s) in
     let same : word_register p u ≡ place.S r = s.is ∙ write-same s.mem Sram r s.side in
     false≢true (sym off ∙ place-there (word_register p u) (place.S r) (maybe place.S (pass p k).s) (subst (λ z. In (place.S r) (maybe place.S z)) (sym o) (inl refl))
     (subst (λ z. same_place z (place.S r) ≡ true) (sym same) (in-itself r)))

@@ -174,7 +174,7 @@ keeps-held labels slots on numbers hs k q at pass-is placed staying apart =
     let p = read_off labels slots on numbers hs in record {
       general = λ x y i j n. homes-apart on numbers x y (apart x y i j n) (general_places p x) (general_places p y) (placed x i) (placed y j);
       read = λ x y i j n. both x y i j n (stays labels p x) (stays labels p y) refl refl;
-      through = λ x i. one x i (stays labels p x) (pass_l on k) refl pass-is refl;
+      read_through = λ x i. one x i (stays labels p x) (pass_l on k) refl pass-is refl;
     }
   where
     both : (x y : ℕ) → is_in x q.before ≡ true → is_in y q.before ≡ true → x ≢ y → (a b : Bool) → stays labels (read_off labels slots on numbers hs) x ≡ a → stays labels (read_off labels slots on numbers hs) y ≡ b

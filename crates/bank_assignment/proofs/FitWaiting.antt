@@ -150,7 +150,7 @@ keeps-waiting labels slots on numbers hs k q there b early facts at pass-is acce
           let s = same-write ru.mem rv.mem ru.number rv.number (ap (λ (r : Place). same_place (write_place ru.mem ru.number) r) (sym e) ∙ same-itself ru.mem ru.number) in
           at.wait_apart u v au.0 av.0 au.1.1 av.1.1 ne (is_sdram rv.mem) rv.number
           (subst (λ n. WaitsIn on u (is_sdram rv.mem) n) s.number (subst (λ d. WaitsIn on u d ru.number) s.side ru.waits)) rv.waits;
-      through = λ u w. false_from_ne_true (has_place (word_register p u) (maybe S (pass p k).s)) (λ e.
+      read_through = λ u w. false_from_ne_true (has_place (word_register p u) (maybe S (pass p k).s)) (λ e.
           let ru = register u w in
           let au = waits-use labels slots on numbers hs k q u early w in
           let f : has_place (write_place ru.mem ru.number) (maybe S (pass_s on k)) ≡ true =

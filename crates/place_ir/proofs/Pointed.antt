@@ -127,7 +127,7 @@ held-from labels p k q w e homed h =
           sym (apart-read labels p x y)
           ∙ ap (λ vs. not (same_place (home p x).defined (home p y).defined && (checks.stays vs p x && checks.stays vs p y))) (sym w.found_)
           ∙ (and_parts (general_apart p x y) (kept x y) (apart x y a b n)).1;
-      through = λ x a.
+      read_through = λ x a.
           sym (through-is labels p x (pass p k).l)
           ∙ ap (λ vs. not (goes_through vs p x (pass p k).l)) (sym w.found_)
           ∙ (and_parts (passes_by labels p k x) (list_all (λ h. may_meet labels p k x h.var) p.homes) (fits x a)).0;
@@ -155,7 +155,7 @@ held-to labels p k q w e h =
     (λ x. ⊎_elim
     (λ (a : is_before labels p k x ≡ true). or_right (not (is_before labels p k x)) (passes_by labels p k x && list_all (λ h. may_meet labels p k x h.var) p.homes)
     (and_from (passes_by labels p k x) (list_all (λ h. may_meet labels p k x h.var) p.homes)
-    (ap (λ vs. not (goes_through vs p x (pass p k).l)) w.found_ ∙ through-is labels p x (pass p k).l ∙ h.through x (was x a))
+    (ap (λ vs. not (goes_through vs p x (pass p k).l)) w.found_ ∙ through-is labels p x (pass p k).l ∙ h.read_through x (was x a))
     (of-homes (may_meet labels p k x) p.homes (meets x a))))
     (λ (a : is_before labels p k x ≡ false). or_left (not (is_before labels p k x)) (passes_by labels p k x && list_all (λ h. may_meet labels p k x h.var) p.homes) (not_from_false (is_before labels p k x) a))
     (cases_Bool (is_before labels p k x)))
@@ -397,7 +397,7 @@ waiting-from labels p k q w e h =
           (λ (d : not (waits labels p k v) ≡ true). absurd (false≢true (sym (not-true (waits labels p k v) d) ∙ waits-is labels p k q v e ∙ b.waiting)))
           (or_cases (not (same_place (word_register p u) (word_register p v))) (not (waits labels p k v)) c))
           (or_cases (same_use u v) (not (same_place (word_register p u) (word_register p v)) || not (waits labels p k v)) o);
-      through = λ u v. not-true (has_place (word_register p u) (maybe S (pass p k).s)) (and_parts (not (has_place (word_register p u) (maybe S (pass p k).s))) (not (is_written p k node (word_register p u))) (free u v)).0;
+      read_through = λ u v. not-true (has_place (word_register p u) (maybe S (pass p k).s)) (and_parts (not (has_place (word_register p u) (maybe S (pass p k).s))) (not (is_written p k node (word_register p u))) (free u v)).0;
       written = λ u v.
           each-all _ _
           (subst (λ (z : Point). Unwritten p k (word_register p u) z.place) (point-there labels k q e)
@@ -424,7 +424,7 @@ waiting-to labels p k q w e h =
     (λ (a : waits labels p k u ≡ true). or_right (not (waits labels p k u)) (is_free p k node (word_register p u) && list_all (is_other labels p k u) (found labels p))
     (and_from (is_free p k node (word_register p u)) (list_all (is_other labels p k u) (found labels p))
     (and_from (not (has_place (word_register p u) (maybe S (pass p k).s))) (not (is_written p k node (word_register p u)))
-    (not_from_false (has_place (word_register p u) (maybe S (pass p k).s)) (h.through u (wait i u g a)))
+    (not_from_false (has_place (word_register p u) (maybe S (pass p k).s)) (h.read_through u (wait i u g a)))
     (not_from_false (is_written p k node (word_register p u))
     (unwritten-to p k (word_register p u) (place_at labels k)
     (subst (λ (z : Point). Unwritten p k (word_register p u) z.place) (sym (point-there labels k q e)) (all-each _ _ (h.written u (wait i u g a)))))))

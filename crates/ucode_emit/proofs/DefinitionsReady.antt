@@ -123,7 +123,7 @@ pub waits_through : (labels : List Label) (p : Plan) (k : ℕ) (q : Point) (u : 
     → word_register p u ≡ S (named (pass p k).s) → ⊥
 waits_through labels p k q u h e w c =
     let f = h.fits.points k q e in
-    some_named (pass p k).s (word_register p u) (f.passes.writes c) (f.waiting.through u w)
+    some_named (pass p k).s (word_register p u) (f.passes.writes c) (f.waiting.read_through u w)
 
 -- ---- copies of one value leave the places of another alone
 

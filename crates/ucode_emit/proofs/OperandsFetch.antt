@@ -52,7 +52,7 @@ lasts_spare labels p x t h d (in_read g m) o e = false≢true (sym (ap is_read_r
 lasts_through : (labels : List Label) (p : Plan) (k : ℕ) (q : Point) (x n : ℕ) (t : Place) → Placed labels p → EmitContext labels k q → is_in x q.before ≡ true → Lasts labels p x t → (pass p k).l ≡ Some n → t ≡ L n → ⊥
 lasts_through labels p k q x n t h s i (in_place g m) c e = false≢true (sym (ap is_general e) ∙ g)
 lasts_through labels p k q x n t h s i (in_read g m) c e =
-    none_both (L n) (maybe L (pass p k).l) (read_places labels p x) ((h.fits.points k q s.at).held.through x i)
+    none_both (L n) (maybe L (pass p k).l) (read_places labels p x) ((h.fits.points k q s.at).held.read_through x i)
     (ap (λ o. has_place (L n) (maybe L o)) c ∙ place_head (L n) []) (subst (λ z. has_place z (read_places labels p x) ≡ true) e m)
 
 -- where a held value lasts, none passes
