@@ -11,7 +11,7 @@ flat_run now = record { calls = now.calls; packet = now.packet; writes = now.wri
 abbrev pub onward : Result → (Value → Running → flat.Result) → flat.Result
 onward (Gives v now) next = next v now
 onward (Raises k vs now) next = flat.Raises k (all_words vs) (flat_run now)
-onward (Halts how now) next = flat.Stops how (flat_run now)
+onward (Halts how now) next = flat.Halts how (flat_run now)
 
 -- the same for the whole of what an expression comes to: the words of its value
 abbrev pub ended : Result → flat.Result
