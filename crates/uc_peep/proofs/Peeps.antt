@@ -402,7 +402,7 @@ module _ (code : List Instr) (starts : List ℕ) (draft : List Instr) (gone : Li
   kept-shape h = record {
     first = first-moved starts h.first;
     rises = λ j k lt in'. rises j k lt (let s = length-mapped to starts in omega arith);
-    live_before = λ k some in'. live_before k some (let s = length-mapped to starts in omega arith);
+    before = λ k some in'. before_moved k some (let s = length-mapped to starts in omega arith);
   }
     where
       rises : (j k : ℕ) → j < k → k < length starts → get_or (map to starts) j 0 < get_or (map to starts) k 0
@@ -413,9 +413,9 @@ module _ (code : List Instr) (starts : List ℕ) (draft : List Instr) (gone : Li
           let two = mapped-at to starts k in' in
           omega arith
 
-      live_before : (k : ℕ) → 0 < k → k < length starts → (i : Instr) × (slice_get code' (get_or (map to starts) k 0 - 1) ≡ Some i) × IsLast i
-      live_before k some in' =
-          let l = h.live_before k some in' in
+      before_moved : (k : ℕ) → 0 < k → k < length starts → (i : Instr) × (slice_get code' (get_or (map to starts) k 0 - 1) ≡ Some i) × IsLast i
+      before_moved k some in' =
+          let l = h.before k some in' in
           let s : ℕ = get_or starts k 0 in
           let up : get_or starts 0 0 < get_or starts k 0 = h.rises 0 k some in' in
           let stay = d.stays (get_or starts k 0 - 1) l.0 (last-crooked l.0 l.2) l.1 in
