@@ -269,6 +269,38 @@ def named_files(top):
     return found
 
 
+def section(text, title):
+    """A page's section of this title, up to the next title of its level."""
+    return re.search(rf"^## {re.escape(title)}$(.*?)(?=^## |\Z)", text, re.M | re.S)[1]
+
+
+def walks_and_recipes(top):
+    """Of docs/ARCHITECTURE.md: each call of the walk from bytes to bytes is a function of a file beside it, each file of a line
+    of code has a word of its step, and each recipe names files by their crates, which are there."""
+    page, found = read(top, "docs/ARCHITECTURE.md"), []
+
+    def code_of(files):
+        there = [it for it in files if os.path.isfile(os.path.join(top, "crates", it))]
+        found.extend(f"crates/{it} isn't there" for it in files if it not in there)
+        return "\n".join(read(top, f"crates/{it}") for it in there)
+
+    for line in re.findall(r"^\| (`.*)$", section(page, "From a source byte to an object byte"), re.M):
+        calls, files = line.split(" | ")[:2]
+        code = code_of(re.findall(r"`([\w/]+\.rt)`", files))
+        found += [f"no function of {files} is {it}" for it in re.findall(r"`(\w+)`", calls) if not re.search(rf"\bfn {it}\b", code)]
+    for step in re.split(r"^[0-9]+\. ", section(page, "A line of code"), flags=re.M)[1:]:
+        for file in re.findall(r"`([\w/]+\.rt)`", step):
+            code = code_of([file])
+            if not any(re.search(rf"\b{it}\b", code) for it in re.findall(r"`(\w+)", step)):
+                found.append(f"{file} has no word of its step")
+    for recipe in re.split(r"^- \*\*", section(page, "How to add"), flags=re.M)[1:]:
+        files = re.findall(r"`(\w+/(?:src|specs|proofs)/[\w/]+\.(?:rt|antt))`", recipe)
+        code_of(files)
+        if not files and not recipe.startswith(("A form", "A rule")):
+            found.append(f"a recipe without files: {recipe[:30]}")
+    return found
+
+
 def there_and_back(top):
     """Each example with a packet: its bytes become a dump, and that the same lines of SDRAM."""
     found, packet = [], module(top, "examples/packet")
@@ -358,7 +390,7 @@ def all_rows(top):
     rows = [("each keyword is coloured by both editors' files", highlighting), ("the editors' files are as made", as_made)]
     rows += [("the pages of nova_explain are those of docs/FAULTS.md", pages_as_made)]
     rows += [("what has to be believed is listed in docs/PROOFS.md", believed_as_made)]
-    rows += [("README has short lines and sentences", readable), ("the files that the pages name are there", named_files)]
+    rows += [("README has short lines and sentences", readable), ("the files that the pages name are there", named_files), ("the walks and recipes of docs/ARCHITECTURE.md", walks_and_recipes)]
     rows += [("a packet's hex dump and back", there_and_back), ("forms of hex dumps", dumps), ("nothing stands twice that didn't", nothing_new_twice), ("capture files", captures), ("tables from a CSV file", tables)]
     sources = sorted(it for it in os.listdir(os.path.join(top, "examples")) if it.endswith(".nova"))
     made = [MadeRow(seed, size, top) for seed, size in ((0, 2), (1, 60), (0, 500))]
