@@ -6,15 +6,19 @@ use Rattle.std.proofs.lemmas.Bool.{and_parts, leb-true}
 use Rattle.ssu_ir.specs.Meaning.{ssu_params, params_of}
 use Rattle.ssu_ir.specs.Single.{single, is_entry}
 use Rattle.ssu_ir.specs.Tree.{Label}
+use Rattle.nv_base.specs.declared.term.Bin.TheVariants.{Add, Sub, And, Or, Xor}
+use Rattle.uc_isa.specs.declared.instruction.Src.{Src}
+use Rattle.uc_isa.specs.declared.instruction.Dst.TheVariants as dst
 use Rattle.uc_isa.specs.declared.instruction.Instr.{Instr}
 use Rattle.uc_isa.specs.declared.instruction.Instr.TheVariants.{Alu, Un, Immed, Br, Read, Write, Halt}
 use Rattle.uc_isa.specs.declared.instruction.UnOp.TheVariants.{Copy, Not, Shl, Shr, Rol}
-use Rattle.uc_peep.specs.Rewrites.{IsWithout}
-use Rattle.uc_peep.specs.Rewrites.IsWithout.{Nothing, Gone, Stays}
+use Rattle.uc_peep.specs.Rewrites.{IsWithout, Compares}
+use Rattle.uc_peep.specs.Rewrites.IsWithout.{Nothing, Gone, Tested, Stays}
+use Rattle.uc_peep.proofs.Without.{compares-straight}
 use Rattle.uc_executions.specs.Relocated.{relocated}
 use Rattle.uc_executions.specs.StraightCode.{IsStraight}
 use Rattle.ucode_emit.specs.Operations.{Operation, code_operations, instr_operation}
-use Rattle.ucode_emit.specs.SpillBase.{KeepsBase, SpillsByBase}
+use Rattle.ucode_emit.specs.SpillBase.{IsOtherSource, KeepsBase, SpillsByBase}
 use Rattle.nova_back.specs.LeftOut.{LeavesOut}
 use Rattle.nova_back.specs.LeftOut.LeavesOut.{Empty, Needless, Kept}
 
@@ -49,6 +53,7 @@ gone (Halt k n) all rest straight h = absurd straight
 pub operations-left : (code code' : List Instr) → IsWithout code code' → LeavesOut (code_operations code) (code_operations code')
 operations-left a b Nothing = Empty
 operations-left a b (Gone i code code' straight h) = gone i (code_operations code) (code_operations code') straight (operations-left code code' h)
+operations-left a b (Tested i x code code' compares h) = gone i (code_operations code) (code_operations code') (compares-straight x i compares) (operations-left code code' h)
 operations-left a b (Stays f i code code' h) =
     subst (λ o. LeavesOut (cons_option (instr_operation i) (code_operations code)) (cons_option o (code_operations code'))) (sym (relocated-operation f i))
     (stays (instr_operation i) (code_operations code) (code_operations code') (operations-left code code' h))
@@ -64,9 +69,31 @@ keeps-relocated f slots (Read m r n x off) h = h
 keeps-relocated f slots (Write m r n x off) h = h
 keeps-relocated f slots (Halt k n) h = h
 
+tested-base : (slots : ℕ) (x : Src) (i : Instr) → Compares x i → KeepsBase slots i → KeepsBase slots (Un dst.Nowhere Copy x)
+tested-base slots x (Alu dst.Nowhere Sub y z) h keeps = (tt, subst IsOtherSource h keeps.1)
+tested-base slots x (Alu dst.Nowhere Add y z) h keeps = absurd h
+tested-base slots x (Alu dst.Nowhere And y z) h keeps = absurd h
+tested-base slots x (Alu dst.Nowhere Or y z) h keeps = absurd h
+tested-base slots x (Alu dst.Nowhere Xor y z) h keeps = absurd h
+tested-base slots x (Alu (dst.A r) op y z) h keeps = absurd h
+tested-base slots x (Alu (dst.B r) op y z) h keeps = absurd h
+tested-base slots x (Alu (dst.S r) op y z) h keeps = absurd h
+tested-base slots x (Alu (dst.SD r) op y z) h keeps = absurd h
+tested-base slots x (Un d op y) h keeps = absurd h
+tested-base slots x (Immed d v k) h keeps = absurd h
+tested-base slots x (Br cond target) h keeps = absurd h
+tested-base slots x (Read m r n y off) h keeps = absurd h
+tested-base slots x (Write m r n y off) h keeps = absurd h
+tested-base slots x (Halt k n) h keeps = absurd h
+
 pub spills-left : (slots : ℕ) (code code' : List Instr) → IsWithout code code' → SpillsByBase slots code → SpillsByBase slots code'
 spills-left slots a b Nothing h = h
 spills-left slots a b (Gone i code code' straight w) h = spills-left slots code code' w (λ k d lt. h (suc k) d (omega arith))
+spills-left slots a b (Tested i x code code' compares w) h = both (spills-left slots code code' w (λ k d lt. h (suc k) d (omega arith)))
+  where
+    both : SpillsByBase slots code' → SpillsByBase slots (Un dst.Nowhere Copy x ∷ code')
+    both rest zero d lt = tested-base slots x i compares (h zero d (omega arith))
+    both rest (suc k) d lt = rest k d (omega arith)
 spills-left slots a b (Stays f i code code' w) h = both (spills-left slots code code' w (λ k d lt. h (suc k) d (omega arith)))
   where
     both : SpillsByBase slots code' → SpillsByBase slots (relocated f i ∷ code')

@@ -1,11 +1,12 @@
 -- What a rule is asked, and what it answers.
-use Rattle.std.proofs.Common.{◌≡◌, ℕ, ◌+◌, ◌-◌, ◌<◌, ◌≤◌, List, length, get_or, take, drop, Option, Some, None, sym, ◌∙◌, subst, arith}
+use Rattle.std.proofs.lemmas.Bool.{cases_lt}
+use Rattle.std.proofs.Common.{⊎_elim, ◌≡◌, ℕ, ◌+◌, ◌-◌, ◌<◌, ◌≤◌, List, length, get_or, take, drop, Option, Some, None, sym, ◌∙◌, subst, arith}
 use Rattle.std.specs.Prelude.{slice_get, IfSome, IfNone}
 use Rattle.std.proofs.lemmas.Option.{slice_get-get_or}
 use Rattle.std.specs.Prelude.{Bool}
 use Rattle.uc_isa.specs.declared.instruction.Instr.{Instr}
 use Rattle.uc_peep.proofs.Replaced.{length-text, same-some, text-at}
-use Rattle.uc_peep.specs.Draft.{MayReplace}
+use Rattle.uc_peep.specs.Draft.{AreOpen, IsEndClear, IsOpen, IsFallThrough, MayReplace}
 use Rattle.uc_peep.specs.Window.{IsText}
 use Rattle.uc_executions.specs.Program.{IsProgram}
 use Rattle.uc_executions.specs.StraightCode.{IsStraight}
@@ -21,6 +22,15 @@ is-text code gone entered started p k lawful some few may =
       straight = λ d i lt. let o = (may.open_ (p + d) (omega arith) (omega arith)).0 in subst IsStraight (same-some o.instruction _ _ o.there (at d i lt)) o.straight;
       lawful = λ d i lt. (lawful.each (p + d) _ (at d i lt)).formed;
     }
+
+pub may-replace : (code : List Instr) (gone entered started : List Bool) (p k : ℕ) → p + k < length code → AreOpen code gone entered started p (p + k) → IsEndClear gone entered started p (p + k) → MayReplace code gone entered started p k
+may-replace code gone entered started p k inside all dead = record { inside = inside; open_ = all; clear_end = dead }
+
+pub open-more : (code : List Instr) (gone entered started : List Bool) (p n : ℕ) → AreOpen code gone entered started p (p + n) → IsOpen code gone (p + n) → (p < p + n → IsFallThrough entered started (p + n)) → AreOpen code gone entered started p (p + (n + 1))
+open-more code gone entered started p n all here alone x from below = ⊎_elim
+    (λ (lt : x < p + n). all x from lt)
+    (λ (le : p + n ≤ x). let e : p + n ≡ x = omega arith in subst (λ y. IsOpen code gone y × (p < y → IsFallThrough entered started y)) e (here, alone))
+    (cases_lt x (p + n))
 
 pub span : (p k : ℕ) → p + k - p ≡ k
 span p k = omega arith

@@ -168,11 +168,11 @@ within-shifted n r c k = ap (λ t. t && nat_lt (n + k) (n + r + c)) (shifted-le 
     shifted-lt : (n a b : ℕ) → nat_lt (n + a) (n + b) ≡ nat_lt a b
     shifted-lt n a b = ⊎_elim (λ (lt : a < b). lt-ltb (n + a) (n + b) (omega arith) ∙ sym (lt-ltb a b lt)) (λ (le : b ≤ a). le-ltb (n + a) (n + b) (omega arith) ∙ sym (le-ltb a b le)) (cases_lt a b)
 
-within-live_before : (r c k : ℕ) → k < r → is_within r c k ≡ false
-within-live_before r c k h = ap (λ t. t && nat_lt k (r + c)) (lt-leb r k h)
+within-below : (r c k : ℕ) → k < r → is_within r c k ≡ false
+within-below r c k h = ap (λ t. t && nat_lt k (r + c)) (lt-leb r k h)
 
-within-live_after : (r c k : ℕ) → r + c ≤ k → is_within r c k ≡ false
-within-live_after r c k h = ap (λ t. nat_le r k && t) (le-ltb k (r + c) h) ∙ and-false (nat_le r k)
+within-above : (r c k : ℕ) → r + c ≤ k → is_within r c k ≡ false
+within-above r c k h = ap (λ t. nat_le r k && t) (le-ltb k (r + c) h) ∙ and-false (nat_le r k)
   where
     and-false : (b : Bool) → (b && false) ≡ false
     and-false true = refl
@@ -180,65 +180,65 @@ within-live_after r c k h = ap (λ t. nat_le r k && t) (le-ltb k (r + c) h) ∙ 
 
 pub run-a : (r c : ℕ) (s : Resource) → r + c ≤ 16 → IsResource s → is_run_of_a r c s ≡ is_within r c (number s)
 run-a r c (In (InA k)) fits h = refl
-run-a r c (In (InB k)) fits h = sym (within-live_after r c _ (omega arith))
-run-a r c (In (InL k)) fits h = sym (within-live_after r c _ (omega arith))
-run-a r c (In (InS k)) fits h = sym (within-live_after r c _ (omega arith))
-run-a r c (In (InLD k)) fits h = sym (within-live_after r c _ (omega arith))
-run-a r c (In (InSD k)) fits h = sym (within-live_after r c _ (omega arith))
-run-a r c Zero fits h = sym (within-live_after r c _ (omega arith))
-run-a r c Carry fits h = sym (within-live_after r c _ (omega arith))
+run-a r c (In (InB k)) fits h = sym (within-above r c _ (omega arith))
+run-a r c (In (InL k)) fits h = sym (within-above r c _ (omega arith))
+run-a r c (In (InS k)) fits h = sym (within-above r c _ (omega arith))
+run-a r c (In (InLD k)) fits h = sym (within-above r c _ (omega arith))
+run-a r c (In (InSD k)) fits h = sym (within-above r c _ (omega arith))
+run-a r c Zero fits h = sym (within-above r c _ (omega arith))
+run-a r c Carry fits h = sym (within-above r c _ (omega arith))
 
 pub run-l : (r c : ℕ) (s : Resource) → r + c ≤ 8 → IsResource s → is_run_of_l r c s ≡ is_within (32 + r) c (number s)
-run-l r c (In (InA k)) fits h = sym (within-live_before (32 + r) c _ (omega arith))
-run-l r c (In (InB k)) fits h = sym (within-live_before (32 + r) c _ (omega arith))
+run-l r c (In (InA k)) fits h = sym (within-below (32 + r) c _ (omega arith))
+run-l r c (In (InB k)) fits h = sym (within-below (32 + r) c _ (omega arith))
 run-l r c (In (InL k)) fits h = sym (within-shifted 32 r c k)
-run-l r c (In (InS k)) fits h = sym (within-live_after (32 + r) c _ (omega arith))
-run-l r c (In (InLD k)) fits h = sym (within-live_after (32 + r) c _ (omega arith))
-run-l r c (In (InSD k)) fits h = sym (within-live_after (32 + r) c _ (omega arith))
-run-l r c Zero fits h = sym (within-live_after (32 + r) c _ (omega arith))
-run-l r c Carry fits h = sym (within-live_after (32 + r) c _ (omega arith))
+run-l r c (In (InS k)) fits h = sym (within-above (32 + r) c _ (omega arith))
+run-l r c (In (InLD k)) fits h = sym (within-above (32 + r) c _ (omega arith))
+run-l r c (In (InSD k)) fits h = sym (within-above (32 + r) c _ (omega arith))
+run-l r c Zero fits h = sym (within-above (32 + r) c _ (omega arith))
+run-l r c Carry fits h = sym (within-above (32 + r) c _ (omega arith))
 
 pub run-s : (r c : ℕ) (s : Resource) → r + c ≤ 8 → IsResource s → is_run_of_s r c s ≡ is_within (40 + r) c (number s)
-run-s r c (In (InA k)) fits h = sym (within-live_before (40 + r) c _ (omega arith))
-run-s r c (In (InB k)) fits h = sym (within-live_before (40 + r) c _ (omega arith))
-run-s r c (In (InL k)) fits h = sym (within-live_before (40 + r) c _ (omega arith))
+run-s r c (In (InA k)) fits h = sym (within-below (40 + r) c _ (omega arith))
+run-s r c (In (InB k)) fits h = sym (within-below (40 + r) c _ (omega arith))
+run-s r c (In (InL k)) fits h = sym (within-below (40 + r) c _ (omega arith))
 run-s r c (In (InS k)) fits h = sym (within-shifted 40 r c k)
-run-s r c (In (InLD k)) fits h = sym (within-live_after (40 + r) c _ (omega arith))
-run-s r c (In (InSD k)) fits h = sym (within-live_after (40 + r) c _ (omega arith))
-run-s r c Zero fits h = sym (within-live_after (40 + r) c _ (omega arith))
-run-s r c Carry fits h = sym (within-live_after (40 + r) c _ (omega arith))
+run-s r c (In (InLD k)) fits h = sym (within-above (40 + r) c _ (omega arith))
+run-s r c (In (InSD k)) fits h = sym (within-above (40 + r) c _ (omega arith))
+run-s r c Zero fits h = sym (within-above (40 + r) c _ (omega arith))
+run-s r c Carry fits h = sym (within-above (40 + r) c _ (omega arith))
 
 pub run-ld : (r c : ℕ) (s : Resource) → r + c ≤ 8 → IsResource s → is_run_of_ld r c s ≡ is_within (48 + r) c (number s)
-run-ld r c (In (InA k)) fits h = sym (within-live_before (48 + r) c _ (omega arith))
-run-ld r c (In (InB k)) fits h = sym (within-live_before (48 + r) c _ (omega arith))
-run-ld r c (In (InL k)) fits h = sym (within-live_before (48 + r) c _ (omega arith))
-run-ld r c (In (InS k)) fits h = sym (within-live_before (48 + r) c _ (omega arith))
+run-ld r c (In (InA k)) fits h = sym (within-below (48 + r) c _ (omega arith))
+run-ld r c (In (InB k)) fits h = sym (within-below (48 + r) c _ (omega arith))
+run-ld r c (In (InL k)) fits h = sym (within-below (48 + r) c _ (omega arith))
+run-ld r c (In (InS k)) fits h = sym (within-below (48 + r) c _ (omega arith))
 run-ld r c (In (InLD k)) fits h = sym (within-shifted 48 r c k)
-run-ld r c (In (InSD k)) fits h = sym (within-live_after (48 + r) c _ (omega arith))
-run-ld r c Zero fits h = sym (within-live_after (48 + r) c _ (omega arith))
-run-ld r c Carry fits h = sym (within-live_after (48 + r) c _ (omega arith))
+run-ld r c (In (InSD k)) fits h = sym (within-above (48 + r) c _ (omega arith))
+run-ld r c Zero fits h = sym (within-above (48 + r) c _ (omega arith))
+run-ld r c Carry fits h = sym (within-above (48 + r) c _ (omega arith))
 
 pub run-sd : (r c : ℕ) (s : Resource) → r + c ≤ 8 → IsResource s → is_run_of_sd r c s ≡ is_within (56 + r) c (number s)
-run-sd r c (In (InA k)) fits h = sym (within-live_before (56 + r) c _ (omega arith))
-run-sd r c (In (InB k)) fits h = sym (within-live_before (56 + r) c _ (omega arith))
-run-sd r c (In (InL k)) fits h = sym (within-live_before (56 + r) c _ (omega arith))
-run-sd r c (In (InS k)) fits h = sym (within-live_before (56 + r) c _ (omega arith))
-run-sd r c (In (InLD k)) fits h = sym (within-live_before (56 + r) c _ (omega arith))
+run-sd r c (In (InA k)) fits h = sym (within-below (56 + r) c _ (omega arith))
+run-sd r c (In (InB k)) fits h = sym (within-below (56 + r) c _ (omega arith))
+run-sd r c (In (InL k)) fits h = sym (within-below (56 + r) c _ (omega arith))
+run-sd r c (In (InS k)) fits h = sym (within-below (56 + r) c _ (omega arith))
+run-sd r c (In (InLD k)) fits h = sym (within-below (56 + r) c _ (omega arith))
 run-sd r c (In (InSD k)) fits h = sym (within-shifted 56 r c k)
-run-sd r c Zero fits h = sym (within-live_after (56 + r) c _ (omega arith))
-run-sd r c Carry fits h = sym (within-live_after (56 + r) c _ (omega arith))
+run-sd r c Zero fits h = sym (within-above (56 + r) c _ (omega arith))
+run-sd r c Carry fits h = sym (within-above (56 + r) c _ (omega arith))
 
 pub within_none : (r k : ℕ) → is_within r 0 k ≡ false
-within_none r k = ⊎_elim (λ (lt : k < r). within-live_before r 0 k lt) (λ (le : r ≤ k). within-live_after r 0 k (omega arith)) (cases_lt k r)
+within_none r k = ⊎_elim (λ (lt : k < r). within-below r 0 k lt) (λ (le : r ≤ k). within-above r 0 k (omega arith)) (cases_lt k r)
 
 pub within_more : (r c k : ℕ) → is_within r (c + 1) k ≡ (is_within r c k || nat_eq k (r + c))
 within_more r c k = ⊎_elim
-    (λ (lt : k < r). within-live_before r (c + 1) k lt ∙ sym (ap (λ t. t || nat_eq k (r + c)) (within-live_before r c k lt) ∙ ne_eqb k (r + c) (λ e. omega arith)))
+    (λ (lt : k < r). within-below r (c + 1) k lt ∙ sym (ap (λ t. t || nat_eq k (r + c)) (within-below r c k lt) ∙ ne_eqb k (r + c) (λ e. omega arith)))
     (λ (le : r ≤ k). ⊎_elim
     (λ (lt : k < r + c). inside (c + 1) le (omega arith) ∙ sym (ap (λ t. t || nat_eq k (r + c)) (inside c le lt)))
     (λ (far : r + c ≤ k). ⊎_elim
-    (λ (e : k ≡ r + c). inside (c + 1) le (omega arith) ∙ sym (ap (λ t. t || nat_eq k (r + c)) (within-live_after r c k far) ∙ eq-eqb k (r + c) e))
-    (λ (other : ¬ (k ≡ r + c)). within-live_after r (c + 1) k (omega arith) ∙ sym (ap (λ t. t || nat_eq k (r + c)) (within-live_after r c k far) ∙ ne_eqb k (r + c) other))
+    (λ (e : k ≡ r + c). inside (c + 1) le (omega arith) ∙ sym (ap (λ t. t || nat_eq k (r + c)) (within-above r c k far) ∙ eq-eqb k (r + c) e))
+    (λ (other : ¬ (k ≡ r + c)). within-above r (c + 1) k (omega arith) ∙ sym (ap (λ t. t || nat_eq k (r + c)) (within-above r c k far) ∙ ne_eqb k (r + c) other))
     (cases_eq k (r + c)))
     (cases_lt k (r + c)))
     (cases_lt k r)

@@ -357,14 +357,14 @@ module _ (code code' : List Instr) (gone : List Bool) (starts : ℕ → Type 0) 
   pub stood-there : AreApart → ((x : ℕ) → starts x ⊎ ¬ starts x) → (m : ℕ) (e : Engine) (ms : Memories) → e.place ≡ 0 → e.place < length code → (n : ℕ) × ((s : ℕ) → starts s → stood code s m e ms ≡ stood code' (to s) n (moved to e) ms)
   stood-there apart decide zero e ms at inside = (0, λ s start. met-stood 0 0 e ms at (meets-none e ms) s start (none-pending e.place s (apart e.place s (inl at) start)))
   stood-there apart decide (suc m) e ms at inside =
-      let live_before = stood-there apart decide m e ms at inside in
+      let so_far = stood-there apart decide m e ms at inside in
       let place : ℕ = (after code (suc m) e ms).engine.place in
       ⊎_elim
-      (λ (same : (s : ℕ) → stood code s (suc m) e ms ≡ stood code s m e ms). (live_before.0, λ s start. same s ∙ live_before.1 s start))
+      (λ (same : (s : ℕ) → stood code s (suc m) e ms ≡ stood code s m e ms). (so_far.0, λ s start. same s ∙ so_far.1 s start))
       (λ (more : (s : ℕ) → stood code s (suc m) e ms ≡ stood code s m e ms + here s place).
       ⊎_elim
       (λ (is : starts place). let h = there (suc m) e ms inside in (h.0, λ s start. met-stood (suc m) h.0 e ms at h.1 s start (none-pending place s (apart place s (inr is) start))))
-      (λ (isnt : ¬ starts place). (live_before.0, λ s start. let none : here s place ≡ 0 = here-not s place (λ same. isnt (subst starts (sym same) start)) in let m1 = more s in let b = live_before.1 s start in omega arith))
+      (λ (isnt : ¬ starts place). (so_far.0, λ s start. let none : here s place ≡ 0 = here-not s place (λ same. isnt (subst starts (sym same) start)) in let m1 = more s in let b = so_far.1 s start in omega arith))
       (decide place))
       (stood-more code m e ms)
 

@@ -3,6 +3,7 @@ pub mod Sweeps
 pub mod Lists
 pub mod WindowRuns
 pub mod Sound
+pub mod ZeroTests
 pub mod Settled
 pub mod Replaced
 pub mod Puts

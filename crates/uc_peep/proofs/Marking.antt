@@ -36,14 +36,14 @@ mark-same marks P Q h back keep = λ y. (λ m. keep y ((h y).0 m), λ q. (h y).1
 pub mark-none : (marks : List Bool) (P : ℕ → Type 0) → ((y : ℕ) → is_gone marks y ≡ false) → ((y : ℕ) → ¬ P y) → AreMarked marks P
 mark-none marks P none never = λ y. (λ m. absurd (false≢true (sym (none y) ∙ m)), λ q. absurd (never y q))
 
-pub live_before-none : (code : List Instr) (y : ℕ) → ¬ IsEnteredBefore code 0 y
-live_before-none code y (x, i, lt, at, goes) = omega arith
+pub entered-none : (code : List Instr) (y : ℕ) → ¬ IsEnteredBefore code 0 y
+entered-none code y (x, i, lt, at, goes) = omega arith
 
-pub live_before-keep : (code : List Instr) (n y : ℕ) → IsEnteredBefore code n y → IsEnteredBefore code (n + 1) y
-live_before-keep code n y (x, i, lt, at, goes) = (x, i, omega arith, at, goes)
+pub entered-keep : (code : List Instr) (n y : ℕ) → IsEnteredBefore code n y → IsEnteredBefore code (n + 1) y
+entered-keep code n y (x, i, lt, at, goes) = (x, i, omega arith, at, goes)
 
-pub live_before-split : (code : List Instr) (n y : ℕ) (i : Instr) → slice_get code n ≡ Some i → IsEnteredBefore code (n + 1) y → IsEnteredBefore code n y ⊎ GoesTo i y
-live_before-split code n y i here (x, j, lt, at, goes) = ⊎_elim
+pub entered-split : (code : List Instr) (n y : ℕ) (i : Instr) → slice_get code n ≡ Some i → IsEnteredBefore code (n + 1) y → IsEnteredBefore code n y ⊎ GoesTo i y
+entered-split code n y i here (x, j, lt, at, goes) = ⊎_elim
     (λ (less : x < n). inl (x, j, less, at, goes))
     (λ (le : n ≤ x).
     let e : x ≡ n = omega arith in
@@ -52,11 +52,11 @@ live_before-split code n y i here (x, j, lt, at, goes) = ⊎_elim
     inr (subst (λ k. GoesTo k y) ij goes))
     (cases_lt x n)
 
-pub live_before-all : (code : List Instr) (y : ℕ) → IsEntered code y → IsEnteredBefore code (length code) y
-live_before-all code y (x, i, at, goes) = (x, i, slice_get_within code x i at, at, goes)
+pub entered-all : (code : List Instr) (y : ℕ) → IsEntered code y → IsEnteredBefore code (length code) y
+entered-all code y (x, i, at, goes) = (x, i, slice_get_within code x i at, at, goes)
 
-pub live_before-some : (code : List Instr) (n y : ℕ) → IsEnteredBefore code n y → IsEntered code y
-live_before-some code n y (x, i, lt, at, goes) = (x, i, at, goes)
+pub entered-some : (code : List Instr) (n y : ℕ) → IsEnteredBefore code n y → IsEntered code y
+entered-some code n y (x, i, lt, at, goes) = (x, i, at, goes)
 
 -- ---- what is kept
 

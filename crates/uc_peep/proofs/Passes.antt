@@ -44,7 +44,7 @@ closed-after draft draft' sets sets' p k some closed out entry fresh within x i 
 
 -- sets of which one is given anew, and has no more than before
 pub closed-renewed : (code : List Instr) (sets : List ℕ) (p b : ℕ) (d : Instr) → p < length sets → IsLiveBefore (get_or code p d) p sets b → IsWithin b (get_or sets p 0) → IsClosed code sets → IsClosed code (set sets p b)
-closed-renewed code sets p b d inside live_before within closed x i at = by (eqb_tells x p)
+closed-renewed code sets p b d inside needs_there within closed x i at = by (eqb_tells x p)
   where
     old-set : (y : ℕ) (s : Resource) → IsResource s → has (get_or (set sets p b) y 0) s ≡ true → has (get_or sets y 0) s ≡ true
     old-set y s h t = ⊎_elim
@@ -59,7 +59,7 @@ closed-renewed code sets p b d inside live_before within closed x i at = by (eqb
     by (inl e) =
         let new : get_or (set sets p b) x 0 ≡ b = ap (λ n. get_or (set sets p b) n 0) e.1 ∙ get_or-set_same sets p b 0 inside in
         let is : get_or code p d ≡ i = get_or_from_slice_get code p i d (ap (slice_get code) (sym e.1) ∙ at) in
-        subst (Covers i x (set sets p b)) (sym new) (more b (subst (λ n. Covers i n sets b) (sym e.1) (subst (λ j. Covers j p sets b) is live_before.covers)))
+        subst (Covers i x (set sets p b)) (sym new) (more b (subst (λ n. Covers i n sets b) (sym e.1) (subst (λ j. Covers j p sets b) is needs_there.covers)))
     by (inr e) = subst (Covers i x (set sets p b)) (sym (get_or-set_other sets p x b 0 e.1)) (more (get_or sets x 0) (closed x i at))
 
 -- ---- a turn
@@ -211,7 +211,7 @@ covers-along i x y b sets new lt ahead h = record {
 pub fresh-more : (code : List Instr) (p k : ℕ) (sets sets' : List ℕ) (x b : ℕ) (d : Instr) → p < x → length sets ≡ length code → p + k ≤ length code
     → ((z y : ℕ) (i : Instr) → p ≤ z → z < p + k → slice_get code z ≡ Some i → IsNext i z y → y ≡ z + 1)
     → IsFresh code p k sets sets' x → IsLiveBefore (get_or code (x - 1) d) (x - 1) sets' b → IsFresh code p k sets (set sets' (x - 1) b) (x - 1)
-fresh-more code p k sets sets' x b d lt size len ahead h live_before =
+fresh-more code p k sets sets' x b d lt size len ahead h needs_there =
     let within : x - 1 < length sets' = let a = h.size in let m = h.most in omega arith in
     let same : get_or (set sets' (x - 1) b) (x - 1) 0 ≡ b = get_or-set_same sets' (x - 1) b 0 within in
     record {
@@ -241,7 +241,7 @@ fresh-more code p k sets sets' x b d lt size len ahead h live_before =
     here y i e is next =
         let within : x - 1 < length sets' = let a = h.size in let m = h.most in omega arith in
         let at : get_or (set sets' (x - 1) b) y 0 ≡ b = ap (λ n. get_or (set sets' (x - 1) b) n 0) e ∙ get_or-set_same sets' (x - 1) b 0 within in
-        let cov : Covers i y sets' b = subst (λ j. Covers j y sets' b) is (subst (λ n. Covers (get_or code n d) n sets' b) (sym e) live_before.covers) in
+        let cov : Covers i y sets' b = subst (λ j. Covers j y sets' b) is (subst (λ n. Covers (get_or code n d) n sets' b) (sym e) needs_there.covers) in
         subst (λ n. Covers i y (set sets' (x - 1) b) n) (sym at) (record {
           needs = cov.needs;
           passes = λ s z spot w n t. cov.passes s z spot w n (ap (λ m. has m s) (sym (get_or-set_other sets' (x - 1) z b 0 (λ f. let a = next z n in omega arith))) ∙ t);

@@ -14,7 +14,7 @@ use Rattle.uc_peep.proofs.Compaction.{IsCompaction, access-back, access-there, g
 use Rattle.uc_peep.proofs.Counts.{gone-next, kept-at, kept-between, kept-most, kept-next, kept-zero, length-compacted}
 use Rattle.uc_peep.proofs.Marking.{compacted-end, compacted-kept, compacted-next}
 use Rattle.uc_peep.proofs.Replaced.{all-at, gone-cases, length-text, next-cases, text-at}
-use Rattle.uc_peep.specs.Draft.{AreMarked, AreSettledFrom, IsDraft, HasNoEffect, MayReplace}
+use Rattle.uc_peep.specs.Draft.{AreMarked, AreSettledFrom, IsDraft, IsFallThrough, MayReplace}
 use Rattle.uc_peep.proofs.Without.{compacted-kept_of}
 use Rattle.uc_peep.specs.Rewrites.{Answers, Rewrites}
 use Rattle.uc_peep.specs.Rewrites.Rewrites.{Relocated, InTurn}
@@ -82,7 +82,7 @@ settled-by answers code starts entered started gone sets lawful kept me ms live 
         let at : slice_get (take k (drop p code)) (x - p) ≡ Some (get_or (take k (drop p code)) (x - p) (Halt 0 0)) = slice_get-get_or (take k (drop p code)) (x - p) (Halt 0 0) (omega arith) in
         (get_or (take k (drop p code)) (x - p) (Halt 0 0), ap (slice_get code) (sym e) ∙ sym (text-at code p k (x - p) (omega arith)) ∙ at, all-at IsStraight (take k (drop p code)) (x - p) _ w.straight at)
 
-    quiet : (y : ℕ) → ¬ IsEntered code y → ¬ IsLabelStart starts y → HasNoEffect entered started y
+    quiet : (y : ℕ) → ¬ IsEntered code y → ¬ IsLabelStart starts y → IsFallThrough entered started y
     quiet y a b = (flag-down entered (IsEntered code) y me a, flag-down started (IsLabelStart starts) y ms b)
 
     inside' : (p k : ℕ) → IsWindow code starts p k → p + k < length code
@@ -100,7 +100,7 @@ settled-by answers code starts entered started gone sets lawful kept me ms live 
     may p k w = record {
       inside = inside' p k w;
       open_ = λ x le lt. let s = straight-at p k w x le lt in (record { instruction = s.0; there = s.1; straight = s.2; kept = kept x }, λ past. quiet x (w.interior x past lt).0 (w.interior x past lt).1);
-      live_after = λ e. (λ st. flag-down entered (IsEntered code) (p + k) me (w.live_after.0 ((ms p).0 st)), flag-down started (IsLabelStart starts) (p + k) ms (w.live_after.1 (pin p e)), kept (p + k));
+      clear_end = λ e. (λ st. flag-down entered (IsEntered code) (p + k) me (w.clear_end.0 ((ms p).0 st)), flag-down started (IsLabelStart starts) (p + k) ms (w.clear_end.1 (pin p e)), kept (p + k));
     }
 
 -- ---- relocation by counts
@@ -361,11 +361,11 @@ module _ (code : List Instr) (starts : List ℕ) (draft : List Instr) (gone : Li
       ∙ ap (λ n. weight (get_or draft x (Halt 0 0)) * label_weight 1 starts ws x + n) rest
       ∙ sym (ap (λ l. moves_from x l starts ws) (drop-next x (get_or draft x (Halt 0 0)) at))
 
-  moves-live_after : (n x : ℕ) (ws : List ℕ) → length draft ≤ x + n → moves_from (to x) (compacted to (drop x gone) (drop x draft)) (map to starts) ws ≡ moves_from x (drop x draft) starts ws
-  moves-live_after zero x ws far = moves-past x ws (omega arith)
-  moves-live_after (suc n) x ws far = ⊎_elim
+  moves-onward : (n x : ℕ) (ws : List ℕ) → length draft ≤ x + n → moves_from (to x) (compacted to (drop x gone) (drop x draft)) (map to starts) ws ≡ moves_from x (drop x draft) starts ws
+  moves-onward zero x ws far = moves-past x ws (omega arith)
+  moves-onward (suc n) x ws far = ⊎_elim
       (λ (lt : x < length draft).
-      let rest = moves-live_after n (suc x) ws (omega arith) in
+      let rest = moves-onward n (suc x) ws (omega arith) in
       ⊎_elim (λ (g : is_gone gone x ≡ true). moves-gone x ws g rest) (λ (k : is_gone gone x ≡ false). moves-kept x ws lt k rest) (gone-cases gone x))
       (λ (le : length draft ≤ x). moves-past x ws le) (cases_lt x (length draft))
 
@@ -374,7 +374,7 @@ module _ (code : List Instr) (starts : List ℕ) (draft : List Instr) (gone : Li
       ap (λ n. moves_from n code' (map to starts) ws) (sym (kept-zero gone))
       ∙ ap (λ l. moves_from (to 0) (compacted to l draft) (map to starts) ws) (start gone)
       ∙ ap (λ l. moves_from (to 0) (compacted to (drop 0 gone) l) (map to starts) ws) (start' draft)
-      ∙ moves-live_after (length draft) 0 ws (omega arith)
+      ∙ moves-onward (length draft) 0 ws (omega arith)
       ∙ ap (λ l. moves_from 0 l starts ws) (sym (start' draft))
     where
       start : (l : List Bool) → l ≡ drop 0 l

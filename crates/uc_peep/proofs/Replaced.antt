@@ -14,7 +14,7 @@ use Rattle.uc_isa.specs.declared.instruction.Instr.{Instr}
 use Rattle.uc_isa.specs.declared.instruction.Instr.TheVariants.{Alu, Br, Halt, Immed, Read, Un, Write}
 use Rattle.uc_peep.proofs.Lists.{get-drop, get-fillers, get-left, get-right, get-take, length-fillers, same-lists}
 use Rattle.uc_peep.proofs.WindowRuns.{AllStraight, IsRewrite, LeadsOn, Lies, rewrite-alike}
-use Rattle.uc_peep.specs.Draft.{IsDraft, IsMarks, IsOpen, IsPut, HasNoEffect, MayReplace}
+use Rattle.uc_peep.specs.Draft.{IsDraft, IsMarks, IsOpen, IsPut, IsFallThrough, MayReplace}
 use Rattle.uc_peep.specs.Kept.{is_gone}
 use Rattle.uc_peep.specs.Liveness.{IsClosed}
 use Rattle.uc_peep.specs.Sets.{AgreeOn}
@@ -273,10 +273,10 @@ module _ (code : List Instr) (starts : List ℕ) (entered started : List Bool) (
 
   apart' : (s y : ℕ) → IsPinned starts s → s < y → y < length code → (IsLabelStart starts s × IsEntered code y) ⊎ IsLabelStart starts y → (z : ℕ) × (s ≤ z) × (z < y) × (is_gone gone' z ≡ false)
   apart' s y pinned lt inside met = ⊎_elim
-      (λ (live_before : s < p). (s, omega arith, lt, (r.put.outside s (inl live_before)).1 ∙ r.untouched s live_before))
+      (λ (below : s < p). (s, omega arith, lt, (r.put.outside s (inl below)).1 ∙ r.untouched s below))
       (λ (le : p ≤ s). ⊎_elim
       (λ (within : s < p + k). ⊎_elim
-      (λ (live_after : p < s). absurd (pinned-inside pinned live_after within))
+      (λ (above : p < s). absurd (pinned-inside pinned above within))
       (λ (first : s ≤ p). let at : s ≡ p = omega arith in at-first at pinned)
       (cases_lt p s))
       (λ (past : p + k ≤ s). let h = r.drafted.apart s y pinned lt inside met in (h.0, h.1, h.2, (r.put.outside h.0 (inr (let far = h.1 in omega arith))).1 ∙ h.3))
@@ -287,11 +287,11 @@ module _ (code : List Instr) (starts : List ℕ) (entered started : List Bool) (
       pinned-inside (inl none) a b = omega arith
       pinned-inside (inr start) a b = not-start s a b start
 
-      unmet : HasNoEffect entered started y → ⊥
+      unmet : IsFallThrough entered started y → ⊥
       unmet q = ⊎_elim (λ (e : IsLabelStart starts s × IsEntered code y). fail _ q.0 ((r.marks.are_entered y).1 e.1)) (λ (e : IsLabelStart starts y). fail _ q.1 ((r.marks.are_started y).1 e)) met
 
-      unmet-live_after : s ≡ p → y ≡ p + k → (slice_index_or started p false ≡ true → slice_index_or entered (p + k) false ≡ false) → slice_index_or started (p + k) false ≡ false → ⊥
-      unmet-live_after at e a b = ⊎_elim
+      unmet-end : s ≡ p → y ≡ p + k → (slice_index_or started p false ≡ true → slice_index_or entered (p + k) false ≡ false) → slice_index_or started (p + k) false ≡ false → ⊥
+      unmet-end at e a b = ⊎_elim
           (λ (m : IsLabelStart starts s × IsEntered code y). fail _ (ap (λ n. slice_index_or entered n false) e ∙ a (ap (λ n. slice_index_or started n false) (sym at) ∙ (r.marks.are_started s).1 m.0)) ((r.marks.are_entered y).1 m.1))
           (λ (m : IsLabelStart starts y). fail _ (ap (λ n. slice_index_or started n false) e ∙ b) ((r.marks.are_started y).1 m))
           met
@@ -302,12 +302,12 @@ module _ (code : List Instr) (starts : List ℕ) (entered started : List Bool) (
 
       at-first : s ≡ p → IsPinned starts s → (z : ℕ) × (s ≤ z) × (z < y) × (is_gone gone' z ≡ false)
       at-first at pin =
-          let b = r.may.live_after (flag at pin) in
+          let b = r.may.clear_end (flag at pin) in
           ⊎_elim
           (λ (far : p + k < y). (p + k, omega arith, far, (r.put.outside (p + k) (inr (omega arith))).1 ∙ b.2))
           (λ (near : y ≤ p + k). ⊎_elim
           (λ (in' : y < p + k). absurd (unmet ((r.may.open_ y (omega arith) in').1 (omega arith))))
-          (λ (end : p + k ≤ y). let e : y ≡ p + k = omega arith in absurd (unmet-live_after at e b.0 b.1))
+          (λ (end : p + k ≤ y). let e : y ≡ p + k = omega arith in absurd (unmet-end at e b.0 b.1))
           (cases_lt y (p + k)))
           (cases_lt (p + k) y)
 
@@ -398,9 +398,9 @@ module _ (code : List Instr) (starts : List ℕ) (entered started : List Bool) (
       let inside : p + k ≤ length draft = inside-len code starts entered started draft draft' gone gone' set p k as' r in
       let tsize = text-size code starts entered started draft draft' gone gone' set p k as' r in
       let psize = padded-size code starts entered started draft draft' gone gone' set p k as' r in
-      let live_before : draft ≡ spliced draft p k (text draft p k) = spliced-is draft p k (text draft p k) inside tsize draft refl (λ x o. refl) (λ d lt. sym (text-at draft p k d lt)) in
+      let old_text : draft ≡ spliced draft p k (text draft p k) = spliced-is draft p k (text draft p k) inside tsize draft refl (λ x o. refl) (λ d lt. sym (text-at draft p k d lt)) in
       let after : draft' ≡ spliced draft p k (padded p k as') = spliced-is draft p k (padded p k as') inside psize draft' r.put.size (λ x o. (r.put.outside x o).0) (λ d lt. put-in d lt) in
-      let m : moves draft starts ws ≡ moves_from 0 (take p draft) starts ws + (moves_from p (text draft p k) starts ws + moves_from (p + k) (drop (p + k) draft) starts ws) = ap (λ l. moves l starts ws) live_before ∙ spliced-moves draft p k (text draft p k) inside tsize starts ws in
+      let m : moves draft starts ws ≡ moves_from 0 (take p draft) starts ws + (moves_from p (text draft p k) starts ws + moves_from (p + k) (drop (p + k) draft) starts ws) = ap (λ l. moves l starts ws) old_text ∙ spliced-moves draft p k (text draft p k) inside tsize starts ws in
       let m' : moves draft' starts ws ≡ moves_from 0 (take p draft) starts ws + (moves_from p (padded p k as') starts ws + moves_from (p + k) (drop (p + k) draft) starts ws) = ap (λ l. moves l starts ws) after ∙ spliced-moves draft p k (padded p k as') inside psize starts ws in
       let w : ℕ = label_weight 1 starts ws p in
       let level : moves_from p (text draft p k) starts ws ≡ weights (text draft p k) * w = moves-level p w (text draft p k) starts ws (λ d lt. label-same (p + d) p 1 starts ws (λ s is. le-same s d (omega arith) is)) in

@@ -1,4 +1,4 @@
--- The three rules are sound.
+-- Three rules are sound.
 use Rattle.std.proofs.Common.{◌≡◌, ℕ, zero, suc, ◌<◌, ◌⊎◌, inl, inr, ⊎_elim, Bool, true, false, not, ◌&&◌, ◌||◌, List, [], ◌∷◌, length, get_or, set, Option, Some, None, nat_eq, if◌then◌else◌, refl, sym, ap, ◌∙◌, subst, arith, eqb-true, ltb-true}
 use Rattle.std.specs.Prelude.{nat_lt}
 use Rattle.std.proofs.lemmas.Bool.{false≢true}
@@ -25,11 +25,11 @@ use Rattle.uc_peep.specs.Sets.{has, AgreeOn}
 use Rattle.uc_peep.specs.Window.{IsText, IsShorter}
 use Rattle.uc_peep.specs.Needless.{has_register, is_wanted, has_flag, is_dead, is_same, is_idle, copies_back, dead_rule, idle_rule, back_rule}
 
-both : (a b : Bool) → (a && b) ≡ true → (a ≡ true) × (b ≡ true)
+pub both : (a b : Bool) → (a && b) ≡ true → (a ≡ true) × (b ≡ true)
 both true b h = (refl, h)
 both false b h = absurd (false≢true h)
 
-down : (a : Bool) → not a ≡ true → a ≡ false
+pub down : (a : Bool) → not a ≡ true → a ≡ false
 down true h = absurd (false≢true h)
 down false h = refl
 
@@ -50,7 +50,7 @@ flagless : (o : Option Register) → (is_some_register o Zero ≡ false) × (is_
 flagless (Some q) = (refl, refl)
 flagless None = (refl, refl)
 
-free : (d : Dst) (set : ℕ) (s : Resource) → is_wanted d set ≡ false → has set s ≡ true → is_target d s ≡ false
+pub free : (d : Dst) (set : ℕ) (s : Resource) → is_wanted d set ≡ false → has set s ≡ true → is_target d s ≡ false
 free d set (In r) w h = free-register (target_register d) set r w h
 free d set Zero w h = (flagless (target_register d)).0
 free d set Carry w h = (flagless (target_register d)).1
@@ -82,7 +82,7 @@ removed i set same = record {
   weight = omega arith;
 }
 
-given : (b : Bool) (l shorter : List Instr) → (if b then Some l else None) ≡ Some shorter → (b ≡ true) × (l ≡ shorter)
+pub given : (b : Bool) (l shorter : List Instr) → (if b then Some l else None) ≡ Some shorter → (b ≡ true) × (l ≡ shorter)
 given true l shorter e = (refl, let h : l ≡ shorter = cc in h)
 given false l shorter e = cc
 
@@ -99,7 +99,7 @@ dead_sound (i ∷ j ∷ ws) set shorter text e = cc
 -- ---- copies
 
 -- the register of a target and an operand that are the same one
-same-names : (d : Dst) (x : Src) → is_same d x ≡ true → target_register d ≡ Some (source_register x)
+pub same-names : (d : Dst) (x : Src) → is_same d x ≡ true → target_register d ≡ Some (source_register x)
 same-names (dst.A k) (src.A j) h = ap (λ n. Some (InA n)) (eqb-true k j (both _ _ h).0)
 same-names (dst.A k) (src.B j) h = absurd (false≢true h)
 same-names (dst.A k) (src.L j) h = absurd (false≢true h)
@@ -112,7 +112,7 @@ same-names (dst.S k) x h = absurd (false≢true h)
 same-names (dst.SD k) x h = absurd (false≢true h)
 same-names dst.Nowhere x h = absurd (false≢true h)
 
-same-there : (d : Dst) (x : Src) → is_same d x ≡ true → IsRegister (source_register x)
+pub same-there : (d : Dst) (x : Src) → is_same d x ≡ true → IsRegister (source_register x)
 same-there (dst.A k) (src.A j) h = let e : k ≡ j = eqb-true k j (both (nat_eq k j) (nat_lt k 16) h).0 in let lt : k < 16 = ltb-true k 16 (both (nat_eq k j) (nat_lt k 16) h).1 in omega arith
 same-there (dst.A k) (src.B j) h = absurd (false≢true h)
 same-there (dst.A k) (src.L j) h = absurd (false≢true h)

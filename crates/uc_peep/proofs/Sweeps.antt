@@ -32,11 +32,11 @@ put-set sets x new y P inside there other =
 
 pub sound-put : (code : List Instr) (sets : List ℕ) (x b new : ℕ) (d : Instr) → length sets ≡ length code → x < length sets → IsLiveBefore (get_or code x d) x sets b → ((s : Resource) → has new s ≡ (has (get_or sets x 0) s || has b s))
     → IsSound code sets → IsSound code (set sets x new)
-sound-put code sets x b new d same inside live_before either sound = λ y s h.
+sound-put code sets x b new d same inside needs_there either sound = λ y s h.
     put-set sets x new y (λ n. has n s ≡ true → Live code s y) inside
     (λ at there. subst (λ z. Live code s z) (sym at)
     (⊎_elim (λ (old : has (get_or sets x 0) s ≡ true). sound x s h old)
-    (λ (more : has b s ≡ true). needed-live code sets x (get_or code x d) s (slice_get-get_or code x d (subst (λ n. x < n) same inside)) h sound (live_before.only s h more))
+    (λ (more : has b s ≡ true). needed-live code sets x (get_or code x d) s (slice_get-get_or code x d (subst (λ n. x < n) same inside)) h sound (needs_there.only s h more))
     (or_cases (has (get_or sets x 0) s) (has b s) (sym (either s) ∙ there))))
     (sound y s h)
 
@@ -51,12 +51,12 @@ sum-rises sets x new old inside e le other = omega (arith, sum-put sets x new in
 
 pub covers-same : (code : List Instr) (sets : List ℕ) (x b new : ℕ) (d : Instr) → IsLiveBefore (get_or code x d) x sets b → ((s : Resource) → has new s ≡ (has (get_or sets x 0) s || has b s)) → new ≡ get_or sets x 0
     → (i : Instr) → slice_get code x ≡ Some i → Covers i x sets (get_or sets x 0)
-covers-same code sets x b new d live_before either same i at =
+covers-same code sets x b new d needs_there either same i at =
     let here : get_or code x d ≡ i = get_or_from_slice_get code x i d at in
     let old : (s : Resource) → has b s ≡ true → has (get_or sets x 0) s ≡ true = λ s t. ap (λ n. has n s) (sym same) ∙ either s ∙ ap (λ u. has (get_or sets x 0) s || u) t ∙ Rattle.std.proofs.Math.Bool.or-true (has (get_or sets x 0) s) in
     subst (λ j. Covers j x sets (get_or sets x 0)) here (record {
-      needs = λ s h r. old s (live_before.covers.needs s h r);
-      passes = λ s y h w n t. old s (live_before.covers.passes s y h w n t);
+      needs = λ s h r. old s (needs_there.covers.needs s h r);
+      passes = λ s y h w n t. old s (needs_there.covers.passes s y h w n t);
     })
 
 -- ---- all places
@@ -151,19 +151,19 @@ pub live-exactly : (code : List Instr) (sets : List ℕ) → IsSound code sets �
 live-exactly code sets sound closed x = λ s h. (λ t. sound x s h t, λ l. live-in code sets s x h closed l)
 
 pub updated-same : (code : List Instr) (sets : List ℕ) (x old b new : ℕ) (d : Instr) → old ≡ get_or sets x 0 → IsLiveBefore (get_or code x d) x sets b → ((s : Resource) → has new s ≡ (has old s || has b s)) → new ≡ old → IsUpdated code sets sets x false
-updated-same code sets x old b new d is live_before either same = record {
+updated-same code sets x old b new d is needs_there either same = record {
   size = refl;
   sound = λ h. h;
   small = λ h. h;
   rises = λ e. absurd (false≢true e);
-  covers = λ e. (refl, λ i at. covers-same code sets x b new d live_before (λ s. either s ∙ ap (λ n. has n s || has b s) is) (same ∙ is) i at);
+  covers = λ e. (refl, λ i at. covers-same code sets x b new d needs_there (λ s. either s ∙ ap (λ n. has n s || has b s) is) (same ∙ is) i at);
 }
 
 pub updated-more : (code : List Instr) (sets : List ℕ) (x old b new : ℕ) (d : Instr) → length sets ≡ length code → x < length sets → old ≡ get_or sets x 0 → IsLiveBefore (get_or code x d) x sets b → ((s : Resource) → has new s ≡ (has old s || has b s)) → old ≤ new → new < 2 ^ 128 → ¬ (new ≡ old)
     → IsUpdated code sets (set sets x new) x true
-updated-more code sets x old b new d same inside is live_before either most small other = record {
+updated-more code sets x old b new d same inside is needs_there either most small other = record {
   size = length-set sets x new;
-  sound = sound-put code sets x b new d same inside live_before (λ s. either s ∙ ap (λ n. has n s || has b s) is);
+  sound = sound-put code sets x b new d same inside needs_there (λ s. either s ∙ ap (λ n. has n s || has b s) is);
   small = small-put sets x new inside small;
   rises = λ e. sum-rises sets x new old inside is most other;
   covers = λ e. absurd (false≢true (sym e));
@@ -207,6 +207,9 @@ grown_none code sets = record { size = refl; sound = λ h. h; small = λ h. h }
 
 pub grown_more : (code : List Instr) (a b c : List ℕ) → IsGrown code a b → IsGrown code b c → IsGrown code a c
 grown_more code a b c x y = record { size = y.size ∙ x.size; sound = λ h. y.sound (x.sound h); small = λ h. y.small (x.small h) }
+
+pub grown_sweep : (code : List Instr) (sets sets' : List ℕ) → length sets' ≡ length sets → (IsSound code sets → IsSound code sets') → (AreSmall sets → AreSmall sets') → IsGrown code sets sets'
+grown_sweep code sets sets' size sound small = record { size = size; sound = sound; small = small }
 
 pub grown_update : (code : List Instr) (sets sets' : List ℕ) (x : ℕ) (rose : Bool) → IsUpdated code sets sets' x rose → IsGrown code sets sets'
 grown_update code sets sets' x rose u = record { size = u.size; sound = u.sound; small = u.small }

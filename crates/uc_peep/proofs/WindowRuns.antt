@@ -128,35 +128,35 @@ pub record AreOutside (sets : List ℕ) (p k : ℕ) (e e' : Engine) (ms : Memori
   pub agree : AgreeOn (get_or sets e.place 0) e e'
 
 -- the two inside, each with what it has still to do: the same is live after the window
-pub record AreWithin (code code' : List Instr) (live_after set : ℕ) (us vs : List Instr) (e e' : Engine) (ms : Memories) : Type 0 where
+pub record AreWithin (code code' : List Instr) (end_place set : ℕ) (us vs : List Instr) (e e' : Engine) (ms : Memories) : Type 0 where
   pub engine : IsEngine e
   pub engine' : IsEngine e'
   pub sizes : HasSizes ms
   pub place : e.place ≡ e'.place
   pub some : 1 ≤ length us
   pub even : length us ≡ length vs
-  pub rest : e.place + length us ≡ live_after
+  pub rest : e.place + length us ≡ end_place
   pub lies : Lies code e.place us
   pub lies' : Lies code' e'.place vs
   pub agree : AgreeOn set (along us e ms) (along vs e' ms)
 
 module _ (code code' : List Instr) (sets : List ℕ) (p : ℕ) (us vs : List Instr) (r : IsRewrite code code' sets p us vs) where
-  abbrev live_after : ℕ
-  live_after = p + length us
+  abbrev end_place : ℕ
+  end_place = p + length us
 
   abbrev pub Related : Engine → Engine → Memories → Type 0
-  Related e e' ms = AreOutside sets p (length us) e e' ms ⊎ ((is : List Instr) × (js : List Instr) × AreWithin code code' live_after (get_or sets live_after 0) is js e e' ms)
+  Related e e' ms = AreOutside sets p (length us) e e' ms ⊎ ((is : List Instr) × (js : List Instr) × AreWithin code code' end_place (get_or sets end_place 0) is js e e' ms)
 
   -- where the two come to from outside, or to the end of the window
-  arrive : (e e' : Engine) (ms : Memories) → IsEngine e → IsEngine e' → HasSizes ms → e.place ≡ e'.place → (e.place ≤ p) ⊎ (live_after ≤ e.place) → AgreeOn (get_or sets e.place 0) e e' → Related e e' ms
+  arrive : (e e' : Engine) (ms : Memories) → IsEngine e → IsEngine e' → HasSizes ms → e.place ≡ e'.place → (e.place ≤ p) ⊎ (end_place ≤ e.place) → AgreeOn (get_or sets e.place 0) e e' → Related e e' ms
   arrive e e' ms h h' sizes place (inr past) agree = inl (record { engine = h; engine' = h'; sizes = sizes; place = place; outside = inr past; agree = agree })
   arrive e e' ms h h' sizes place (inl upto) agree =
       ⊎_elim
       (λ (less : e.place < p). inl (record { engine = h; engine' = h'; sizes = sizes; place = place; outside = inl less; agree = agree }))
       (λ (least : p ≤ e.place). let at : e.place ≡ p = omega arith in
       let at' : e'.place ≡ p = sym place ∙ at in
-      let alike : AgreeOn (get_or sets live_after 0) (along us e ms) (along us e' ms) = agree-along code sets r.lawful r.closed us p e e' ms at at' h h' sizes r.lies r.straight (subst (λ n. AgreeOn (get_or sets n 0) e e') at agree) in
-      let same : AgreeOn (get_or sets live_after 0) (along us e' ms) (along vs e' ms) = r.same e' ms h' sizes in
+      let alike : AgreeOn (get_or sets end_place 0) (along us e ms) (along us e' ms) = agree-along code sets r.lawful r.closed us p e e' ms at at' h h' sizes r.lies r.straight (subst (λ n. AgreeOn (get_or sets n 0) e e') at agree) in
+      let same : AgreeOn (get_or sets end_place 0) (along us e' ms) (along vs e' ms) = r.same e' ms h' sizes in
       inr (
         us,
         vs,
@@ -220,10 +220,10 @@ module _ (code code' : List Instr) (sets : List ℕ) (p : ℕ) (us vs : List Ins
     access = ap (λ o. access o e) at ∙ on.access ∙ sym (ap (λ o. access o e') at' ∙ on'.access);
   }
 
-  in-on : (i j : Instr) (is js : List Instr) (e e' : Engine) (ms : Memories) → AreWithin code code' live_after (get_or sets live_after 0) (i ∷ is) (j ∷ js) e e' ms → IsOnward i e ms → IsOnward j e' ms → Related (effect i e ms).engine (effect j e' ms).engine ms
+  in-on : (i j : Instr) (is js : List Instr) (e e' : Engine) (ms : Memories) → AreWithin code code' end_place (get_or sets end_place 0) (i ∷ is) (j ∷ js) e e' ms → IsOnward i e ms → IsOnward j e' ms → Related (effect i e ms).engine (effect j e' ms).engine ms
   in-on i j [] [] e e' ms a on on' =
       let place : (effect i e ms).engine.place ≡ (effect j e' ms).engine.place = on.next ∙ ap suc a.place ∙ sym on'.next in
-      let end : (effect i e ms).engine.place ≡ live_after = let rest = a.rest in let next = on.next in omega arith in
+      let end : (effect i e ms).engine.place ≡ end_place = let rest = a.rest in let next = on.next in omega arith in
       inl (record {
         engine = keeps-engine i e ms (r.lawful e.place i a.lies.0) a.engine a.sizes;
         engine' = keeps-engine j e' ms (r.lawful' e'.place j a.lies'.0) a.engine' a.sizes;
@@ -251,7 +251,7 @@ module _ (code code' : List Instr) (sets : List ℕ) (p : ℕ) (us vs : List Ins
     },
   )
 
-  in-both : (is js : List Instr) (e e' : Engine) (ms : Memories) → AreWithin code code' live_after (get_or sets live_after 0) is js e e' ms → StepsAlike code code' ms e e' × Related (step code e ms).engine (step code' e' ms).engine (step code e ms).packet
+  in-both : (is js : List Instr) (e e' : Engine) (ms : Memories) → AreWithin code code' end_place (get_or sets end_place 0) is js e e' ms → StepsAlike code code' ms e e' × Related (step code e ms).engine (step code' e' ms).engine (step code e ms).packet
   in-both [] js e e' ms a = absurd (let some = a.some in omega arith)
   in-both (i ∷ is) [] e e' ms a = absurd (let even = a.even in omega arith)
   in-both (i ∷ is) (j ∷ js) e e' ms a =

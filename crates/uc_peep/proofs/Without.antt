@@ -1,14 +1,17 @@
 -- What is kept where windows are replaced by some of their instructions.
 use Rattle.std.proofs.Common.{◌≡◌, ℕ, ◌⊎◌, inl, inr, Bool, true, false, List, [], ◌∷◌, ◌++◌, map, Option, Some, None, if◌then◌else◌, refl, sym, ap, subst}
 use Rattle.std.proofs.lemmas.Bool.{false≢true}
+use Rattle.nv_base.specs.declared.term.Bin.TheVariants.{Add, Sub, And, Or, Xor}
+use Rattle.uc_isa.specs.declared.instruction.Src.{Src}
+use Rattle.uc_isa.specs.declared.instruction.Dst.TheVariants as dst
 use Rattle.uc_isa.specs.declared.instruction.Instr.{Instr}
 use Rattle.uc_isa.specs.declared.instruction.Instr.TheVariants.{Alu, Un, Immed, Br, Read, Write, Halt}
 use Rattle.uc_isa.specs.declared.instruction.UnOp.TheVariants.{Copy, Not, Shl, Shr, Rol}
 use Rattle.uc_peep.specs.Kept.{compacted, kept_of}
-use Rattle.uc_peep.specs.Needless.{dead_rule, idle_rule, back_rule, is_dead, is_idle, copies_back}
-use Rattle.uc_peep.specs.Rewrites.{Answers, Rewrites, IsWithout}
+use Rattle.uc_peep.specs.Needless.{dead_rule, idle_rule, back_rule, zero_rule, is_dead, is_idle, copies_back, compares_zero, tested}
+use Rattle.uc_peep.specs.Rewrites.{Answers, Rewrites, IsWithout, Compares}
 use Rattle.uc_peep.specs.Rewrites.Rewrites.{Same, Replaced, Relocated, InTurn}
-use Rattle.uc_peep.specs.Rewrites.IsWithout.{Nothing, Gone, Stays}
+use Rattle.uc_peep.specs.Rewrites.IsWithout.{Nothing, Gone, Tested, Stays}
 use Rattle.uc_peep.specs.Rules.{IsSomeOf}
 use Rattle.uc_executions.specs.Relocated.{relocated}
 use Rattle.uc_executions.specs.StraightCode.{IsStraight}
@@ -46,6 +49,24 @@ straight-relocated f (Read m r n x off) h = absurd h
 straight-relocated f (Write m r n x off) h = absurd h
 straight-relocated f (Halt k n) h = absurd h
 
+pub compares-straight : (x : Src) (i : Instr) → Compares x i → IsStraight i
+compares-straight x (Alu d op y z) h = tt
+compares-straight x (Un d op y) h = tt
+compares-straight x (Immed d v k) h = tt
+compares-straight x (Br cond target) h = absurd h
+compares-straight x (Read m r n y off) h = absurd h
+compares-straight x (Write m r n y off) h = absurd h
+compares-straight x (Halt k n) h = absurd h
+
+compares-relocated : (f : ℕ → ℕ) (x : Src) (i : Instr) → Compares x (relocated f i) → Compares x i
+compares-relocated f x (Alu d op y z) h = h
+compares-relocated f x (Un d op y) h = absurd h
+compares-relocated f x (Immed d v k) h = absurd h
+compares-relocated f x (Br cond target) h = absurd h
+compares-relocated f x (Read m r n y off) h = absurd h
+compares-relocated f x (Write m r n y off) h = absurd h
+compares-relocated f x (Halt k n) h = absurd h
+
 stays : (i : Instr) (code code' : List Instr) → IsWithout code code' → IsWithout (i ∷ code) (i ∷ code')
 stays i code code' h = subst (λ j. IsWithout (i ∷ code) (j ∷ code')) (relocated-nowhere i) (Stays (λ x. x) i code code' h)
 
@@ -64,11 +85,16 @@ without-front (i ∷ front) code code' h = stays i (front ++ code) (front ++ cod
 without-both : (a a' b : List Instr) → IsWithout a a' → IsWithout (a ++ b) (a' ++ b)
 without-both a a' b Nothing = without-none b
 without-both a a' b (Gone i code code' straight h) = Gone i (code ++ b) (code' ++ b) straight (without-both code code' b h)
+without-both a a' b (Tested i x code code' compares h) = Tested i x (code ++ b) (code' ++ b) compares (without-both code code' b h)
 without-both a a' b (Stays f i code code' h) = Stays f i (code ++ b) (code' ++ b) (without-both code code' b h)
 
 without-trans : (a b c : List Instr) → IsWithout a b → IsWithout b c → IsWithout a c
 without-trans a b c Nothing g = g
 without-trans a b c (Gone i code code' straight h) g = Gone i code c straight (without-trans code code' c h g)
+without-trans a b c (Tested i x code code' compares h) (Gone j more more' straight g) = Gone i code more' (compares-straight x i compares) (without-trans code code' more' h g)
+without-trans a b c (Tested i x code code' compares h) (Tested j y more more' again g) = absurd again
+without-trans a b c (Tested i x code code' compares h) (Stays f j more more' g) = Tested i x code more' compares (without-trans code code' more' h g)
+without-trans a b c (Stays f i code code' h) (Tested j x more more' compares g) = Tested i x code more' (compares-relocated f x i compares) (without-trans code code' more' h g)
 without-trans a b c (Stays f i code code' h) (Gone j more more' straight g) = Gone i code more' (straight-relocated f i straight) (without-trans code code' more' h g)
 without-trans a b c (Stays f i code code' h) (Stays f' j more more' g) =
     subst (λ j. IsWithout (i ∷ code) (j ∷ more')) (relocated-twice f f' i) (Stays (λ x. f' (f x)) i code more' (without-trans code code' more' h g))
@@ -79,7 +105,7 @@ rewrites-without A f a b (Replaced front window shorter rest set answer) = witho
 rewrites-without A f a b (Relocated to code) = without-relocated to code
 rewrites-without A f a b (InTurn first second third h g) = without-trans first second third (rewrites-without A f first second h) (rewrites-without A f second third g)
 
--- ---- the three rules
+-- ---- the four rules
 
 dead-straight : (i : Instr) (set : ℕ) → is_dead i set ≡ true → IsStraight i
 dead-straight (Alu d op x y) set h = tt
@@ -145,15 +171,49 @@ back-without (i ∷ j ∷ []) set shorter h =
     subst (IsWithout (i ∷ j ∷ [])) t.1 (stays i (j ∷ []) [] (Gone j [] [] (copies-straight i j t.0) Nothing))
 back-without (i ∷ j ∷ k ∷ ws) set shorter h = absurd cc
 
-pub needless-without : (A B C : Answers) (code code' : List Instr)
+compared-without : (i j : Instr) (set : ℕ) → compares_zero i j set ≡ true → IsWithout (i ∷ j ∷ []) (tested j ∷ [])
+compared-without (Immed d v k) (Alu dst.Nowhere Sub x y) set h = Gone (Immed d v k) (Alu dst.Nowhere Sub x y ∷ []) (Un dst.Nowhere Copy x ∷ []) tt (Tested (Alu dst.Nowhere Sub x y) x [] [] refl Nothing)
+compared-without (Immed d v k) (Alu dst.Nowhere Add x y) set h = absurd (false≢true h)
+compared-without (Immed d v k) (Alu dst.Nowhere And x y) set h = absurd (false≢true h)
+compared-without (Immed d v k) (Alu dst.Nowhere Or x y) set h = absurd (false≢true h)
+compared-without (Immed d v k) (Alu dst.Nowhere Xor x y) set h = absurd (false≢true h)
+compared-without (Immed d v k) (Alu (dst.A r) op x y) set h = absurd (false≢true h)
+compared-without (Immed d v k) (Alu (dst.B r) op x y) set h = absurd (false≢true h)
+compared-without (Immed d v k) (Alu (dst.S r) op x y) set h = absurd (false≢true h)
+compared-without (Immed d v k) (Alu (dst.SD r) op x y) set h = absurd (false≢true h)
+compared-without (Immed d v k) (Un d' op x) set h = absurd (false≢true h)
+compared-without (Immed d v k) (Immed d' v' k') set h = absurd (false≢true h)
+compared-without (Immed d v k) (Br b t) set h = absurd (false≢true h)
+compared-without (Immed d v k) (Read m r n y off) set h = absurd (false≢true h)
+compared-without (Immed d v k) (Write m r n y off) set h = absurd (false≢true h)
+compared-without (Immed d v k) (Halt m n) set h = absurd (false≢true h)
+compared-without (Alu d op x y) j set h = absurd (false≢true h)
+compared-without (Un d op x) j set h = absurd (false≢true h)
+compared-without (Br b t) j set h = absurd (false≢true h)
+compared-without (Read m r n y off) j set h = absurd (false≢true h)
+compared-without (Write m r n y off) j set h = absurd (false≢true h)
+compared-without (Halt m n) j set h = absurd (false≢true h)
+
+zero-without : (ws : List Instr) (set : ℕ) (shorter : List Instr) → zero_rule ws set ≡ Some shorter → IsWithout ws shorter
+zero-without [] set shorter h = absurd cc
+zero-without (i ∷ []) set shorter h = absurd cc
+zero-without (i ∷ j ∷ []) set shorter h =
+    let t = if-some (compares_zero i j set) (tested j ∷ []) shorter h in
+    subst (IsWithout (i ∷ j ∷ [])) t.1 (compared-without i j set t.0)
+zero-without (i ∷ j ∷ k ∷ ws) set shorter h = absurd cc
+
+pub needless-without : (A B C D : Answers) (code code' : List Instr)
     → ((ws : List Instr) (set : ℕ) (o : Option (List Instr)) → A ws set o → o ≡ dead_rule ws set)
     → ((ws : List Instr) (set : ℕ) (o : Option (List Instr)) → B ws set o → o ≡ idle_rule ws set)
     → ((ws : List Instr) (set : ℕ) (o : Option (List Instr)) → C ws set o → o ≡ back_rule ws set)
-    → Rewrites (λ ws set o. (IsSomeOf o × A ws set o) ⊎ (A ws set None × ((IsSomeOf o × B ws set o) ⊎ (B ws set None × C ws set o)))) code code'
+    → ((ws : List Instr) (set : ℕ) (o : Option (List Instr)) → D ws set o → o ≡ zero_rule ws set)
+    → Rewrites (λ ws set o. (IsSomeOf o × A ws set o) ⊎ (A ws set None × ((IsSomeOf o × B ws set o) ⊎ (B ws set None × ((IsSomeOf o × C ws set o) ⊎ (C ws set None × D ws set o)))))) code code'
     → IsWithout code code'
-needless-without A B C code code' f g h = rewrites-without _ each code code'
+needless-without A B C D code code' f g h d = rewrites-without _ each code code'
   where
-    each : (ws : List Instr) (set : ℕ) (shorter : List Instr) → (IsSomeOf (Some shorter) × A ws set (Some shorter)) ⊎ (A ws set None × ((IsSomeOf (Some shorter) × B ws set (Some shorter)) ⊎ (B ws set None × C ws set (Some shorter)))) → IsWithout ws shorter
+    each : (ws : List Instr) (set : ℕ) (shorter : List Instr)
+        → (IsSomeOf (Some shorter) × A ws set (Some shorter)) ⊎ (A ws set None × ((IsSomeOf (Some shorter) × B ws set (Some shorter)) ⊎ (B ws set None × ((IsSomeOf (Some shorter) × C ws set (Some shorter)) ⊎ (C ws set None × D ws set (Some shorter)))))) → IsWithout ws shorter
     each ws set shorter (inl a) = dead-without ws set shorter (sym (f ws set (Some shorter) a.1))
     each ws set shorter (inr (a, inl b)) = idle-without ws set shorter (sym (g ws set (Some shorter) b.1))
-    each ws set shorter (inr (a, inr (b, c))) = back-without ws set shorter (sym (h ws set (Some shorter) c))
+    each ws set shorter (inr (a, inr (b, inl c))) = back-without ws set shorter (sym (h ws set (Some shorter) c.1))
+    each ws set shorter (inr (a, inr (b, inr (c, z)))) = zero-without ws set shorter (sym (d ws set (Some shorter) z))

@@ -32,23 +32,23 @@ pub record IsOpen (code : List Instr) (gone : List Bool) (x : ℕ) : Type 0 wher
   pub kept : is_gone gone x ≡ false
 
 -- nothing leads to the place but the one before it
-abbrev pub HasNoEffect : List Bool → List Bool → ℕ → Type 0
-HasNoEffect entered started y = (slice_index_or entered y false ≡ false) × (slice_index_or started y false ≡ false)
+abbrev pub IsFallThrough : List Bool → List Bool → ℕ → Type 0
+IsFallThrough entered started y = (slice_index_or entered y false ≡ false) × (slice_index_or started y false ≡ false)
 
--- the places from p up to an end are open, and those behind p quiet
+-- the places from p up to an end are open, and only the place before leads to each but p
 abbrev pub AreOpen : List Instr → List Bool → List Bool → List Bool → ℕ → ℕ → Type 0
-AreOpen code gone entered started p end' = (x : ℕ) → p ≤ x → x < end' → IsOpen code gone x × (p < x → HasNoEffect entered started x)
+AreOpen code gone entered started p end' = (x : ℕ) → p ≤ x → x < end' → IsOpen code gone x × (p < x → IsFallThrough entered started x)
 
 -- where a label or the run begins at p, the place behind is kept and no label starts there; where a label begins, no branch leads there
-abbrev pub IsDeadAfter : List Bool → List Bool → List Bool → ℕ → ℕ → Type 0
-IsDeadAfter gone entered started p end' = (p ≡ 0) ⊎ (slice_index_or started p false ≡ true)
+abbrev pub IsEndClear : List Bool → List Bool → List Bool → ℕ → ℕ → Type 0
+IsEndClear gone entered started p end' = (p ≡ 0) ⊎ (slice_index_or started p false ≡ true)
     → (slice_index_or started p false ≡ true → slice_index_or entered end' false ≡ false) × (slice_index_or started end' false ≡ false) × (is_gone gone end' ≡ false)
 
 -- k instructions from p on may be replaced
 pub record MayReplace (code : List Instr) (gone entered started : List Bool) (p k : ℕ) : Type 0 where
   pub inside : p + k < length code
   pub open_ : AreOpen code gone entered started p (p + k)
-  pub live_after : IsDeadAfter gone entered started p (p + k)
+  pub clear_end : IsEndClear gone entered started p (p + k)
 
 -- the second code is the first with others in the place of k instructions from p on, and fillers for those that are gone
 pub record IsPut (p k : ℕ) (shorter code code' : List Instr) (gone gone' : List Bool) : Type 0 where

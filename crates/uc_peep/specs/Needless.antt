@@ -1,4 +1,4 @@
--- Needless instructions: three rules, as functions, and code in which none of them has an answer.
+-- Needless instructions: four rules, as functions, and code in which none of them has an answer.
 use Rattle.std.specs.Prelude.{◌≡◌, ◌+◌, ℕ, take, drop, Bool, false, not, ◌&&◌, ◌||◌, nat_eq, nat_lt, List, [], ◌∷◌, Option, Some, None, if◌then◌else◌}
 use Rattle.uc_isa.specs.declared.instruction.Dst.{Dst}
 use Rattle.uc_isa.specs.declared.instruction.Dst.TheVariants as dst
@@ -7,6 +7,7 @@ use Rattle.uc_isa.specs.declared.instruction.Src.TheVariants as src
 use Rattle.uc_isa.specs.declared.instruction.Instr.{Instr}
 use Rattle.uc_isa.specs.declared.instruction.Instr.TheVariants.{Alu, Un, Immed}
 use Rattle.uc_isa.specs.declared.instruction.UnOp.TheVariants.{Copy}
+use Rattle.nv_base.specs.declared.term.Bin.TheVariants.{Sub}
 use Rattle.uc_isa.specs.Registers.{Register, target_register}
 use Rattle.uc_executions.specs.Resources.Resource.{In, Zero, Carry}
 use Rattle.uc_peep.specs.Sets.{has}
@@ -48,6 +49,16 @@ abbrev pub copies_back : Instr → Instr → Bool
 copies_back (Un d Copy x) (Un d' Copy x') = is_same d x' && is_same d' x
 copies_back _ _ = false
 
+-- the second compares with the zero that the first puts, which nothing else needs, and only whether they are equal is asked
+abbrev pub compares_zero : Instr → Instr → ℕ → Bool
+compares_zero (Immed d v k) (Alu dst.Nowhere Sub x y) set = nat_eq v 0 && (is_same d y && (not (is_wanted d set) && not (has set Carry)))
+compares_zero _ _ set = false
+
+-- a copy that only tests the first operand of an operation on two words
+abbrev pub tested : Instr → Instr
+tested (Alu d op x y) = Un dst.Nowhere Copy x
+tested i = i
+
 abbrev pub dead_rule : List Instr → ℕ → Option (List Instr)
 dead_rule (i ∷ []) set = if is_dead i set then Some [] else None
 dead_rule _ set = None
@@ -60,7 +71,12 @@ abbrev pub back_rule : List Instr → ℕ → Option (List Instr)
 back_rule (i ∷ j ∷ []) set = if copies_back i j then Some (i ∷ []) else None
 back_rule _ set = None
 
--- at no window any of the three rules has an answer, asked with exactly what is live after the window
+abbrev pub zero_rule : List Instr → ℕ → Option (List Instr)
+zero_rule (i ∷ j ∷ []) set = if compares_zero i j set then Some (tested j ∷ []) else None
+zero_rule _ set = None
+
+-- at no window any of the four rules has an answer, asked with exactly what is live after the window
 abbrev pub HasNoNeedless : List Instr → List ℕ → Type 0
 HasNoNeedless code starts = (p k : ℕ) → IsWindow code starts p k
     → (set : ℕ) × IsLiveAt code (p + k) set × (dead_rule (take k (drop p code)) set ≡ None) × (idle_rule (take k (drop p code)) set ≡ None) × (back_rule (take k (drop p code)) set ≡ None)
+    × (zero_rule (take k (drop p code)) set ≡ None)

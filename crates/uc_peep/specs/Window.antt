@@ -43,7 +43,7 @@ pub record IsWindow (code : List Instr) (starts : List ℕ) (p k : ℕ) : Type 0
   pub inside : p + k ≤ length code
   pub straight : All IsStraight (take k (drop p code))
   pub interior : (y : ℕ) → p < y → y < p + k → (¬ IsEntered code y) × (¬ IsLabelStart starts y)
-  pub live_after : (IsLabelStart starts p → ¬ IsEntered code (p + k)) × (IsPinned starts p → ¬ IsLabelStart starts (p + k))
+  pub clear_end : (IsLabelStart starts p → ¬ IsEntered code (p + k)) × (IsPinned starts p → ¬ IsLabelStart starts (p + k))
 
 -- what stands where an instruction was: the engine goes on to the next place
 abbrev pub filler : ℕ → Instr

@@ -25,7 +25,7 @@ pub fn counts(alloc: Global, gone: &[bool]) -> Result<Vec<u32>, AllocError>
     ensures size { IfOk result (λ v. length v.items ≡ length gone.now + 1) }
     ensures counts { IfOk result (λ v. (x : ℕ) → x ≤ length gone.now → slice_index v.items x ≡ kept_before gone.now x) }
 {
-    let mut v = Vec::new(alloc);
+    let mut v = Vec::with_capacity(alloc, gone.len() + 1)?;
     let mut n = 0;
     for g in gone {
         v.push(n)?;
@@ -60,7 +60,7 @@ pub fn compact(
     requires targets { All (Rule5 (length counts.now)) code.now }
     ensures { IfOk result (λ v. v.items ≡ compacted (λ x. slice_index counts.now x) gone.now code.now) }
 {
-    let mut v = Vec::new(alloc);
+    let mut v = Vec::with_capacity(alloc, code.len())?;
     for x in 0..code.len() {
         if !gone[x] {
             v.push(relocate(&code[x], counts))?;

@@ -11,6 +11,7 @@ mod peephole;
 mod shorter_code;
 mod window;
 mod windows;
+mod zero_tests;
 
 pub use live_set::LiveSet;
 pub use liveness::live;

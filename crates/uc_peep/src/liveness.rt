@@ -140,7 +140,7 @@ pub(crate) fn update(code: &[Instr], sets: &mut [LiveSet], x: usize) -> bool
 }
 
 // Updates all sets, from the last place to the first, and says whether any rose.
-fn sweep(code: &[Instr], sets: &mut [LiveSet]) -> bool
+pub(crate) fn sweep(code: &[Instr], sets: &mut [LiveSet]) -> bool
     requires lawful { IsProgram code.now }
     requires length { length sets.old ≡ length code.now }
     ensures sound { IsSound code.now sets.old → IsSound code.now sets.new }

@@ -1,4 +1,4 @@
-//! Needless instructions, by three rules.
+//! Needless instructions, by four rules.
 
 ghost use Rattle.std.specs.Prelude.{◌≡◌, ◌&&◌, ◌||◌, ◌↔◌, not, ℕ, true, false, List, Option, Some, None, IfOk};
 ghost use Rattle.uc_isa.specs.Agrees.{Agrees, SourceMeaning};
@@ -11,6 +11,7 @@ ghost use Rattle.uc_peep.specs.Needless.{HasNoNeedless, back_rule, dead_rule, ha
 
 use crate::peephole::{Peeped, peep};
 use crate::window::{Pair, WindowRule};
+use crate::zero_tests::zero;
 use crate::{LiveSet, Shorter};
 use nv_base::NoMemory;
 use std::alloc::Global;
@@ -34,7 +35,7 @@ fn is_dead(i: &Instr, after: &LiveSet) -> bool
     }
 }
 
-fn is_same(d: &Dst, x: &Src) -> bool
+pub(crate) fn is_same(d: &Dst, x: &Src) -> bool
     ensures { result ≡ is_same d.now x.now }
 {
     match (d, x) {
@@ -108,7 +109,8 @@ fn back(w: &[Instr], after: &LiveSet) -> Option<Shorter>
 }
 
 /// The code without needless instructions: an operation whose result and flags aren't live, a copy of a register onto
-/// itself where no flag is live, and a copy back of what was just copied. It does what it did, as `peep` says.
+/// itself where no flag is live, a copy back of what was just copied, and a zero that is only compared with. It does
+/// what it did, as `peep` says.
 pub fn without_needless(alloc: Global, c: Code, starts: Vec<u32>) -> Result<Peeped, NoMemory>
     requires lawful { IsLawful c.list }
     requires starts { AreInside c.list starts.items }
@@ -122,11 +124,15 @@ pub fn without_needless(alloc: Global, c: Code, starts: Vec<u32>) -> Result<Peep
     let deads = WindowRule::new(|w: &[Instr], after: &LiveSet| dead(w, after));
     let idles = WindowRule::new(|w: &[Instr], after: &LiveSet| idle(w, after));
     let backs = WindowRule::new(|w: &[Instr], after: &LiveSet| back(w, after));
+    let zeros = WindowRule::new(|w: &[Instr], after: &LiveSet| zero(w, after));
     let rules = Pair {
         first: deads,
         second: Pair {
             first: idles,
-            second: backs,
+            second: Pair {
+                first: backs,
+                second: zeros,
+            },
         },
     };
     peep(alloc, c, starts, &rules)

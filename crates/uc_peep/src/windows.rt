@@ -3,7 +3,7 @@
 ghost use Rattle.std.specs.Prelude.{◌≡◌, ◌+◌, ◌<◌, ◌≤◌, ◌↔◌, ℕ, List, true, false, Some, None, IfSome, IfNone, OnSome, IsTrue, length, take, drop, slice_get, slice_index, slice_index_or};
 ghost use Rattle.uc_isa.specs.declared.instruction.Instr.{Instr};
 ghost use Rattle.uc_executions.specs.Program.{IsFormed, IsProgram};
-ghost use Rattle.uc_peep.specs.Draft.{AreOpen, IsDeadAfter, IsOpen, IsPut, HasNoEffect, MayReplace};
+ghost use Rattle.uc_peep.specs.Draft.{AreOpen, IsEndClear, IsOpen, IsPut, IsFallThrough, MayReplace};
 ghost use Rattle.uc_peep.specs.Kept.{is_gone};
 ghost use Rattle.uc_peep.specs.Window.{IsShorter, IsText};
 ghost use Rattle.uc_executions.specs.StraightCode.{IsStraight};
@@ -31,47 +31,50 @@ fn is_open(code: &[Instr], gone: &[bool], x: usize) -> bool
 }
 
 // Whether nothing leads to the place but the one before it.
-fn has_no_effect(entered: &[bool], started: &[bool], y: usize) -> bool
+fn is_fall_through(entered: &[bool], started: &[bool], y: usize) -> bool
     requires inside { y < length entered.now }
     requires inside_too { y < length started.now }
-    ensures { IsTrue result ↔ HasNoEffect entered.now started.now y }
+    ensures { IsTrue result ↔ IsFallThrough entered.now started.now y }
 {
     !entered[y] && !started[y]
 }
 
-// Whether the places from p up to an end are open, and those behind p quiet.
-fn are_open(
+// Whether the place after n open ones from p on is open too, and before another one.
+fn is_open_after(
     code: &[Instr],
     gone: &[bool],
     entered: &[bool],
     started: &[bool],
     p: usize,
-    end: usize,
+    n: usize,
 ) -> bool
     requires size { length gone.now ≡ length code.now }
     requires entered { length entered.now ≡ length code.now }
     requires started { length started.now ≡ length code.now }
-    requires inside { end ≤ length code.now }
-    ensures { IsTrue result ↔ AreOpen code.now gone.now entered.now started.now p end }
+    requires small { length code.now < 2147483648 }
+    requires few { n < 4 }
+    requires inside { p < length code.now }
+    requires open_ { AreOpen code.now gone.now entered.now started.now p (p + n) }
+    ensures yes { result ≡ true → (p + (n + 1) < length code.now) × AreOpen code.now gone.now entered.now started.now p (p + (n + 1)) }
+    ensures no { result ≡ false → (k : ℕ) → n < k → ¬ MayReplace code.now gone.now entered.now started.now p k }
 {
-    for x in p..end {
-        if !is_open(code, gone, x) {
-            return false;
-        }
-        if x > p && !has_no_effect(entered, started, x) {
-            return false;
-        }
+    let x = p + n;
+    if x + 1 >= code.len() {
+        return false;
     }
-    true
+    if !is_open(code, gone, x) {
+        return false;
+    }
+    n == 0 || is_fall_through(entered, started, x)
 }
 
 // Whether the place after a window is as it must be where a label starts at the window's first place.
-fn is_dead_after(gone: &[bool], entered: &[bool], started: &[bool], p: usize, end: usize) -> bool
+fn is_end_clear(gone: &[bool], entered: &[bool], started: &[bool], p: usize, end: usize) -> bool
     requires entered { length entered.now ≡ length gone.now }
     requires started { length started.now ≡ length gone.now }
     requires first { p < length gone.now }
     requires inside { end < length gone.now }
-    ensures { IsTrue result ↔ IsDeadAfter gone.now entered.now started.now p end }
+    ensures { IsTrue result ↔ IsEndClear gone.now entered.now started.now p end }
 {
     if p != 0 && !started[p] {
         return true;
@@ -79,31 +82,7 @@ fn is_dead_after(gone: &[bool], entered: &[bool], started: &[bool], p: usize, en
     !(started[p] && entered[end]) && !started[end] && !gone[end]
 }
 
-// Whether k instructions from p on may be replaced.
-fn may_replace(
-    code: &[Instr],
-    gone: &[bool],
-    entered: &[bool],
-    started: &[bool],
-    p: usize,
-    k: usize,
-) -> bool
-    requires size { length gone.now ≡ length code.now }
-    requires entered { length entered.now ≡ length code.now }
-    requires started { length started.now ≡ length code.now }
-    requires few { k ≤ 4 }
-    requires inside { p < length code.now }
-    requires small { length code.now < 2147483648 }
-    ensures { IsTrue result ↔ MayReplace code.now gone.now entered.now started.now p k }
-{
-    if p + k >= code.len() {
-        return false;
-    }
-    are_open(code, gone, entered, started, p, p + k)
-        && is_dead_after(gone, entered, started, p, p + k)
-}
-
-// The rule's answer for k instructions from p on, where they may be replaced.
+// The rule's answer for k open places from p on, where they may be replaced.
 fn ask<R: Window>(
     r: &R,
     code: &[Instr],
@@ -120,14 +99,15 @@ fn ask<R: Window>(
     requires entered { length entered.now ≡ length code.now }
     requires started { length started.now ≡ length code.now }
     requires sets { length sets.now ≡ length code.now }
-    requires inside { p < length code.now }
+    requires inside { p + k < length code.now }
+    requires open_ { AreOpen code.now gone.now entered.now started.now p (p + k) }
     requires small { length code.now < 2147483648 }
     requires some { 1 ≤ k }
     requires few { k ≤ 4 }
     ensures some { IfSome result (λ a. MayReplace code.now gone.now entered.now started.now p k × IsShorter (take k (drop p code.now)) (slice_index sets.now (p + k)) a × R.answers r.now (take k (drop p code.now)) (slice_index sets.now (p + k)) (Some a)) }
     ensures none { IfNone result (MayReplace code.now gone.now entered.now started.now p k → R.answers r.now (take k (drop p code.now)) (slice_index sets.now (p + k)) None) }
 {
-    if !may_replace(code, gone, entered, started, p, k) {
+    if !is_end_clear(gone, entered, started, p, p + k) {
         return None;
     }
     let w = &code[p..p + k];
@@ -156,9 +136,12 @@ pub fn shorter_at<R: Window>(
     ensures some { IfSome result (λ t. (1 ≤ t.0) × MayReplace code.now gone.now entered.now started.now p t.0 × IsShorter (take t.0 (drop p code.now)) (slice_index sets.now (p + t.0)) t.1 × R.answers r.now (take t.0 (drop p code.now)) (slice_index sets.now (p + t.0)) (Some t.1)) }
     ensures none { IfNone result ((k : ℕ) → 1 ≤ k → k < 5 → MayReplace code.now gone.now entered.now started.now p k → R.answers r.now (take k (drop p code.now)) (slice_index sets.now (p + k)) None) }
 {
-    for k in 1..5 {
-        if let Some(a) = ask(r, code, gone, entered, started, sets, p, k) {
-            return Some((k, a));
+    for n in 0..4 {
+        if !is_open_after(code, gone, entered, started, p, n) {
+            return None;
+        }
+        if let Some(a) = ask(r, code, gone, entered, started, sets, p, n + 1) {
+            return Some((n + 1, a));
         }
     }
     None

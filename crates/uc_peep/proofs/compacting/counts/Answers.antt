@@ -5,7 +5,7 @@ use Rattle.uc_peep.proofs.compacting.counts.Goals as goal
 
 pub loop-g-init : goal.loop-g-init
 loop-g-init c = record {
-  size = ap length c.new-v.ensures.items;
+  size = ap length c.in_ok-v.ensures.items;
   so_far = λ x lt. absurd (omega arith);
   here = sym (kept-zero c.args.gone.now);
   few = omega arith;
