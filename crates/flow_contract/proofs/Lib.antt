@@ -1,0 +1,9 @@
+pub mod Lookup
+pub mod Naming
+pub mod Landing
+pub mod Formed
+pub mod Narrow
+pub mod Whole
+pub mod Walk
+pub mod Counting
+pub mod Testing

@@ -1,0 +1,2 @@
+pub mod Contracted
+pub mod inner

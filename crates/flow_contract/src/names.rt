@@ -1,0 +1,184 @@
+// Which operand stands for each variable, and how that is given up again.
+
+ghost use Rattle.std.specs.Prelude.{◌≡◌, ◌+◌, ◌++◌, ◌∷◌, [], OnOk, IfOk, length};
+ghost use Rattle.std.specs.List.{range_with_len};
+ghost use Rattle.cps_rules.specs.Substitution as substitution;
+ghost use Rattle.cps_rules.specs.Substitution.{all_renamed, prim_renamed};
+ghost use Rattle.cps_rules.specs.inner.Way.{look, IsNamed};
+ghost use Rattle.nv_base.specs.declared.term.Atom.TheVariants.{Var};
+ghost use Rattle.flow_contract.specs.inner.Copied as inner;
+ghost use Rattle.flow_contract.specs.inner.Copied.{numbered, all_named, undone};
+
+use nv_base::{Args, Atom, NoMemory, Prim};
+use std::alloc::Global;
+
+// What stands for a variable.
+fn stands(names: &[Atom], x: u32) -> Atom
+    ensures { result ≡ look names.now x }
+{
+    let i = x as usize;
+    if i < names.len() {
+        names[i]
+    } else {
+        Atom::Lit(0)
+    }
+}
+
+// From now on `a` stands for `x`.
+fn name(names: &mut Vec<Atom>, x: u32, a: Atom) -> Result<(), NoMemory>
+    ensures { OnOk result (IsNamed (look names.old.items) x a (look names.new.items)) }
+{
+    let i = x as usize;
+    while names.len() <= i {
+        names.push(Atom::Lit(0))?;
+    }
+    names[i] = a;
+    Ok(())
+}
+
+/// The same, and what stood for it is saved.
+pub fn set(
+    names: &mut Vec<Atom>,
+    saved: &mut Vec<(u32, Atom)>,
+    x: u32,
+    a: Atom,
+) -> Result<(), NoMemory>
+    ensures names { OnOk result (look names.new.items ≡ inner.named (look names.old.items) x a) }
+    ensures saved { OnOk result (undone saved.new.items (look names.new.items) ≡ undone saved.old.items (look names.old.items)) }
+{
+    let old = stands(names, x);
+    saved.push((x, old))?;
+    name(names, x, a)
+}
+
+/// What was saved stands for its variables again.
+pub fn restore(names: &mut Vec<Atom>, mut saved: Vec<(u32, Atom)>) -> Result<(), NoMemory>
+    ensures { OnOk result (look names.new.items ≡ undone saved.items (look names.old.items)) }
+{
+    while let Some(s) = saved.pop() {
+        name(names, s.0, s.1)?;
+    }
+    Ok(())
+}
+
+/// The next number.
+pub fn take(fresh: &mut u32) -> Result<u32, NoMemory>
+    ensures first { IfOk result (λ n. n ≡ fresh.old) }
+    ensures next { IfOk result (λ n. fresh.new ≡ fresh.old + 1) }
+{
+    let first = *fresh;
+    match first.checked_add(1) {
+        Some(next) => {
+            *fresh = next;
+            Ok(first)
+        }
+        None => Err(NoMemory),
+    }
+}
+
+// A variable gets the next number.
+fn set_next(
+    names: &mut Vec<Atom>,
+    saved: &mut Vec<(u32, Atom)>,
+    x: u32,
+    fresh: &mut u32,
+) -> Result<u32, NoMemory>
+    ensures first { IfOk result (λ n. n ≡ fresh.old) }
+    ensures next { IfOk result (λ n. fresh.new ≡ fresh.old + 1) }
+    ensures names { IfOk result (λ n. look names.new.items ≡ inner.named (look names.old.items) x (Var fresh.old)) }
+    ensures saved { IfOk result (λ n. undone saved.new.items (look names.new.items) ≡ undone saved.old.items (look names.old.items)) }
+{
+    let n = take(fresh)?;
+    set(names, saved, x, Atom::Var(n))?;
+    Ok(n)
+}
+
+/// Variables get the next numbers, which are the answer.
+pub fn set_numbers(
+    alloc: Global,
+    names: &mut Vec<Atom>,
+    saved: &mut Vec<(u32, Atom)>,
+    xs: &[u32],
+    fresh: &mut u32,
+) -> Result<Vec<u32>, NoMemory>
+    ensures numbers { IfOk result (λ v. v.items ≡ range_with_len fresh.old (length xs.now)) }
+    ensures next { IfOk result (λ v. fresh.new ≡ fresh.old + length xs.now) }
+    ensures names { IfOk result (λ v. look names.new.items ≡ numbered (look names.old.items) fresh.old xs.now) }
+    ensures saved { IfOk result (λ v. undone saved.new.items (look names.new.items) ≡ undone saved.old.items (look names.old.items)) }
+{
+    let mut v = Vec::new(alloc);
+    for x in xs {
+        v.push(set_next(names, saved, *x, fresh)?)?;
+    }
+    Ok(v)
+}
+
+// The operand at a place, or 0.
+fn operand_at(words: &[Atom], i: usize) -> Atom
+    ensures { result ≡ look words.now i }
+{
+    if i < words.len() {
+        words[i]
+    } else {
+        Atom::Lit(0)
+    }
+}
+
+/// Operands stand for variables, in turn.
+pub fn set_operands(
+    names: &mut Vec<Atom>,
+    saved: &mut Vec<(u32, Atom)>,
+    xs: &[u32],
+    words: &[Atom],
+) -> Result<(), NoMemory>
+    ensures names { OnOk result (look names.new.items ≡ all_named (look names.old.items) xs.now words.now) }
+    ensures saved { OnOk result (undone saved.new.items (look names.new.items) ≡ undone saved.old.items (look names.old.items)) }
+{
+    for (i, x) in xs.iter().enumerate() {
+        set(names, saved, *x, operand_at(words, i))?;
+    }
+    Ok(())
+}
+
+/// An operand with what stands for its variable.
+pub fn renamed(names: &[Atom], a: Atom) -> Atom
+    ensures { result ≡ substitution.renamed (look names.now) a }
+{
+    match a {
+        Atom::Var(x) => stands(names, x),
+        Atom::Lit(v) => Atom::Lit(v),
+    }
+}
+
+/// A primitive with what stands for its variables.
+pub fn renamed_prim(names: &[Atom], p: Prim) -> Prim
+    ensures { result ≡ prim_renamed (look names.now) p }
+{
+    match p {
+        Prim::Same(a) => Prim::Same(renamed(names, a)),
+        Prim::Una(op, a) => Prim::Una(op, renamed(names, a)),
+        Prim::Bin(op, a, b) => Prim::Bin(op, renamed(names, a), renamed(names, b)),
+    }
+}
+
+/// Operands with what stands for their variables.
+pub fn renamed_all(alloc: Global, names: &[Atom], atoms: &[Atom]) -> Result<Vec<Atom>, NoMemory>
+    ensures { IfOk result (λ v. v.items ≡ all_renamed (look names.now) atoms.now) }
+{
+    let mut v = Vec::new(alloc);
+    for a in atoms {
+        v.push(renamed(names, *a))?;
+    }
+    Ok(v)
+}
+
+/// The same as a short list.
+pub fn renamed_args(alloc: Global, names: &[Atom], atoms: &[Atom]) -> Result<Args, NoMemory>
+    ensures { IfOk result (λ v. v.items ≡ all_renamed (look names.now) atoms.now) }
+{
+    let mut v = Args::new(alloc);
+    for a in atoms {
+        v.push(renamed(names, *a))?;
+    }
+    Ok(v)
+}
