@@ -7,3 +7,4 @@ pub mod PairedAll
 pub mod Reported
 pub mod Sizes
 pub mod LeftOut
+pub mod Cheapest

@@ -36,11 +36,12 @@ use Rattle.zo_cert.specs.declared.report.Report.{Report}
 use Rattle.zo_cert.specs.declared.report.Verdict.{Verdict}
 use Rattle.zo_cert.specs.declared.report.Verdict.TheVariants as verdict
 use Rattle.zo_proof.proofs.Duality.{proves_holds}
+use Rattle.nova_back.proofs.Cheapest.{cheapest-of}
 use Rattle.nova_back.specs.Causes.{IsCodeOf, AreStartsOf, IsReportOn, IsCheapFor, IsWithout, HasLargeProgram, IsCause, IsLong, HasVector, report_cost}
 use Rattle.nova_back.specs.declared.error.BackError.{BackError}
 use Rattle.nova_back.specs.declared.error.BackError.TheVariants as back
 use Rattle.nova_commands.specs.Building.{IsFormCause}
-use Rattle.nova_commands.specs.Forms.{form_bound, IsCodeFor, IsFormOf, HasBanks, HasLargeBanks, HasNoBanks, HasLongCode}
+use Rattle.nova_commands.specs.Forms.{form_bound, IsCodeFor, IsBoundedFormOf, HasBanks, HasLargeBanks, HasNoBanks, HasLongCode}
 use Rattle.nova_commands.specs.inner.Telling.{IsHandedAs}
 use Rattle.nova_commands.specs.declared.build.CompileError.{CompileError}
 use Rattle.nova_commands.specs.declared.build.CompileError.TheVariants as compile
@@ -67,10 +68,9 @@ roomy p = eight _
 pub form-of : (p : ProgramTree) (funs : List FlatFun) (main : ℕ) (labels : List Label) → is_program funs main ≡ true
     → KeepsOutcomes (main_words p) (params_in funs main) (source p) (flat_meaning funs main) → wide funs main ≤ room p → IsAtMost (bulk funs main) (of_size (expanded_size p))
     → single labels ≡ true → KeepsOutcomes (params_in funs main) (ssu_params labels) (flat_meaning funs main) (ssu_meaning labels) → peak labels ≤ wide funs main → size labels ≤ size_bound (wide funs main) (bulk funs main)
-    → code_bound labels ≤ length_bound (wide funs main) (bulk funs main) → IsFormOf p labels
+    → code_bound labels ≤ length_bound (wide funs main) (bulk funs main) → IsBoundedFormOf p labels
 form-of p funs main labels formed kept narrow most once later held bounded coded = record {
-  used_once = once;
-  kept = keeps-trans (main_words p) (params_in funs main) (ssu_params labels) (source p) (flat_meaning funs main) (ssu_meaning labels) kept later;
+  form = record { used_once = once; kept = keeps-trans (main_words p) (params_in funs main) (ssu_params labels) (source p) (flat_meaning funs main) (ssu_meaning labels) kept later };
   narrow = le_trans held narrow;
   small = le_trans bounded (size_end (expanded_size p) (room p) (wide funs main) (bulk funs main) (some-size funs main (expanded_size p) formed most) (roomy p) narrow most);
   brief = le_trans coded (code_end (expanded_size p) (room p) (wide funs main) (bulk funs main) (some-size funs main (expanded_size p) formed most) (roomy p) narrow most);
@@ -78,10 +78,10 @@ form-of p funs main labels formed kept narrow most once later held bounded coded
 
 -- ---- its code
 
-pub code-for : (p : ProgramTree) (labels : List Label) (slots : ℕ) (c : CodeView) → IsFormOf p labels → IsCodeOf labels slots c → IsCodeFor p c
+pub code-for : (p : ProgramTree) (labels : List Label) (slots : ℕ) (c : CodeView) → IsBoundedFormOf p labels → IsCodeOf labels slots c → IsCodeFor p c
 code-for p labels slots c form code = record {
   lawful = code.lawful;
-  agrees = agrees-through (main_words p) (ssu_params labels) (source p) (ssu_meaning labels) c form.kept (λ args m words sizes. seen_follows m (source p args m) (source-follows p args m)) code.agrees;
+  agrees = agrees-through (main_words p) (ssu_params labels) (source p) (ssu_meaning labels) c form.form.kept (λ args m words sizes. seen_follows m (source p args m) (source-follows p args m)) code.agrees;
 }
 
 -- ---- its banks
@@ -98,7 +98,7 @@ optimal-least verdict.Feasible r e valid h = absurd cc
 optimal-least verdict.Infeasible r e valid h = absurd cc
 optimal-least verdict.Spent r e valid h = absurd cc
 
-pub banks-of : (p : ProgramTree) (labels : List Label) (slots : ℕ) (ws : List ℕ) (budget : ℕ) (c : CodeView) (starts : List ℕ) (r : Report) → IsFormOf p labels → IsReportOn labels slots ws budget r → HasVector r.verdict
+pub banks-of : (p : ProgramTree) (labels : List Label) (slots : ℕ) (ws : List ℕ) (budget : ℕ) (c : CodeView) (starts : List ℕ) (r : Report) → IsBoundedFormOf p labels → IsReportOn labels slots ws budget r → HasVector r.verdict
     → IsCodeOf labels slots c → AreStartsOf labels c starts → moves c.list starts ws ≤ report_cost r → (peak labels ≤ 15 → IsCheapFor labels ws (report_cost r)) → HasBanks p slots ws budget c starts r
 banks-of p labels slots ws budget c starts r form report found code begin light cheap = record {
   form = labels;
@@ -107,6 +107,7 @@ banks-of p labels slots ws budget c starts r form report found code begin light 
   found = found;
   meets = found-meets r.verdict r found report.holds.verdict_holds;
   optimal = λ e. optimal-least r.verdict r e report.valid.program_valid report.holds.verdict_holds;
+  cheapest = λ e. cheapest-of labels slots ws budget r form.form.used_once report (optimal-least r.verdict r e report.valid.program_valid report.holds.verdict_holds);
   form_code = code;
   labels_start = begin;
   light = light;
@@ -118,13 +119,13 @@ banks-of p labels slots ws budget c starts r form report found code begin light 
 bounded-by : (n s b : ℕ) → n ≤ 64 * s → s ≤ b → n ≤ 64 * b
 bounded-by n s b h le = omega (arith, h, le)
 
-large : (p : ProgramTree) (labels : List Label) (slots n : ℕ) → IsFormOf p labels → HasLargeProgram labels slots n → HasLargeBanks p slots n
+large : (p : ProgramTree) (labels : List Label) (slots n : ℕ) → IsBoundedFormOf p labels → HasLargeProgram labels slots n → HasLargeBanks p slots n
 large p labels slots n form h = record { form = labels; is_form = form; large = h.0; bounded = bounded-by n (size labels) (form_bound p) h.1 form.small }
 
 pub fewer : (s k r : ℕ) → s < k → k ≤ r → s < r
 fewer s k r lt le = omega arith
 
-without : (p : ProgramTree) (labels : List Label) (slots : ℕ) (ws : List ℕ) (budget : ℕ) (v : Verdict) (r : Report) → IsFormOf p labels → IsWithout labels slots ws budget v r → HasNoBanks p slots ws budget v r
+without : (p : ProgramTree) (labels : List Label) (slots : ℕ) (ws : List ℕ) (budget : ℕ) (v : Verdict) (r : Report) → IsBoundedFormOf p labels → IsWithout labels slots ws budget v r → HasNoBanks p slots ws budget v r
 without p labels slots ws budget v r form h = record { form = labels; is_form = form; without = h; few_slots = fewer slots (peak labels) (room p) h.over_slots form.narrow }
 
 -- no number of columns or rows is too large
@@ -140,7 +141,7 @@ columns-few labels slots none = at-most (length (columns labels)) (2 ^ 26) (λ m
 rows-few : (labels : List Label) (slots : ℕ) → NoneLarge labels slots → length (rows labels slots) ≤ 2 ^ 26
 rows-few labels slots none = at-most (length (rows labels slots)) (2 ^ 26) (λ many. none (length (rows labels slots)) (inr (columns-few labels slots none, (refl, many))))
 
-long : (p : ProgramTree) (labels : List Label) (slots : ℕ) (ws : List ℕ) (budget store n : ℕ) → IsFormOf p labels → NoneLarge labels slots → IsLong labels slots ws budget store n → HasLongCode p slots ws budget store n
+long : (p : ProgramTree) (labels : List Label) (slots : ℕ) (ws : List ℕ) (budget store n : ℕ) → IsBoundedFormOf p labels → NoneLarge labels slots → IsLong labels slots ws budget store n → HasLongCode p slots ws budget store n
 unfolding banks-of
 long p labels slots ws budget store n form none h = record {
   r = h.r;
@@ -166,7 +167,7 @@ not-long m n (inr e) = cc
 none-given : (a b : BackError) (e : CompileError) → a ≡ b → IsHandedAs a e → IsHandedAs b e
 none-given a b e is h = subst (λ (x : BackError). IsHandedAs x e) is h
 
-pub back-caused : (p : ProgramTree) (labels : List Label) (slots : ℕ) (ws : List ℕ) (budget store : ℕ) (error : BackError) (e : CompileError) → IsFormOf p labels → SaysLarge labels slots error
+pub back-caused : (p : ProgramTree) (labels : List Label) (slots : ℕ) (ws : List ℕ) (budget store : ℕ) (error : BackError) (e : CompileError) → IsBoundedFormOf p labels → SaysLarge labels slots error
     → (error ≡ back.NoMemory) ⊎ IsCause labels slots ws budget store error → IsHandedAs error e → (e ≡ compile.NoMemory) ⊎ IsFormCause p slots ws budget store e
 back-caused p labels slots ws budget store error e form says (inl none) is = inl (none-given error back.NoMemory e none is)
 back-caused p labels slots ws budget store back.NoMemory e form says (inr h) is = absurd h

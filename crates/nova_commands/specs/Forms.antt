@@ -8,6 +8,9 @@ use Rattle.ssu_ir.specs.Meaning.{ssu_meaning, ssu_params}
 use Rattle.ssu_ir.specs.Measures.{peak, size, code_bound}
 use Rattle.ssu_ir.specs.Single.{single}
 use Rattle.ssu_ir.specs.Tree.{Label}
+use Rattle.placement.specs.Fits.{Fits}
+use Rattle.placement.specs.Plan.{Plan}
+use Rattle.label_weights.specs.Weighted.{weighted_cost}
 use Rattle.bank_form.specs.Columns.{columns}
 use Rattle.bank_form.specs.Program.{rows, IsTooLarge}
 use Rattle.uc_isa.specs.Agrees.{Agrees}
@@ -28,10 +31,14 @@ form_bound program = 48 * (expanded_size program * (room program + 8))
 abbrev pub banks_bound : ProgramTree → ℕ
 banks_bound program = 64 * form_bound program
 
--- a form in single use that has the program's outcomes, and keeps to its bounds
+-- a form in single use that has the program's outcomes
 pub record IsFormOf (program : ProgramTree) (labels : List Label) : Type 0 where
   pub used_once : single labels ≡ true
   pub kept : KeepsOutcomes (main_words program) (ssu_params labels) (source program) (ssu_meaning labels)
+
+-- the same of a form that keeps to the program's bounds
+pub record IsBoundedFormOf (program : ProgramTree) (labels : List Label) : Type 0 where
+  pub form : IsFormOf program labels
   pub narrow : peak labels ≤ room program
   pub small : size labels ≤ form_bound program
   pub brief : code_bound labels ≤ form_bound program
@@ -41,17 +48,22 @@ pub record IsCodeFor (program : ProgramTree) (c : CodeView) : Type 0 where
   pub lawful : IsLawful c.list
   pub agrees : Agrees (main_words program) (source program) c
 
--- The report is on the banks of a form of the program, whose labels have these weights, with a vector that meets the rows. No vector that
--- meets them costs less, where the verdict is optimal. The code is that of the form with these slots, and the form's labels start at these
+-- no placement that fits the form with N slots costs less than this, under the weights of the labels
+abbrev pub IsCheapest : List Label → ℕ → List ℕ → ℕ → Type 0
+IsCheapest labels slots ws n = (p : Plan) → Fits labels p → p.slots ≡ slots → n ≤ weighted_cost labels ws p
+
+-- The report is on the banks of a form of the program, whose labels have these weights, with a vector that meets the rows. Where the
+-- verdict is optimal, no vector that meets them costs less, and so no placement that fits the form. The code is that of the form with these slots, and the form's labels start at these
 -- places. Under the weights the code's moves cost no more than the report's vector; where all live values at once fit a bank, that
 -- is at most 2 a value and 1 a use, each times the greatest weight of a label.
 pub record HasBanks (program : ProgramTree) (slots : ℕ) (ws : List ℕ) (budget : ℕ) (code : CodeView) (starts : List ℕ) (r : Report) : Type 0 where
   pub form : List Label
-  pub is_form : IsFormOf program form
+  pub is_form : IsBoundedFormOf program form
   pub report : IsReportOn form slots ws budget r
   pub found : HasVector r.verdict
   pub meets : Feasible r.z (vector r.x.on.items)
   pub optimal : r.verdict ≡ Optimal → (x : ℕ → Bool) → Feasible r.z x → report_cost r ≤ cost_of r.z x
+  pub cheapest : r.verdict ≡ Optimal → IsCheapest form slots ws (report_cost r)
   pub form_code : IsCodeOf form slots code
   pub labels_start : AreStartsOf form code starts
   pub light : moves code.list starts ws ≤ report_cost r
@@ -60,7 +72,7 @@ pub record HasBanks (program : ProgramTree) (slots : ℕ) (ws : List ℕ) (budge
 -- the program of the banks of a form of the program has N columns, or else rows, and more than fit
 pub record HasLargeBanks (program : ProgramTree) (slots n : ℕ) : Type 0 where
   pub form : List Label
-  pub is_form : IsFormOf program form
+  pub is_form : IsBoundedFormOf program form
   pub large : IsTooLarge form slots n
   pub bounded : n ≤ banks_bound program
 
@@ -68,13 +80,13 @@ pub record HasLargeBanks (program : ProgramTree) (slots n : ℕ) : Type 0 where
 abbrev pub HasSmallBanks : ProgramTree → ℕ → Type 0
 HasSmallBanks program slots =
     (banks_bound program ≤ 2 ^ 26)
-    ⊎ ((form : List Label) → IsFormOf program form → (length (columns form) ≤ 2 ^ 26) × (length (rows form slots) ≤ 2 ^ 26))
+    ⊎ ((form : List Label) → IsBoundedFormOf program form → (length (columns form) ≤ 2 ^ 26) × (length (rows form slots) ≤ 2 ^ 26))
 
 -- The report is on the banks of a form of the program, has no vector, and says why. The form holds more values at once than there are
 -- slots, so the program has more room.
 pub record HasNoBanks (program : ProgramTree) (slots : ℕ) (ws : List ℕ) (budget : ℕ) (verdict : Verdict) (r : Report) : Type 0 where
   pub form : List Label
-  pub is_form : IsFormOf program form
+  pub is_form : IsBoundedFormOf program form
   pub without : IsWithout form slots ws budget verdict r
   pub few_slots : slots < room program
 

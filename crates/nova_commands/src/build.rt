@@ -9,7 +9,7 @@ ghost use Rattle.uc_isa.specs.Moves.{moves};
 ghost use Rattle.nova_back.specs.Causes.{AreStartsOf, IsReportOn, HasVector, IsCheapFor, report_cost};
 ghost use Rattle.nova_front.specs.Sources.{IsTypedSource};
 ghost use Rattle.nova_commands.specs.Building.{IsCompileCause, IsFormCause, IsTextCause};
-ghost use Rattle.nova_commands.specs.Forms.{form_bound, IsCodeFor, IsFormOf, HasBanks};
+ghost use Rattle.nova_commands.specs.Forms.{form_bound, IsCodeFor, IsBoundedFormOf, HasBanks};
 
 use label_weights::Weights;
 use nova_back::{BackError, Built, back};
@@ -109,7 +109,7 @@ pub fn compile_text(
     requires some { 1 ≤ budget }
     requires budget { budget ≤ 1000000 }
     ensures program { IfOk result (λ t. IsTypedSource bytes.now (typed_program t.typed)) }
-    ensures form { IfOk result (λ t. IsFormOf (typed_program t.typed) (labels_view t.built.ssu)) }
+    ensures form { IfOk result (λ t. IsBoundedFormOf (typed_program t.typed) (labels_view t.built.ssu)) }
     ensures code { IfOk result (λ t. IsCodeFor (typed_program t.typed) t.built.code) }
     ensures short { IfOk result (λ t. length t.built.code.list ≤ store) }
     ensures brief { IfOk result (λ t. length t.built.code.list ≤ form_bound (typed_program t.typed)) }

@@ -1,0 +1,24 @@
+-- No placement that fits costs less than a vector that costs least: each placement has a vector that costs the same.
+use Rattle.std.proofs.Common.{◌≡◌, ℕ, Bool, true, ◌≤◌, List, map, refl, sym, ap, subst, ◌∙◌}
+use Rattle.ssu_ir.specs.Single.{single}
+use Rattle.ssu_ir.specs.Tree.{Label}
+use Rattle.zo_model.specs.Program.{Feasible, cost_of, costs_of, vector}
+use Rattle.zo_cert.specs.declared.report.Report.{Report}
+use Rattle.placement.specs.Fits.{Fits}
+use Rattle.placement.specs.Plan.{Plan}
+use Rattle.label_weights.specs.Weighted.{weighted_cost}
+use Rattle.bank_form.specs.Columns.{columns}
+use Rattle.bank_prog.specs.Meaning.{IsFeasible}
+use Rattle.bank_prog.proofs.LawsRows.{feasible-by-name}
+use Rattle.bank_assignment.specs.inner.Chosen.{chosen}
+use Rattle.bank_assignment.proofs.ChosenVector.{IsVector, vector-feasible, vector-weighted}
+use Rattle.nova_back.specs.Causes.{IsReportOn, report_cost}
+
+pub cheapest-of : (labels : List Label) (slots : ℕ) (ws : List ℕ) (budget : ℕ) (r : Report) → single labels ≡ true → IsReportOn labels slots ws budget r
+    → ((x : ℕ → Bool) → Feasible r.z x → report_cost r ≤ cost_of r.z x) → (p : Plan) → Fits labels p → p.slots ≡ slots → report_cost r ≤ weighted_cost labels ws p
+cheapest-of labels slots ws budget r once on least p fits same =
+    let xs = map (chosen labels p) (columns labels) in
+    let is : IsVector labels p xs = record { is = refl } in
+    let meets : IsFeasible labels slots (vector xs) = subst (λ n. IsFeasible labels n (vector xs)) same (vector-feasible labels p xs once fits is) in
+    let costs = ap (λ c. costs_of c.costs (vector xs)) on.program ∙ vector-weighted labels p xs once fits is ws in
+    subst (λ n. report_cost r ≤ n) costs (least (vector xs) ((feasible-by-name r.z labels slots ws (vector xs) on.program).1 meets))
