@@ -8,7 +8,7 @@ import subprocess
 from documents import blocks, read
 
 MASK = 0xFFFFFFFF
-FORMS = ("flat", "lowered", "inlined", "closed", "simplified", "single", "measures")
+FORMS = ("flat", "lowered", "inlined", "closed", "contracted", "simplified", "single", "measures")
 COPIES = "fun main[]: word { let (a, b, c, d, e, f, g, h) = sram[8](0); sram(8) <- (a, b, c, d, e, f, g, h); a + b + c + d + e + f + g + h }"
 LOOP = "fun loop[i: word, s: word]: word { if (i == 8) s else let v = sram[1](i); loop[i + 1, s + v] } fun main[]: word { loop[0, 0] }"
 TRIES = (
@@ -173,7 +173,7 @@ def loaded(text):
 
 
 def example(top, name):
-    """The forms of an example are as kept, and two of them come to its outcome and its writes."""
+    """The forms of an example are as kept, and four of them come to its outcome and its writes."""
 
     def differences(at):
         source, found = os.path.join(top, "examples", name + ".nova"), []
@@ -184,7 +184,7 @@ def example(top, name):
             text = it.read()
         with open(os.path.join(top, "examples", name + ".out"), encoding="utf-8") as it:
             wanted = it.read().splitlines()
-        for form in ["closed", "simplified", "single"]:
+        for form in ["closed", "contracted", "simplified", "single"]:
             (args, memory), writes = loaded(text), []
             try:
                 said = run(labels_of(printed(top, source, form)), args, memory, writes)

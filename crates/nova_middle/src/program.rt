@@ -24,7 +24,8 @@ use cps_close::close;
 use cps_inline::inline;
 use cps_lower::lower;
 use flat_ir::FlatProgram;
-use flow_ir::Flow;
+use flow_contract::contract;
+use flow_ir::{Flow, Tree};
 use nv_base::NoMemory;
 use ssu_ir::Ssu;
 use ssu_make::make;
@@ -44,7 +45,72 @@ pub fn to_flow(alloc: Global, f: &FlatProgram) -> Result<Flow, NoMemory>
     let lowered = lower(alloc, f)?;
     let inlined = inline(alloc, lowered)?;
     let closed = close(alloc, inlined)?;
-    simplified(alloc, closed)
+    reduce(alloc, &closed)
+}
+
+// How often a flow is contracted and simplified again at most. Each makes work for the other.
+const ROUNDS: u32 = 6;
+
+// The flow contracted, and simplified.
+fn contract_and_simplify(alloc: Global, f: &Flow) -> Result<Flow, NoMemory>
+    ensures kept { IfOk result (λ g. KeepsOutcomes (flow_params (map label_view f.now.labels.items)) (flow_params (map label_view g.labels.items)) (flow_meaning (map label_view f.now.labels.items)) (flow_meaning (map label_view g.labels.items))) }
+    ensures rules { IfOk result (λ g. All IsAtRest (map label_view g.labels.items)) }
+    ensures tidy { IfOk result (λ g. AreTidy (map label_view g.labels.items)) }
+    ensures wide { IfOk result (λ g. wide (map label_view g.labels.items) ≤ wide (map label_view f.now.labels.items)) }
+    ensures bulk { IfOk result (λ g. IsAtMost (bulk (map label_view g.labels.items)) (bulk (map label_view f.now.labels.items))) }
+{
+    let contracted = contract(alloc, f)?;
+    simplified(alloc, contracted)
+}
+
+// The same again, as long as nodes become fewer.
+fn reduce(alloc: Global, f: &Flow) -> Result<Flow, NoMemory>
+    ensures kept { IfOk result (λ g. KeepsOutcomes (flow_params (map label_view f.now.labels.items)) (flow_params (map label_view g.labels.items)) (flow_meaning (map label_view f.now.labels.items)) (flow_meaning (map label_view g.labels.items))) }
+    ensures rules { IfOk result (λ g. All IsAtRest (map label_view g.labels.items)) }
+    ensures tidy { IfOk result (λ g. AreTidy (map label_view g.labels.items)) }
+    ensures wide { IfOk result (λ g. wide (map label_view g.labels.items) ≤ wide (map label_view f.now.labels.items)) }
+    ensures bulk { IfOk result (λ g. IsAtMost (bulk (map label_view g.labels.items)) (bulk (map label_view f.now.labels.items))) }
+{
+    let mut g = contract_and_simplify(alloc, f)?;
+    let mut nodes = nodes_of(&g);
+    'rounds: for _ in 0..ROUNDS {
+        g = contract_and_simplify(alloc, &g)?;
+        let left = nodes_of(&g);
+        if left == nodes {
+            return Ok(g);
+        }
+        nodes = left;
+    }
+    Ok(g)
+}
+
+// How many nodes there are.
+fn nodes_of(f: &Flow) -> u64 {
+    let mut n: u64 = 0;
+    for l in &f.labels {
+        n = n.saturating_add(count_nodes(&l.body));
+    }
+    n
+}
+
+// The same of a tree.
+fn count_nodes(t: &Tree) -> u64 {
+    let mut n: u64 = 0;
+    let mut cur = t;
+    'spine: loop {
+        n = n.saturating_add(1);
+        match cur {
+            Tree::Let(_, _, rest) => cur = rest,
+            Tree::Read(_, _, _, rest) => cur = rest,
+            Tree::Write(_, _, _, rest) => cur = rest,
+            Tree::If(_, _, _, first, second) => {
+                n = n.saturating_add(count_nodes(first));
+                cur = second;
+            }
+            Tree::Jump(_, _) => return n,
+            Tree::Halt(_, _) => return n,
+        }
+    }
 }
 
 /// The single-use form of a flat program, which has its outcomes. It holds no more values at once than the
