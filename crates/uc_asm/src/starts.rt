@@ -11,14 +11,15 @@ ghost use Rattle.uc_asm.specs.inner.Numbered.{AreNumbered};
 use crate::listing::{print, push_instruction, push_params};
 use line_text::push_decimal;
 use nv_base::NoMemory;
+use smallvec::SmallVec;
 use std::alloc::{AllocError, Global};
 use std::marker::Model;
 use uc_object::{Object, Tagged};
 
-/// Numbers of labels. Contracts see it as their list.
+/// Numbers of labels, of which up to two take no memory of their own. Contracts see it as their list.
 #[derive(Drop)]
 struct Numbers {
-    list: Vec<u32>,
+    list: SmallVec<u32, 2, Global>,
 }
 
 impl Model for Numbers {
@@ -34,7 +35,7 @@ impl Numbers {
         ensures { result ≡ [] }
     {
         Numbers {
-            list: Vec::new(alloc),
+            list: SmallVec::new(alloc),
         }
     }
 
@@ -48,7 +49,7 @@ impl Numbers {
     fn list(&self) -> &[u32]
         ensures { result.now ≡ self.now }
     {
-        &self.list
+        self.list.as_slice()
     }
 }
 
