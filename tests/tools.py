@@ -119,6 +119,31 @@ class CrowdedRow:
         return [] if good and not os.path.exists(os.path.join(at, "o")) else [f"{found}, {branches} branches"]
 
 
+# Programs of bench/packets whose search goes on for long; `bench/run NOVAC ZO_BENCH packets` compares their outcomes too.
+LONG_SEARCHES = ("connections.nova", "fragments.nova")
+
+
+class PacketRow:
+    """The code of a program of bench/packets comes to the outcome of its meaning, and the report on it is true."""
+
+    where = "tests/tools.py"
+
+    def __init__(self, source, top):
+        self.name, self.source = f"the code of bench/packets/{source}", os.path.join(top, "bench", "packets", source)
+
+    def differences(self, novac, at):
+        def said(*words):
+            ran = subprocess.run([novac, *words], cwd=at, capture_output=True, text=True, timeout=120)
+            return ran.returncode, ran.stdout
+
+        memory = self.source.replace(".nova", ".mem")
+        status, line = said("compile", self.source, "o", "r")
+        meant, ran = (said(*words, memory, "steps=100000") for words in (("exec", self.source), ("run", "o")))
+        checked = said("check", "r")
+        good = status == 0 and meant == ran and meant[0] == 0 and checked == (0, " ".join(line.split()[2:]) + "\n")
+        return [] if good else [f"{status} {line!r}, {checked}, {ran}, wanted {meant}"]
+
+
 # Of six programs of bench/programs what the search says of each, and how many branches it takes.
 SEARCHES = {
     "bank-sum0-60": ("optimal 2", 1),
@@ -393,5 +418,6 @@ def all_rows(top):
     rows += [("README has short lines and sentences", readable), ("the files that the pages name are there", named_files), ("the walks and recipes of docs/ARCHITECTURE.md", walks_and_recipes)]
     rows += [("a packet's hex dump and back", there_and_back), ("forms of hex dumps", dumps), ("nothing stands twice that didn't", nothing_new_twice), ("capture files", captures), ("tables from a CSV file", tables)]
     sources = sorted(it for it in os.listdir(os.path.join(top, "examples")) if it.endswith(".nova"))
-    made = [MadeRow(seed, size, top) for seed, size in ((0, 2), (1, 60), (0, 500))]
+    packets = sorted(it for it in os.listdir(os.path.join(top, "bench", "packets")) if it.endswith(".nova"))
+    made = [PacketRow(it, top) for it in packets if it not in LONG_SEARCHES] + [MadeRow(seed, size, top) for seed, size in ((0, 2), (1, 60), (0, 500))]
     return [ToolRow(name, body, top) for name, body in rows] + [ReportRow(it, top) for it in sources] + made + [CrowdedRow(top), SumRow(top)] + [SearchRow(it, top) for it in SEARCHES]
