@@ -184,11 +184,11 @@ def megabytes_of_report(it):
 
 @row("a report of more than a megabyte is saved, and checked")
 def saved_report(it):
-    groups = "".join(f"fun g{at + 1}[]: () {{ g{at}[] }}\n" for at in range(2046))
-    it.put("s", f"fun g0[]: () {{ () }}\n{groups}fun main[]: () {{ g2046[] }}\n".encode())
-    it.runs("compile s o r store=1048576", 0, "compiled 4096 optimal 0\n")
+    stores = "".join(f"sram({at}) <- a + b; " for at in range(250))
+    it.put("s", f"fun main[a: word, b: word]: () {{ {stores}() }}\n".encode())
+    it.runs("compile s o r store=1048576", 0, "compiled 752 optimal 1\n")
     it.holds(os.path.getsize(it.path("r")) > 1 << 20, "the report is short")
-    it.runs("check r", 0, "optimal 0\n")
+    it.runs("check r", 0, "optimal 1\n")
     it.has("s", "o", "r")
 
 
