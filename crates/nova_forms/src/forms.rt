@@ -7,6 +7,7 @@ use cps_close::close;
 use cps_inline::inline;
 use cps_lower::lower;
 use flat_ir::FlatProgram;
+use flow_contract::contract;
 use ir_printer::{Page, print_cps, print_flat, print_flow, print_measures, print_single_use};
 use nova_front::{FrontError, front};
 use nova_middle::{middle, to_flow};
@@ -65,6 +66,7 @@ pub enum PrintedForms {
     Lowered,
     Inlined,
     Closed,
+    Contracted,
     Simplified,
     Single,
     Measures,
@@ -85,6 +87,7 @@ pub fn printed_forms_of(words: &[String]) -> Option<PrintedForms>
         "lowered" => Some(PrintedForms::Lowered),
         "inlined" => Some(PrintedForms::Inlined),
         "closed" => Some(PrintedForms::Closed),
+        "contracted" => Some(PrintedForms::Contracted),
         "simplified" => Some(PrintedForms::Simplified),
         "single" => Some(PrintedForms::Single),
         "measures" => Some(PrintedForms::Measures),
@@ -176,6 +179,10 @@ fn put_continuations(
         page.put("# closed\n");
         print_flow(alloc, page, &closed)?;
     }
+    if is_wanted(PrintedForms::Contracted, wanted) {
+        page.put("# contracted\n");
+        print_flow(alloc, page, &contract(alloc, &closed)?)?;
+    }
     Ok(())
 }
 
@@ -185,6 +192,7 @@ fn has_continuations(wanted: PrintedForms) -> bool {
         PrintedForms::Lowered => true,
         PrintedForms::Inlined => true,
         PrintedForms::Closed => true,
+        PrintedForms::Contracted => true,
         _ => false,
     }
 }

@@ -1,5 +1,5 @@
 //! Prints the inner forms of a source, for people: `nova_forms SRC`, or `nova_forms SRC FORM` with one
-//! of the forms flat, lowered, inlined, closed, simplified, single, or with their measures: the word measures.
+//! of the forms flat, lowered, inlined, closed, contracted, simplified, single, or with their measures: the word measures.
 //!
 //! Ends with 0 where they were printed, 2 where the words are no command, 3 where the file can't be
 //! read, 4 where the output failed, 5 for memory exhaustion, 6 where the text isn't a typed program of
