@@ -155,6 +155,10 @@ def idioms(top):
     return worked(top, "docs/IDIOMS.md")
 
 
+def weights(top):
+    return worked(top, "docs/WEIGHTS.md")
+
+
 def machine(top):
     """docs/MACHINE.md: each assembly text is assembled, and a listing is itself; a memory text and an outcome text that
     follow it are what the code runs on and prints."""
@@ -297,4 +301,4 @@ def command_lines(top):
 
 
 def all_rows(top):
-    return [row for of in (examples, handwritten, language, idioms, machine, certificates, faults, command_lines) for row in of(top)]
+    return [row for of in (examples, handwritten, language, idioms, weights, machine, certificates, faults, command_lines) for row in of(top)]

@@ -1,5 +1,5 @@
 -- Command lines.
-use Rattle.std.specs.Prelude.{ℕ, length, List, [], ◌∷◌, ◌++◌, Option, Some, None, Vec, String, map, drop, string_bytes, codes, decimal, Bool, not, ◌&&◌, nat_le, if◌then◌else◌, Contains, ⊤, option_map}
+use Rattle.std.specs.Prelude.{ℕ, length, List, [], ◌∷◌, ◌++◌, Option, Some, None, Vec, String, map, drop, string_bytes, codes, decimal, Bool, true, not, ◌&&◌, nat_le, if◌then◌else◌, Contains, ⊤, option_map}
 use Rattle.std.specs.Global.{Global}
 use Rattle.std.specs.Str.{bytes_eq}
 use Rattle.std.specs.Str.Parse.{digits_value}
@@ -7,7 +7,7 @@ use Rattle.command_line.specs.Limits.{slots_limit, budget_default, budget_limit,
 
 -- a command with what its words name
 pub data Command : Type 0 where
-  Compile : (source object report : List ℕ) (slots budget store : ℕ) → Command
+  Compile : (source object report : List ℕ) (slots budget store : ℕ) (weights : Option (List ℕ)) → Command
   Run : (object memory : List ℕ) (steps : ℕ) → Command
   Exec : (source memory : List ℕ) (calls : ℕ) → Command
   Asm : (text object : List ℕ) → Command
@@ -17,6 +17,7 @@ pub data Command : Type 0 where
   Gen : (seed size : ℕ) → Command
   Contexts : (object memory schedule : List ℕ) → Command
   Peep : (object output : List ℕ) → Command
+  Counts : (source memory output : List ℕ) (jumps : ℕ) → Command
 
 -- the texts of words
 abbrev pub texts : List (String Global) → List (List ℕ)
@@ -65,18 +66,30 @@ abbrev pub taken : List ℕ → ℕ → ℕ → ℕ → List (List ℕ) → ℕ 
 taken key least most other [] = (other, [])
 taken key least most other (word ∷ words) = taken_or (word ∷ words) other words (option_of key least most word)
 
--- the slots of code, the branches of the search for its banks, and its instructions
+-- the slots of code, the branches of the search for its banks, its instructions, and the file of the weights of labels
 pub record Options : Type 0 where
   pub slots : ℕ
   pub budget : ℕ
   pub store : ℕ
+  pub weights : Option (List ℕ)
 
--- no word may stand after them
+-- the file name that a word has after a key
+abbrev pub name_after : List ℕ → List ℕ → Option (List ℕ)
+name_after key word =
+    let name = drop (length key) word in
+    if bytes_eq word (key ++ name) && is_name name then Some name else None
+
+-- [weights=FILE], with no word after it
+abbrev pub weights_of : List (List ℕ) → Option (Option (List ℕ))
+weights_of [] = Some None
+weights_of (word ∷ []) = option_map Some (name_after (codes "weights=") word)
+weights_of _ = None
+
 abbrev pub options_with : ℕ → ℕ → ℕ → List (List ℕ) → Option Options
-options_with slots budget store [] = Some (record { slots = slots; budget = budget; store = store })
-options_with slots budget store (word ∷ words) = None
+options_with slots budget store words =
+    option_map (λ weights. record { slots = slots; budget = budget; store = store; weights = weights }) (weights_of words)
 
--- [slots=N] [budget=N] [store=N], in this order
+-- [slots=N] [budget=N] [store=N] [weights=FILE], in this order
 abbrev pub options_of : List (List ℕ) → Option Options
 options_of words =
     let slots = taken (codes "slots=") 0 slots_limit slots_limit words in
@@ -120,17 +133,35 @@ command_of_four verb first second third [] =
     else if bytes_eq verb (codes "contexts") && are_three_names first second third then Some (Contexts first second third)
     else None
 
+-- a fourth file, where there is one, has another name than these three
+abbrev pub is_another : List ℕ → List ℕ → List ℕ → Option (List ℕ) → Bool
+is_another a b c None = true
+is_another a b c (Some d) = are_names a d && are_names b d && are_names c d
+
 -- compile SRC OBJ REPORT, and options
-abbrev pub compile_with : List ℕ → List ℕ → List ℕ → Options → Command
-compile_with source object report o = Compile source object report o.slots o.budget o.store
+abbrev pub compile_with : List ℕ → List ℕ → List ℕ → Option Options → Option Command
+compile_with source object report None = None
+compile_with source object report (Some o) =
+    if is_another source object report o.weights then Some (Compile source object report o.slots o.budget o.store o.weights)
+    else None
 
 abbrev pub compile_of : List ℕ → List ℕ → List ℕ → List (List ℕ) → Option Command
 compile_of source object report options =
-    if are_three_names source object report then option_map (compile_with source object report) (options_of options)
+    if are_three_names source object report then compile_with source object report (options_of options)
     else None
 
+-- counts SRC MEM FILE steps=N, with no word after it
+abbrev pub counts_of : List ℕ → List ℕ → List ℕ → List (List ℕ) → Option Command
+counts_of source memory output (word ∷ []) =
+    if are_three_names source memory output then option_map (Counts source memory output) (steps_of word)
+    else None
+counts_of source memory output _ = None
+
 abbrev pub command_of_more : List ℕ → List ℕ → List ℕ → List ℕ → List (List ℕ) → Option Command
-command_of_more verb a b c words = if bytes_eq verb (codes "compile") then compile_of a b c words else command_of_four verb a b c words
+command_of_more verb a b c words =
+    if bytes_eq verb (codes "compile") then compile_of a b c words
+    else if bytes_eq verb (codes "counts") then counts_of a b c words
+    else command_of_four verb a b c words
 
 -- the command of a list of words
 abbrev pub command_of : List (List ℕ) → Option Command
@@ -141,7 +172,7 @@ command_of _ = None
 
 -- the names of the files that a command saves, in this order
 abbrev pub outputs_of : Command → List (List ℕ)
-outputs_of (Compile source object report slots budget store) = object ∷ report ∷ []
+outputs_of (Compile source object report slots budget store weights) = object ∷ report ∷ []
 outputs_of (Run object memory steps) = []
 outputs_of (Exec source memory calls) = []
 outputs_of (Asm text object) = object ∷ []
@@ -151,6 +182,7 @@ outputs_of (Check report) = []
 outputs_of (Gen seed size) = []
 outputs_of (Contexts object memory schedule) = []
 outputs_of (Peep object output) = output ∷ []
+outputs_of (Counts source memory output jumps) = output ∷ []
 
 -- a fact about one of these files
 abbrev pub SomeFile : List (List ℕ) → (List ℕ → Type 0) → Type 0
@@ -162,8 +194,8 @@ IfCommand (Some command) P = P command
 IfCommand None P = ⊤
 
 -- a fact about what `compile` is called with, where the command is that one
-abbrev pub IfCompile : Option Command → (List ℕ → List ℕ → List ℕ → ℕ → ℕ → ℕ → Type 0) → Type 0
-IfCompile (Some (Compile source object report slots budget store)) P = P source object report slots budget store
+abbrev pub IfCompile : Option Command → (List ℕ → List ℕ → List ℕ → ℕ → ℕ → ℕ → Option (List ℕ) → Type 0) → Type 0
+IfCompile (Some (Compile source object report slots budget store weights)) P = P source object report slots budget store weights
 IfCompile _ P = ⊤
 
 -- a fact about the seed and the size of `gen`, where the command is that one

@@ -1,7 +1,7 @@
 -- The files that a command reads, in the order of the words.
-use Rattle.std.specs.Prelude.{ℕ, List, [], ◌∷◌}
-use Rattle.command_line.specs.Command.{Command, Compile, Run, Exec, Asm, Dis, Lint, Check, Gen, Contexts, Peep}
-use Rattle.command_line.specs.Limits.{source_limit, object_limit, memory_limit, assembly_limit, report_limit, schedule_limit}
+use Rattle.std.specs.Prelude.{ℕ, List, [], ◌∷◌, Option, Some, None}
+use Rattle.command_line.specs.Command.{Command, Compile, Run, Exec, Asm, Dis, Lint, Check, Gen, Contexts, Peep, Counts}
+use Rattle.command_line.specs.Limits.{source_limit, object_limit, memory_limit, assembly_limit, report_limit, schedule_limit, weights_limit}
 
 -- a file that is read, and how many bytes it may have
 pub record Input : Type 0 where
@@ -11,9 +11,14 @@ pub record Input : Type 0 where
 abbrev pub input : List ℕ → ℕ → Input
 input name limit = record { name = name; limit = limit }
 
+-- the file of weights, where one is named
+abbrev pub weights_input : Option (List ℕ) → List Input
+weights_input None = []
+weights_input (Some name) = input name weights_limit ∷ []
+
 -- the inputs of a command
 abbrev pub inputs_of : Command → List Input
-inputs_of (Compile source object report slots budget store) = input source source_limit ∷ []
+inputs_of (Compile source object report slots budget store weights) = input source source_limit ∷ weights_input weights
 inputs_of (Run object memory steps) = input object object_limit ∷ input memory memory_limit ∷ []
 inputs_of (Exec source memory calls) = input source source_limit ∷ input memory memory_limit ∷ []
 inputs_of (Asm text object) = input text assembly_limit ∷ []
@@ -23,3 +28,4 @@ inputs_of (Check report) = input report report_limit ∷ []
 inputs_of (Gen seed size) = []
 inputs_of (Contexts object memory schedule) = input object object_limit ∷ input memory memory_limit ∷ input schedule schedule_limit ∷ []
 inputs_of (Peep object output) = input object object_limit ∷ []
+inputs_of (Counts source memory output jumps) = input source source_limit ∷ input memory memory_limit ∷ []

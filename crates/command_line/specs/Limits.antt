@@ -19,6 +19,10 @@ assembly_limit = 67108864
 abbrev pub schedule_limit : ℕ
 schedule_limit = 4194304
 
+-- a text of weights
+abbrev pub weights_limit : ℕ
+weights_limit = 16777216
+
 -- a report
 abbrev pub report_limit : ℕ
 report_limit = 67108864

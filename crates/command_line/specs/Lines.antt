@@ -6,7 +6,7 @@ use Rattle.zo_cert.specs.declared.report.Verdict.TheVariants as verdict
 use Rattle.command_line.specs.declared.status.Status.{Status}
 use Rattle.command_line.specs.declared.status.Status.TheVariants as status
 use Rattle.command_line.specs.declared.refusal.Refusal.{Refusal}
-use Rattle.command_line.specs.declared.refusal.Refusal.TheVariants.{NoMemory, ReadFault, TooLarge, SourceChar, SourceNumber, SourceName, SourceSyntax, SourceDeep, SourceType, SourceLarge, Syntax, Label, BadObject, BadMemoryText, BadReport, FalseReport, Unlawful, UnlawfulLine, StoreFull, BadSchedule}
+use Rattle.command_line.specs.declared.refusal.Refusal.TheVariants.{NoMemory, ReadFault, TooLarge, SourceChar, SourceNumber, SourceName, SourceSyntax, SourceDeep, SourceType, SourceLarge, Syntax, Label, BadObject, BadMemoryText, BadReport, FalseReport, Unlawful, UnlawfulLine, StoreFull, BadWeights, BadSchedule}
 
 -- a text and a name
 abbrev pub named : List ℕ → List ℕ → List ℕ
@@ -78,6 +78,7 @@ refusal_text FalseReport = codes "report refused" ++ 10 ∷ []
 refusal_text (Unlawful place rule) = ruled (codes "unlawful place ") place rule
 refusal_text (UnlawfulLine n rule) = ruled (codes "unlawful line ") n rule
 refusal_text (StoreFull n) = counted (codes "store ") n
+refusal_text (BadWeights n) = counted (codes "weights line ") n
 refusal_text (BadSchedule n) = counted (codes "schedule line ") n
 
 -- the status of a command that isn't done
@@ -101,6 +102,7 @@ refusal_status FalseReport = status.CertificateRefused
 refusal_status (Unlawful place rule) = status.Unlawful
 refusal_status (UnlawfulLine n rule) = status.Unlawful
 refusal_status (StoreFull n) = status.StoreFull
+refusal_status (BadWeights n) = status.BadWeights
 refusal_status (BadSchedule n) = status.BadSchedule
 
 -- memory ran out, which has no cause that is told

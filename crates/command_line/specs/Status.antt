@@ -3,7 +3,7 @@ use Rattle.std.specs.Prelude.{ℕ}
 use Rattle.nv_base.specs.declared.outcome.Outcome.{Outcome}
 use Rattle.nv_base.specs.declared.outcome.Outcome.TheVariants as outcome
 use Rattle.command_line.specs.declared.status.Status.{Status}
-use Rattle.command_line.specs.declared.status.Status.TheVariants.{Done, Usage, ReadFault, WriteFault, NoMemory, Syntax, TypeFault, TooLarge, Infeasible, BudgetSpent, StoreFull, BadObject, BadMemoryText, Raised, Fault, StepsSpent, CertificateRefused, Unlawful, BadSchedule}
+use Rattle.command_line.specs.declared.status.Status.TheVariants.{Done, Usage, ReadFault, WriteFault, NoMemory, Syntax, TypeFault, TooLarge, Infeasible, BudgetSpent, StoreFull, BadObject, BadMemoryText, Raised, Fault, StepsSpent, CertificateRefused, Unlawful, BadWeights, BadSchedule}
 
 -- the numbers of the statuses
 abbrev pub status_number : Status → ℕ
@@ -25,6 +25,7 @@ status_number Fault = 15
 status_number StepsSpent = 16
 status_number CertificateRefused = 17
 status_number Unlawful = 18
+status_number BadWeights = 21
 status_number BadSchedule = 22
 
 -- the status of a run of the engine, or of a program, by how it ended
@@ -40,4 +41,7 @@ MaySave Done = Unit {0}
 MaySave WriteFault = Unit {0}
 MaySave Infeasible = Unit {0}
 MaySave BudgetSpent = Unit {0}
+MaySave Raised = Unit {0}
+MaySave Fault = Unit {0}
+MaySave StepsSpent = Unit {0}
 MaySave _ = ⊥

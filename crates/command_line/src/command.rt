@@ -1,8 +1,8 @@
 //! The words of a command line.
 ghost use Rattle.std.specs.Prelude.{◌≡◌, ◌≤◌, [], None, Some, IfSome, IfNone};
-ghost use Rattle.command_line.specs.Command.{command_of, command_of_two, command_of_three, command_of_four, command_of_more, compile_of, options_of, taken, gen_of, number_in, option_of, texts, texts_of};
-ghost use Rattle.command_line.specs.Command.{are_names as names_differ, are_three_names as three_names_differ};
-ghost use Rattle.command_line.specs.inner.Words.{command_as, options_as, AreInLimits, HasLimits};
+ghost use Rattle.command_line.specs.Command.{command_of, command_of_two, command_of_three, command_of_four, command_of_more, compile_of, counts_of, options_of, weights_of, taken, gen_of, number_in, option_of, texts, texts_of};
+ghost use Rattle.command_line.specs.Command.{are_names as names_differ, are_three_names as three_names_differ, is_another as fourth_differs, name_after as named_after};
+ghost use Rattle.command_line.specs.inner.Words.{command_as, name_as, options_as, AreInLimits, HasLimits};
 
 use crate::limits::{DEFAULT_BUDGET, DEFAULT_STORE, MOST_BUDGET, MOST_SLOTS, MOST_STORE};
 use line_text::read_decimal;
@@ -27,8 +27,8 @@ pub struct Options {
 /// A command with what its words name.
 #[derive(Clone, Copy)]
 pub enum Command<'a> {
-    /// Source, object, report.
-    Compile(&'a str, &'a str, &'a str, Options),
+    /// Source, object, report, options, and the text of weights, where one is named.
+    Compile(&'a str, &'a str, &'a str, Options, Option<&'a str>),
     /// Object, memory text, number of steps.
     Run(&'a str, &'a str, u64),
     /// Source, memory text, number of calls.
@@ -47,6 +47,8 @@ pub enum Command<'a> {
     Contexts(&'a str, &'a str, &'a str),
     /// Object, the object that is saved.
     Peep(&'a str, &'a str),
+    /// Source, memory text, the text of counts that is saved, number of jumps.
+    Counts(&'a str, &'a str, &'a str, u64),
 }
 
 impl<'a> Command<'a> {
@@ -157,6 +159,8 @@ fn of_more<'a>(
 {
     if verb == "compile" {
         of_compile(first, second, third, words)
+    } else if verb == "counts" {
+        of_counts(first, second, third, words)
     } else if words.is_empty() {
         of_four(verb, first, second, third)
     } else {
@@ -192,6 +196,29 @@ fn of_four<'a>(
     }
 }
 
+// `counts SRC MEM FILE steps=N`.
+fn of_counts<'a>(
+    source: &'a str,
+    memory: &'a str,
+    output: &'a str,
+    words: &'a [String],
+) -> Option<Command<'a>>
+    ensures some { IfSome result (λ c. counts_of source.now memory.now output.now (texts words.now) ≡ Some (command_as c)) }
+    ensures none { IfNone result (counts_of source.now memory.now output.now (texts words.now) ≡ None) }
+    ensures limits { IfSome result HasLimits }
+{
+    let [steps] = words else {
+        return None;
+    };
+    if !are_three_names(source, memory, output) {
+        return None;
+    }
+    match option_in(steps.as_str(), "steps=", 1, MOST_STEPS) {
+        Some(n) => Some(Command::Counts(source, memory, output, n)),
+        None => None,
+    }
+}
+
 // `compile SRC OBJ REPORT` and options.
 fn of_compile<'a>(
     source: &'a str,
@@ -206,17 +233,29 @@ fn of_compile<'a>(
     if !are_three_names(source, object, report) {
         return None;
     }
-    match options_in(words) {
-        Some(options) => Some(Command::Compile(source, object, report, options)),
-        None => None,
+    let (options, weights) = options_in(words)?;
+    if is_another(source, object, report, weights) {
+        Some(Command::Compile(source, object, report, options, weights))
+    } else {
+        None
     }
 }
 
-// `slots=N`, `budget=N` and `store=N`, each of which may be absent, and no other word.
-fn options_in<'a>(words: &'a [String]) -> Option<Options>
-    ensures some { IfSome result (λ o. options_of (texts words.now) ≡ Some (options_as o)) }
+// Whether a fourth file, where there is one, has another name than these three.
+fn is_another(a: &str, b: &str, c: &str, fourth: Option<&str>) -> bool
+    ensures { result ≡ fourth_differs a.now b.now c.now (name_as fourth.entry) }
+{
+    match fourth {
+        Some(d) => are_names(a, d) && are_names(b, d) && are_names(c, d),
+        None => true,
+    }
+}
+
+// `slots=N`, `budget=N`, `store=N` and `weights=FILE`, each of which may be absent, and no other word.
+fn options_in<'a>(words: &'a [String]) -> Option<(Options, Option<&'a str>)>
+    ensures some { IfSome result (λ o. options_of (texts words.now) ≡ Some (options_as o.0 o.1)) }
     ensures none { IfNone result (options_of (texts words.now) ≡ None) }
-    ensures limits { IfSome result AreInLimits }
+    ensures limits { IfSome result (λ o. AreInLimits o.0) }
 {
     let most = MOST_SLOTS as u64;
     let (slots, words) = taken_from(words, "slots=", 0, most, most);
@@ -228,15 +267,37 @@ fn options_in<'a>(words: &'a [String]) -> Option<Options>
         DEFAULT_BUDGET as u64,
     );
     let (store, words) = taken_from(words, "store=", 1, MOST_STORE as u64, DEFAULT_STORE as u64);
-    if words.is_empty() {
-        Some(Options {
-            slots: slots as u32,
-            budget: budget as u32,
-            store: store as u32,
-        })
-    } else {
-        None
+    let weights = weights_in(words)?;
+    let options = Options {
+        slots: slots as u32,
+        budget: budget as u32,
+        store: store as u32,
+    };
+    Some((options, weights))
+}
+
+// `weights=FILE`, which may be absent, and no other word.
+fn weights_in<'a>(words: &'a [String]) -> Option<Option<&'a str>>
+    ensures some { IfSome result (λ name. weights_of (texts words.now) ≡ Some (name_as name)) }
+    ensures none { IfNone result (weights_of (texts words.now) ≡ None) }
+{
+    match words {
+        [] => Some(None),
+        [word] => match name_after(word.as_str(), "weights=") {
+            Some(name) => Some(Some(name)),
+            None => None,
+        },
+        _ => None,
     }
+}
+
+// The file name that the word has after a key.
+fn name_after<'a>(word: &'a str, key: &str) -> Option<&'a str>
+    ensures some { IfSome result (λ name. named_after key.now word.now ≡ Some name.now) }
+    ensures none { IfNone result (named_after key.now word.now ≡ None) }
+{
+    let name = word.strip_prefix(key)?;
+    if name.is_empty() { None } else { Some(name) }
 }
 
 // The number that the first word spells after a key, and the words after it; where it spells none, the other number and

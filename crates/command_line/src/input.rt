@@ -1,13 +1,14 @@
 //! The files that a command reads.
 ghost use Rattle.std.specs.Prelude.{◌≡◌, IfOk};
 ghost use Rattle.command_line.specs.Inputs.{input, inputs_of};
-ghost use Rattle.command_line.specs.Limits.{source_limit, object_limit, memory_limit, assembly_limit, report_limit, schedule_limit};
+ghost use Rattle.command_line.specs.Limits.{source_limit, object_limit, memory_limit, assembly_limit, report_limit, schedule_limit, weights_limit};
 ghost use Rattle.command_line.specs.inner.Words.{command_as};
 ghost use Rattle.command_line.specs.inner.Read.{input_as, inputs_as};
 
 use crate::command::Command;
 use crate::limits::{
     ASSEMBLY_LIMIT, MEMORY_LIMIT, OBJECT_LIMIT, REPORT_LIMIT, SCHEDULE_LIMIT, SOURCE_LIMIT,
+    WEIGHTS_LIMIT,
 };
 use nv_base::NoMemory;
 use std::alloc::Global;
@@ -25,7 +26,10 @@ impl<'a> Command<'a> {
         ensures { IfOk result (λ inputs. inputs_as inputs.items ≡ inputs_of (command_as self.now)) }
     {
         let inputs = match *self {
-            Command::Compile(name, _, _, _) => Vec::from_array(alloc, [source(name)])?,
+            Command::Compile(name, _, _, _, None) => Vec::from_array(alloc, [source(name)])?,
+            Command::Compile(name, _, _, _, Some(text)) => {
+                Vec::from_array(alloc, [source(name), weights(text)])?
+            }
             Command::Run(name, text, _) => Vec::from_array(alloc, [object(name), memory(text)])?,
             Command::Exec(name, text, _) => Vec::from_array(alloc, [source(name), memory(text)])?,
             Command::Asm(name, _) => Vec::from_array(alloc, [assembly(name)])?,
@@ -37,6 +41,9 @@ impl<'a> Command<'a> {
                 Vec::from_array(alloc, [object(name), memory(text), schedule(turns)])?
             }
             Command::Peep(name, _) => Vec::from_array(alloc, [object(name)])?,
+            Command::Counts(name, text, _, _) => {
+                Vec::from_array(alloc, [source(name), memory(text)])?
+            }
         };
         Ok(inputs)
     }
@@ -93,5 +100,14 @@ fn schedule(name: &str) -> Input<'_>
     Input {
         name,
         limit: SCHEDULE_LIMIT,
+    }
+}
+
+fn weights(name: &str) -> Input<'_>
+    ensures { input_as result ≡ input name.now weights_limit }
+{
+    Input {
+        name,
+        limit: WEIGHTS_LIMIT,
     }
 }

@@ -19,6 +19,9 @@ pub const ASSEMBLY_LIMIT: u64 = 67_108_864;
 /// A schedule.
 pub const SCHEDULE_LIMIT: u64 = 4_194_304;
 
+/// A text of weights.
+pub const WEIGHTS_LIMIT: u64 = 16_777_216;
+
 /// A report.
 pub const REPORT_LIMIT: u64 = 67_108_864;
 

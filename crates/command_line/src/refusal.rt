@@ -52,6 +52,8 @@ pub enum Refusal<'a> {
     UnlawfulLine(u32, u8),
     /// The number of instructions of a source's code, more than were allowed.
     StoreFull(u32),
+    /// The first line of a text of weights that isn't of its form, counted from 1.
+    BadWeights(u32),
     /// The first line of a schedule that isn't of its form, counted from 1.
     BadSchedule(u32),
 }
@@ -102,6 +104,7 @@ impl<'a> Refusal<'a> {
             Refusal::BadReport(_) | Refusal::FalseReport => Status::CertificateRefused,
             Refusal::Unlawful(_, _) | Refusal::UnlawfulLine(_, _) => Status::Unlawful,
             Refusal::StoreFull(_) => Status::StoreFull,
+            Refusal::BadWeights(_) => Status::BadWeights,
             Refusal::BadSchedule(_) => Status::BadSchedule,
         }
     }
@@ -130,6 +133,7 @@ impl<'a> Refusal<'a> {
             Refusal::Unlawful(n, rule) => ruled_line(alloc, b"unlawful place ", n, rule),
             Refusal::UnlawfulLine(n, rule) => ruled_line(alloc, b"unlawful line ", n, rule),
             Refusal::StoreFull(n) => counted_line(alloc, b"store ", u64::from(n)),
+            Refusal::BadWeights(n) => counted_line(alloc, b"weights line ", u64::from(n)),
             Refusal::BadSchedule(n) => counted_line(alloc, b"schedule line ", u64::from(n)),
         }
     }

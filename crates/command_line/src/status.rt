@@ -42,6 +42,8 @@ pub enum Status {
     CertificateRefused,
     /// The code isn't lawful.
     Unlawful,
+    /// A text of weights isn't of its form.
+    BadWeights,
     /// A schedule isn't of its form.
     BadSchedule,
 }
@@ -70,6 +72,7 @@ impl Status {
             Status::StepsSpent => 16,
             Status::CertificateRefused => 17,
             Status::Unlawful => 18,
+            Status::BadWeights => 21,
             Status::BadSchedule => 22,
         }
     }

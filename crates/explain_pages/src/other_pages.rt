@@ -515,6 +515,47 @@ The object and the memory text are looked at before the schedule.
 "#,
             },
             Page {
+                name: "weights line",
+                text: r#"weights line
+
+A text of weights isn't of its form at a line: docs/WEIGHTS.md has it. A line that is missing is faulty at its own number.
+
+    s: fun main[a: word, b: word]: word { a + b }
+    faulty: fun main[]: word { 1 + }
+    first:
+    | weight 1
+    zero:
+    | weights 1
+    | l 05
+    few:
+    | weights 2
+    | l 5
+    more:
+    | weights 1
+    | l 5
+    | l 5
+    corrected:
+    | weights 1
+    | l 5
+    $ compile s o r weights=zero
+    21 weights line 2
+    $ compile s o r weights=few
+    21 weights line 3
+    $ compile s o r weights=more
+    21 weights line 3
+    $ compile s o r weights=first
+    21 weights line 1
+    $ compile faulty o r weights=first
+    6 syntax syntax at 23
+    $ compile s o r weights=corrected
+    0 compiled ..
+    saved o: %any
+    saved r: %any
+
+The source's text, types and expanded size are looked at before the weights, and the 0-1 program after them.
+"#,
+            },
+            Page {
                 name: "report line",
                 text: r#"report line, report refused
 
@@ -616,7 +657,7 @@ In the refused one below, the node leaves out a row, so its bound falls short.
                 name: "status 0",
                 text: r#"status 0: done
 
-Of `run` the code ended, of `exec` the program, of `contexts` all contexts, and of every other command what it is for is done.
+Of `run` the code ended, of `exec` and `counts` the program, of `contexts` all contexts, and of every other command what it is for is done.
 "#,
             },
             Page {
@@ -635,14 +676,6 @@ The words are looked at first, then all files are loaded in the order of the wor
 So an absent memory text beside a faulty source is status 3.
 "#,
             },
-            Page {
-                name: "status 4",
-                text: r#"status 4: cannot write
-
-`cannot write NAME`: an output can't be written. `compile` saves the object before the report, so where the report fails the object is there.
-Without a line the output itself failed. Then what was saved stays.
-"#,
-            },
         ],
         name,
     )
@@ -651,6 +684,14 @@ Without a line the output itself failed. Then what was saved stays.
 fn other_page_3(name: &[u8]) -> Option<&'static str> {
     page_among(
         &[
+            Page {
+                name: "status 4",
+                text: r#"status 4: cannot write
+
+`cannot write NAME`: an output can't be written. `compile` saves the object before the report, so where the report fails the object is there.
+Without a line the output itself failed. Then what was saved stays.
+"#,
+            },
             Page {
                 name: "status 5",
                 text: r#"status 5: out of memory
@@ -704,14 +745,6 @@ The outcome begins with `raised K` and the exception's words: no handler took it
 `run` of an object that `compile` saved names it in a second line, `exception NAME line L`, with the line of its declaration.
 "#,
             },
-            Page {
-                name: "status 15",
-                text: r#"status 15: an address fault
-
-The outcome begins with `fault MEMORY ADDRESS`: an access reached past this memory, from this first address on.
-The memory's size stands in the first line of the memory text.
-"#,
-            },
         ],
         name,
     )
@@ -721,10 +754,19 @@ fn other_page_4(name: &[u8]) -> Option<&'static str> {
     page_among(
         &[
             Page {
+                name: "status 15",
+                text: r#"status 15: an address fault
+
+The outcome begins with `fault MEMORY ADDRESS`: an access reached past this memory, from this first address on.
+The memory's size stands in the first line of the memory text.
+"#,
+            },
+            Page {
                 name: "status 16",
                 text: r#"status 16: going
 
-The outcome begins with `going`: all steps or calls were taken. Give more by `steps=N`, or see whether the loop ends.
+The outcome begins with `going`: all steps, calls or jumps were taken. Give more by `steps=N`, or see whether the loop ends.
+With this status, as with 0, 14 and 15, `counts` saves its file.
 "#,
             },
             Page {
@@ -739,6 +781,13 @@ The outcome begins with `going`: all steps or calls were taken. Give more by `st
                 text: r#"status 18: code that breaks a rule
 
 `unlawful place P rule R` or `unlawful line N rule R`: docs/MACHINE.md has the rules by their numbers.
+"#,
+            },
+            Page {
+                name: "status 21",
+                text: r#"status 21: no text of weights
+
+`weights line N`: this line of the file that `weights=FILE` names isn't of its form.
 "#,
             },
             Page {

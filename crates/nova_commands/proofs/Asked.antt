@@ -1,7 +1,7 @@
 -- The files that a command saves are among its outputs.
 use Rattle.std.proofs.Common.{◌≡◌, ℕ, inl, inr, List, [], ◌∷◌, map, refl, sym, subst}
-use Rattle.nv_outside.specs.Calls.{Call, Save, IsPart}
-use Rattle.command_line.specs.Command.{Command, Compile, Run, Exec, Asm, Dis, Lint, Check, Gen, Contexts, Peep, outputs_of}
+use Rattle.nv_outside.specs.Calls.{Save, IsPart}
+use Rattle.command_line.specs.Command.{Command, Compile, Run, Exec, Asm, Dis, Lint, Check, Gen, Contexts, Peep, Counts, outputs_of}
 use Rattle.command_line.specs.declared.status.Status.{Status}
 use Rattle.command_line.specs.declared.status.Status.TheVariants.{Done, Infeasible, BudgetSpent}
 use Rattle.nova_commands.specs.Answers.{Makes}
@@ -22,7 +22,7 @@ compiled-part text object report slots ws budget store BudgetSpent fs t h = part
 compiled-part text object report slots ws budget store _ fs t h = absurd h
 
 pub made-part : (c : Command) (bs : List (List ℕ)) (s : Status) (fs : List File) (t : List ℕ) → Makes c bs s fs t → SavesPart (outputs_of c) fs
-made-part (Compile source object report slots budget store) (b ∷ []) s fs t h = compiled-part b object report slots [] budget store s fs t h
+made-part (Compile source object report slots budget store weights) (b ∷ g) s fs t h = compiled-part b object report slots h.0 budget store s fs t h.2
 made-part (Run object memory steps) (b ∷ g ∷ []) s fs t h = part-by [] fs [] h.0 tt
 made-part (Exec source memory calls) (b ∷ g ∷ []) s fs t h = part-by [] fs [] h.0 tt
 made-part (Asm input object) (b ∷ []) s fs t h = part-by (object ∷ []) fs _ h.saves (inl (refl, tt))
@@ -32,4 +32,5 @@ made-part (Check report) (b ∷ []) s fs t h = part-by [] fs [] h.0 tt
 made-part (Gen seed size) [] s fs t h = part-by [] fs [] h.0 tt
 made-part (Contexts object memory schedule) (b ∷ g ∷ u ∷ []) s fs t h = part-by [] fs [] h.0 tt
 made-part (Peep object output) (b ∷ []) s fs t h = part-by (output ∷ []) fs _ h.saves (inl (refl, tt))
+made-part (Counts source memory output jumps) (b ∷ g ∷ []) s fs t h = part-by (output ∷ []) fs _ h.saves (inl (refl, tt))
 made-part _ _ s fs t h = absurd h

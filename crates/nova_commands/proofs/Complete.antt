@@ -1,5 +1,5 @@
 -- A program whose sizes are small enough is compiled.
-use Rattle.std.proofs.Common.{◌≡◌, ℕ, ◌*◌, ◌^◌, ◌<◌, ◌≤◌, inl, inr, List, [], ◌∷◌, length, refl, subst, arith}
+use Rattle.std.proofs.Common.{◌≡◌, ℕ, ◌*◌, ◌^◌, ◌<◌, ◌≤◌, inl, inr, List, [], ◌∷◌, Option, length, refl, subst, arith}
 use Rattle.nv_ast.specs.Sizes.{room}
 use Rattle.nv_ast.specs.Tree.{ProgramTree}
 use Rattle.nv_outside.specs.Holding.{Holding}
@@ -52,8 +52,9 @@ end-done p slots store status.BudgetSpent small narrow brief h = absurd (not-ove
 end-done p slots store status.StoreFull small narrow brief h = absurd (not-over (form_bound p) store brief h)
 end-done p slots store _ small narrow brief h = absurd h
 
-pub compiles : (old : Holding) (source object report : List ℕ) (slots budget store : ℕ) (r : Status) (can : IsCompilable old source slots store) → CanEnd (Compile source object report slots budget store) (can.text ∷ []) r → r ≡ status.Done
-compiles old source object report slots budget store r can e =
+pub compiles : (old : Holding) (source object report : List ℕ) (slots budget store : ℕ) (weights : Option (List ℕ)) (g : List (List ℕ)) (r : Status) (can : IsCompilable old source slots store weights)
+    → CanEnd (Compile source object report slots budget store weights) (can.text ∷ g) r → r ≡ status.Done
+compiles old source object report slots budget store weights g r can e =
     let same = source-program can.text e.0 can.program e.1.is_source can.is_source.is_source in
     end-done can.program slots store r can.banks can.room_in_slots can.code_in_store (subst (λ p. IsEndOf p slots store r) same e.2)
 

@@ -14,3 +14,5 @@ pub mod Begun
 pub mod CompileOutcome
 pub mod Complete
 pub mod Asked
+pub mod Weighed
+pub mod Counted

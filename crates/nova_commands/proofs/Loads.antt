@@ -1,5 +1,5 @@
 -- The inputs of a command, in their order.
-use Rattle.std.proofs.Common.{◌≡◌, ℕ, suc, ◌+◌, ◌≤◌, ◌<◌, ◌⊎◌, inl, inr, List, [], ◌∷◌, ◌++◌, Some, length, map, take, drop, get_or, refl, ap, sym, ◌∙◌, subst, Result, Ok, Err, IfOk, arith}
+use Rattle.std.proofs.Common.{◌≡◌, ℕ, suc, ◌+◌, ◌≤◌, ◌<◌, ◌⊎◌, inl, inr, List, [], ◌∷◌, ◌++◌, Some, length, take, drop, get_or, refl, ap, sym, ◌∙◌, subst, Result, Ok, Err, IfOk, arith}
 use Rattle.std.specs.Prelude.{Vec, ⊤}
 use Rattle.std.specs.Global.{Global}
 use Rattle.std.proofs.Math.Nat.{le_trans}

@@ -26,13 +26,17 @@ use Rattle.nova_front.proofs.OneSource.{source-program}
 use Rattle.nv_ast.specs.Sizes.{main_words}
 use Rattle.nv_ast.specs.Tree.{ProgramTree}
 use Rattle.nv_meaning.specs.Meaning.{source as meaning}
+use Rattle.ssu_ir.specs.Meaning.{ssu_meaning}
 use Rattle.nova_commands.proofs.Formed.{fewer}
 use Rattle.nova_commands.specs.Answers.{Makes, Prints, CanMake, CanEnd, Refuses, MustRefuse}
 use Rattle.machine_commands.specs.Assembly.{AsmRefuses, IsListed}
-use Rattle.command_line.specs.Command.{Command, Compile, Run, Exec, Asm, Dis, Lint, Check, Gen, Contexts, Peep}
+use Rattle.command_line.specs.Command.{Command, Compile, Run, Exec, Asm, Dis, Lint, Check, Gen, Contexts, Peep, Counts}
 use Rattle.nova_commands.specs.Executing.{ExecRefuses, IsExecuted}
 use Rattle.nova_commands.specs.Forms.{form_bound}
 use Rattle.nova_commands.specs.Headline.{CompileMakes, IsUnfit, IsEndOf}
+use Rattle.nova_commands.specs.Weighing.{AreWeighed, WeightsRefuse, TextsRefuse}
+use Rattle.weights_text.proofs.Exact.{bad_answer}
+use Rattle.weights_text.specs.declared.read.WeightsError.TheVariants.{Bad}
 use Rattle.command_line.specs.Lines.{counted, refusal_status}
 use Rattle.machine_commands.specs.Machine.{IsBadObjectFor, IsUnlawfulFor, IsMemoryRefusedFor, LintRefuses, RunRefuses, IsLinted, IsRun, spill_base, full_text, run_text}
 use Rattle.machine_commands.specs.Scheduled.{ContextsRefuse, HaveTakenTurns, IsScheduleRefusedFor, IsScheduled}
@@ -43,7 +47,7 @@ use Rattle.machine_commands.proofs.OneSchedule.{taken-one, taken-outcome, turns-
 use Rattle.command_line.specs.Status.{outcome_status, MaySave}
 use Rattle.machine_commands.specs.inner.Outcomes.{IsOutcome}
 use Rattle.command_line.specs.declared.refusal.Refusal.{Refusal}
-use Rattle.command_line.specs.declared.refusal.Refusal.TheVariants.{NoMemory, ReadFault, TooLarge, Syntax, Label, UnlawfulLine, BadObject, BadMemoryText, Unlawful, SourceLarge, StoreFull}
+use Rattle.command_line.specs.declared.refusal.Refusal.TheVariants.{NoMemory, ReadFault, TooLarge, Syntax, Label, UnlawfulLine, BadObject, BadMemoryText, Unlawful, SourceLarge, StoreFull, BadWeights}
 use Rattle.command_line.specs.declared.status.Status.{Status}
 use Rattle.command_line.specs.declared.status.Status.TheVariants.{Done, Infeasible, BudgetSpent}
 use Rattle.nova_commands.proofs.OneReport.{check-one, check-good, checked-one}
@@ -221,11 +225,15 @@ exec-one b t e e' (inr h) (inr k) =
     let same = source-program b h.0 k.0 h.1.is_source k.1.is_source in
     memory-one (main_words k.0) t e e' (subst (λ (p : ProgramTree). IsMemoryRefusedFor (main_words p) t e) same h.2) k.2
 
+-- a program with its arguments and memories
+job-good : (b t : List ℕ) (e : Refusal) (program : ProgramTree) (packet : Memories) (arguments : List ℕ) → IsTypedSource b program → Gives (main_words program) t packet arguments → ExecRefuses b t e → ⊥
+job-good b t e program packet arguments typed given (inl h) = source-good b e program typed h
+job-good b t e program packet arguments typed given (inr h) =
+    let same = source-program b h.0 program h.1.is_source typed.is_source in
+    memory-good (main_words program) t e packet arguments given (subst (λ (p : ProgramTree). IsMemoryRefusedFor (main_words p) t e) same h.2)
+
 exec-good : (b t : List ℕ) (e : Refusal) (calls : ℕ) (s : Status) (text : List ℕ) → IsExecuted b t calls s text → ExecRefuses b t e → ⊥
-exec-good b t e calls s text r (inl h) = source-good b e r.program r.is_source h
-exec-good b t e calls s text r (inr h) =
-    let same = source-program b h.0 r.program h.1.is_source r.is_source.is_source in
-    memory-good (main_words r.program) t e r.packet r.arguments r.given (subst (λ (p : ProgramTree). IsMemoryRefusedFor (main_words p) t e) same h.2)
+exec-good b t e calls s text r h = job-good b t e r.program r.packet r.arguments r.is_source r.given h
 
 executed-one : (b t : List ℕ) (calls : ℕ) (s s' : Status) (text text' : List ℕ) → IsExecuted b t calls s text → IsExecuted b t calls s' text' → (s ≡ s') × (text ≡ text')
 executed-one b t calls s s' text text' h k =
@@ -262,10 +270,40 @@ compiled-may_save text object report slots ws budget store Infeasible fs t h = t
 compiled-may_save text object report slots ws budget store BudgetSpent fs t h = tt
 compiled-may_save text object report slots ws budget store _ fs t h = absurd h
 
+-- an input that couldn't be read
+abbrev pub IsFault : Refusal → Type 0
+IsFault (ReadFault name) = Unit {0}
+IsFault _ = ⊥
+
+-- sources, and then texts of weights
+weights-one : (g : List (List ℕ)) (e e' : Refusal) → WeightsRefuse g e → WeightsRefuse g e' → e ≡ e'
+weights-one (t ∷ []) (BadWeights n) (BadWeights m) h k = ap (λ (x : ℕ). BadWeights x) (bad_answer t (Err (Bad n)) tt h m k)
+weights-one (t ∷ []) (BadWeights n) _ h k = absurd k
+weights-one _ _ e' h k = absurd h
+
+weights-good : (g : List (List ℕ)) (ws : List ℕ) (e : Refusal) → AreWeighed g ws → WeightsRefuse g e → ⊥
+weights-good (t ∷ []) ws (BadWeights n) h k = bad_answer t (Ok ws) h tt n k
+weights-good _ ws _ h k = k
+
+weights-unread : (g : List (List ℕ)) (e : Refusal) → IsFault e → WeightsRefuse g e → ⊥
+weights-unread (t ∷ []) (ReadFault name) f h = h
+weights-unread (t ∷ []) _ f h = absurd f
+weights-unread _ e f h = h
+
+texts-one : (b : List ℕ) (g : List (List ℕ)) (e e' : Refusal) → TextsRefuse b g e → TextsRefuse b g e' → e ≡ e'
+texts-one b g e e' (inl h) (inl k) = source-one b e e' h k
+texts-one b g e e' (inl h) (inr k) = absurd (source-good b e k.0 k.1 h)
+texts-one b g e e' (inr h) (inl k) = absurd (source-good b e' h.0 h.1 k)
+texts-one b g e e' (inr h) (inr k) = weights-one g e e' h.2 k.2
+
+texts-good : (b : List ℕ) (g : List (List ℕ)) (ws : List ℕ) (e : Refusal) (program : ProgramTree) → IsTypedSource b program → AreWeighed g ws → TextsRefuse b g e → ⊥
+texts-good b g ws e program typed weighed (inl h) = source-good b e program typed h
+texts-good b g ws e program typed weighed (inr h) = weights-good g ws e weighed h.2
+
 -- where contents decide a refusal, no other is true of them
 pub refusal-one : (c : Command) (bs : List (List ℕ)) (e e' : Refusal) → Refuses c bs e → MustRefuse c bs e' → e ≡ e'
-refusal-one (Compile source object report slots budget store) (b ∷ []) e e' (inl h) k = source-one b e e' h k
-refusal-one (Compile source object report slots budget store) (b ∷ []) e e' (inr h) k = absurd (source-good b e' h.0 h.1 k)
+refusal-one (Compile source object report slots budget store weights) (b ∷ g) e e' (inl h) k = texts-one b g e e' h k
+refusal-one (Compile source object report slots budget store weights) (b ∷ g) e e' (inr h) k = absurd (texts-good b g h.0 e' h.2.0 h.2.1 h.1 k)
 refusal-one (Run object memory steps) (b ∷ g ∷ []) e e' h k = runs-one b g e e' h k
 refusal-one (Exec source memory calls) (b ∷ g ∷ []) e e' h k = exec-one b g e e' h k
 refusal-one (Asm input object) (b ∷ []) e e' h k = assembly-one b e e' h k
@@ -274,13 +312,14 @@ refusal-one (Lint object) (b ∷ []) e e' h k = lint-one b e e' h k
 refusal-one (Check report) (b ∷ []) e e' h k = check-one b e e' h k
 refusal-one (Contexts object memory schedule) (b ∷ g ∷ u ∷ []) e e' h k = contexts-one b g u e e' h k
 refusal-one (Peep object output) (b ∷ []) e e' h k = lint-one b e e' h k
+refusal-one (Counts source memory output jumps) (b ∷ g ∷ []) e e' h k = exec-one b g e e' h k
 refusal-one _ _ e e' h k = absurd k
 
 -- and none is, where the command makes something
 pub makes-good : (c : Command) (bs : List (List ℕ)) (s : Status) (fs : List File) (t : List ℕ) (e : Refusal) → Makes c bs s fs t → MustRefuse c bs e → ⊥
-makes-good (Compile source object report slots budget store) (b ∷ []) s fs t e h k =
-    let m = compiled-end b object report slots [] budget store s fs t h in
-    source-good b e m.program m.is_source k
+makes-good (Compile source object report slots budget store weights) (b ∷ g) s fs t e h k =
+    let m = compiled-end b object report slots h.0 budget store s fs t h.2 in
+    texts-good b g h.0 e m.program m.is_source h.1 k
 makes-good (Run object memory steps) (b ∷ g ∷ []) s fs t e h k = run-good b g e steps s t h.1 k
 makes-good (Exec source memory calls) (b ∷ g ∷ []) s fs t e h k = exec-good b g e calls s t h.1 k
 makes-good (Asm input object) (b ∷ []) s fs t e h k = assembly-good b e h.assembled.c h.assembled.code k
@@ -289,6 +328,7 @@ makes-good (Lint object) (b ∷ []) s fs t e h k = lint-good b e h.1.o h.1.objec
 makes-good (Check report) (b ∷ []) s fs t e h k = check-good b s t e h.1 k
 makes-good (Contexts object memory schedule) (b ∷ g ∷ u ∷ []) s fs t e h k = contexts-good b g u e s t h.1 k
 makes-good (Peep object output) (b ∷ []) s fs t e h k = lint-good b e h.o h.object h.lawful k
+makes-good (Counts source memory output jumps) (b ∷ g ∷ []) s fs t e h k = job-good b g e h.program h.packet h.arguments h.is_source h.given k
 makes-good _ _ s fs t e h k = k
 
 -- what contents show isn't refused
@@ -318,18 +358,20 @@ unfit-end p slots ws budget store (StoreFull n) h = fewer store n (form_bound p)
 unfit-end p slots ws budget store _ h = absurd h
 
 pub made-end : (c : Command) (bs : List (List ℕ)) (s : Status) (fs : List File) (t : List ℕ) → Makes c bs s fs t → CanMake c bs → CanEnd c bs s
-made-end (Compile source object report slots budget store) (b ∷ []) s fs t h k =
-    let m = compiled-end b object report slots [] budget store s fs t h in
+made-end (Compile source object report slots budget store weights) (b ∷ g) s fs t h k =
+    let m = compiled-end b object report slots h.0 budget store s fs t h.2 in
     (m.program, m.is_source, m.ends)
 made-end (Asm input object) (b ∷ []) s fs t h k = h.done
 made-end (Peep object output) (b ∷ []) s fs t h k = h.done
+made-end (Counts source memory output jumps) (b ∷ g ∷ []) s fs t h k = ((ssu_meaning h.form h.arguments h.packet jumps).outcome, h.ends)
 made-end _ _ s fs t h k = absurd k
 
 pub refused-end : (c : Command) (bs : List (List ℕ)) (e : Refusal) → Refuses c bs e → CanMake c bs → CanEnd c bs (refusal_status e)
-refused-end (Compile source object report slots budget store) (b ∷ []) e (inl h) k = absurd (source-good b e k.0 k.1 h)
-refused-end (Compile source object report slots budget store) (b ∷ []) e (inr h) k = (h.0, h.1, unfit-end h.0 slots [] budget store e h.2)
+refused-end (Compile source object report slots budget store weights) (b ∷ g) e (inl h) k = absurd (texts-good b g k.2.0 e k.0 k.1 k.2.1 h)
+refused-end (Compile source object report slots budget store weights) (b ∷ g) e (inr h) k = (h.2.0, h.2.1, unfit-end h.2.0 slots h.0 budget store e h.2.2)
 refused-end (Asm input object) (b ∷ []) e h k = absurd (assembly-good b e k.c k.code h)
 refused-end (Peep object output) (b ∷ []) e h k = absurd (lint-good b e k.0 k.1 k.2 h)
+refused-end (Counts source memory output jumps) (b ∷ g ∷ []) e h k = absurd (job-good b g e k.0 k.2.0 k.2.1.0 k.1 k.2.1.1 h)
 refused-end _ _ e h k = absurd k
 
 -- the statuses of what is made
@@ -340,7 +382,7 @@ outcome-is (outcome.Fault m a) = tt
 outcome-is outcome.Going = tt
 
 pub makes-outcome : (c : Command) (bs : List (List ℕ)) (s : Status) (fs : List File) (t : List ℕ) → Makes c bs s fs t → IsOutcome s
-makes-outcome (Compile source object report slots budget store) (b ∷ []) s fs t h = compiled-outcome b object report slots [] budget store s fs t h
+makes-outcome (Compile source object report slots budget store weights) (b ∷ g) s fs t h = compiled-outcome b object report slots h.0 budget store s fs t h.2
 makes-outcome (Run object memory steps) (b ∷ g ∷ []) s fs t h = subst IsOutcome (sym h.1.ends) (outcome-is (engine (code_of h.1.o) h.1.arguments spill_base h.1.packet steps).outcome)
 makes-outcome (Exec source memory calls) (b ∷ g ∷ []) s fs t h = subst IsOutcome (sym h.1.ends) (outcome-is (meaning h.1.program h.1.arguments h.1.packet calls).outcome)
 makes-outcome (Asm input object) (b ∷ []) s fs t h = subst IsOutcome (sym h.done) tt
@@ -350,11 +392,18 @@ makes-outcome (Check report) (b ∷ []) s fs t h = subst IsOutcome (sym h.1.done
 makes-outcome (Gen seed size) [] s fs t h = subst IsOutcome (sym h.1) tt
 makes-outcome (Contexts object memory schedule) (b ∷ g ∷ u ∷ []) s fs t h = subst IsOutcome (sym h.1.taken.ends) (taken-outcome (scheduled (code_of h.1.o).list (entries h.1.pairs) (record { contexts = started (h.1.arguments ∷ h.1.others); packet = h.1.packet })).contexts)
 makes-outcome (Peep object output) (b ∷ []) s fs t h = subst IsOutcome (sym h.done) tt
+makes-outcome (Counts source memory output jumps) (b ∷ g ∷ []) s fs t h = subst IsOutcome (sym h.ends) (outcome-is (ssu_meaning h.form h.arguments h.packet jumps).outcome)
 makes-outcome _ _ s fs t h = absurd h
+
+outcome-saves : (o : Outcome) → MaySave (outcome_status o)
+outcome-saves (outcome.Ended ws) = tt
+outcome-saves (outcome.Raised k ws) = tt
+outcome-saves (outcome.Fault m a) = tt
+outcome-saves outcome.Going = tt
 
 -- files are saved only with these statuses
 pub makes-kept : (c : Command) (bs : List (List ℕ)) (s : Status) (fs : List File) (t : List ℕ) → Makes c bs s fs t → MaySave s ⊎ (fs ≡ [])
-makes-kept (Compile source object report slots budget store) (b ∷ []) s fs t h = inl (compiled-may_save b object report slots [] budget store s fs t h)
+makes-kept (Compile source object report slots budget store weights) (b ∷ g) s fs t h = inl (compiled-may_save b object report slots h.0 budget store s fs t h.2)
 makes-kept (Run object memory steps) (b ∷ g ∷ []) s fs t h = inr h.0
 makes-kept (Exec source memory calls) (b ∷ g ∷ []) s fs t h = inr h.0
 makes-kept (Asm input object) (b ∷ []) s fs t h = inl (subst MaySave (sym h.done) tt)
@@ -364,21 +413,19 @@ makes-kept (Check report) (b ∷ []) s fs t h = inr h.0
 makes-kept (Gen seed size) [] s fs t h = inr h.0
 makes-kept (Contexts object memory schedule) (b ∷ g ∷ u ∷ []) s fs t h = inr h.0
 makes-kept (Peep object output) (b ∷ []) s fs t h = inl (subst MaySave (sym h.done) tt)
+makes-kept (Counts source memory output jumps) (b ∷ g ∷ []) s fs t h = inl (subst MaySave (sym h.ends) (outcome-saves (ssu_meaning h.form h.arguments h.packet jumps).outcome))
 makes-kept _ _ s fs t h = absurd h
 
 -- contents are never why an input couldn't be read
-abbrev pub IsFault : Refusal → Type 0
-IsFault (ReadFault name) = Unit {0}
-IsFault _ = ⊥
-
 lint-unread : (b : List ℕ) (e : Refusal) → IsFault e → LintRefuses b e → ⊥
 lint-unread b (ReadFault name) f (inl h) = h
 lint-unread b (ReadFault name) f (inr h) = h.2
 lint-unread b _ f h = absurd f
 
 pub refuses-unread : (e : Refusal) (c : Command) (bs : List (List ℕ)) → IsFault e → Refuses c bs e → ⊥
-refuses-unread (ReadFault name) (Compile source object report slots budget store) (b ∷ []) f (inl h) = h
-refuses-unread (ReadFault name) (Compile source object report slots budget store) (b ∷ []) f (inr h) = h.2
+refuses-unread (ReadFault name) (Compile source object report slots budget store weights) (b ∷ g) f (inl (inl h)) = h
+refuses-unread (ReadFault name) (Compile source object report slots budget store weights) (b ∷ g) f (inl (inr h)) = weights-unread g (ReadFault name) tt h.2
+refuses-unread (ReadFault name) (Compile source object report slots budget store weights) (b ∷ g) f (inr h) = h.2.2
 refuses-unread (ReadFault name) (Run object memory steps) (b ∷ g ∷ []) f (inl h) = lint-unread b (ReadFault name) tt h
 refuses-unread (ReadFault name) (Run object memory steps) (b ∷ g ∷ []) f (inr h) = h.2.1
 refuses-unread (ReadFault name) (Exec source memory calls) (b ∷ g ∷ []) f (inl h) = h
@@ -392,5 +439,7 @@ refuses-unread (ReadFault name) (Contexts object memory schedule) (b ∷ g ∷ u
 refuses-unread (ReadFault name) (Contexts object memory schedule) (b ∷ g ∷ u ∷ []) f (inl (inr h)) = h.2.1
 refuses-unread (ReadFault name) (Contexts object memory schedule) (b ∷ g ∷ u ∷ []) f (inr h) = h.2.2
 refuses-unread (ReadFault name) (Peep object output) (b ∷ []) f h = lint-unread b (ReadFault name) tt h
+refuses-unread (ReadFault name) (Counts source memory output jumps) (b ∷ g ∷ []) f (inl h) = h
+refuses-unread (ReadFault name) (Counts source memory output jumps) (b ∷ g ∷ []) f (inr h) = h.2
 refuses-unread (ReadFault name) _ _ f h = h
 refuses-unread _ c bs f h = absurd f

@@ -4,7 +4,7 @@ use Rattle.std.specs.Prelude.{⊤}
 use Rattle.std.proofs.lemmas.List.{append-nil}
 use Rattle.nv_outside.specs.Holding.{Holding, AppendsFront}
 use Rattle.nova_commands.specs.Answers.{Makes, CanMake, CanEnd, Refuses, Shows, IsRefusable, IsCaused, IsDone, IsStopped, IsRefused, Ends, IsPrinted, IsBegun, IsFree, IsOnly}
-use Rattle.command_line.specs.Command.{Command, Compile, Run, Exec, Asm, Dis, Lint, Check, Gen, Contexts, Peep, IfCommand, IfCompile, IfGen, ForCommand, SomeFile, outputs_of}
+use Rattle.command_line.specs.Command.{Command, Compile, Run, Exec, Asm, Dis, Lint, Check, Gen, Contexts, Peep, Counts, IfCommand, IfCompile, IfGen, ForCommand, SomeFile, outputs_of}
 use Rattle.nova_commands.specs.Generating.{IsGenerated, GenRefuses, EndsGenerated}
 use Rattle.zo_cert.specs.declared.report.Verdict.{Verdict}
 use Rattle.nova_commands.specs.Headline.{IsCompiled, IfWithout, IsReported}
@@ -15,7 +15,7 @@ use Rattle.command_line.specs.Status.{MaySave}
 use Rattle.nova_commands.specs.inner.Replies.{HasEnded}
 use Rattle.machine_commands.specs.inner.Outcomes.{IsOutcome}
 use Rattle.command_line.specs.declared.refusal.Refusal.{Refusal}
-use Rattle.command_line.specs.declared.refusal.Refusal.TheVariants.{NoMemory, ReadFault, TooLarge, SourceChar, SourceNumber, SourceName, SourceSyntax, SourceDeep, SourceType, SourceLarge, Syntax, Label, BadObject, BadMemoryText, BadReport, FalseReport, Unlawful, UnlawfulLine, StoreFull, BadSchedule}
+use Rattle.command_line.specs.declared.refusal.Refusal.TheVariants.{NoMemory, ReadFault, TooLarge, SourceChar, SourceNumber, SourceName, SourceSyntax, SourceDeep, SourceType, SourceLarge, Syntax, Label, BadObject, BadMemoryText, BadReport, FalseReport, Unlawful, UnlawfulLine, StoreFull, BadWeights, BadSchedule}
 use Rattle.command_line.specs.declared.status.Status.{Status}
 use Rattle.command_line.specs.declared.status.Status.TheVariants as status
 use Rattle.nova_commands.proofs.Loads.{contents-one, stopped-read, stops-both, stops-map, unread-long, unread-one, none-long, Never}
@@ -51,6 +51,7 @@ refusal-is FalseReport = tt
 refusal-is (Unlawful p r) = tt
 refusal-is (UnlawfulLine p r) = tt
 refusal-is (StoreFull n) = tt
+refusal-is (BadWeights n) = tt
 refusal-is (BadSchedule n) = tt
 
 -- the sink failed, or the status r of the whole call is that of the command, and its text was printed
@@ -77,15 +78,15 @@ usage-not_write : (r : Status) → r ≡ status.Usage → r ≡ status.WriteFaul
 usage-not_write r d w = let e : status.Usage ≡ status.WriteFault = sym d ∙ w in cc
 
 -- the headline
-compiled-end : (T : Type 0) (old new : Holding) (LR SR : List ℕ → Type 0) (source object report : List ℕ) (slots budget store : ℕ) (s : Status) (text : List ℕ) → T → s ≡ status.Done → (object ≡ report → ⊥)
-    → HasEnded T old new LR SR (Compile source object report slots budget store) s text → IsCompiled old new source object report slots [] budget store text
-compiled-end T old new LR SR source object report slots budget store s text t d apart (inl h) = done-compiled T old new source object report slots budget store s text t d apart h
-compiled-end T old new LR SR source object report slots budget store s text t d apart (inr (inl w)) = absurd (done-not_fault s d w.0)
-compiled-end T old new LR SR source object report slots budget store s text t d apart (inr (inr h)) = absurd (subst IsRefusal d (refused-is T old new LR (Compile source object report slots budget store) s text h))
+compiled-end : (T : Type 0) (old new : Holding) (LR SR : List ℕ → Type 0) (source object report : List ℕ) (slots budget store : ℕ) (weights : Option (List ℕ)) (s : Status) (text : List ℕ) → T → s ≡ status.Done → (object ≡ report → ⊥)
+    → HasEnded T old new LR SR (Compile source object report slots budget store weights) s text → IsCompiled old new source object report slots budget store weights text
+compiled-end T old new LR SR source object report slots budget store weights s text t d apart (inl h) = done-compiled T old new source object report slots budget store weights s text t d apart h
+compiled-end T old new LR SR source object report slots budget store weights s text t d apart (inr (inl w)) = absurd (done-not_fault s d w.0)
+compiled-end T old new LR SR source object report slots budget store weights s text t d apart (inr (inr h)) = absurd (subst IsRefusal d (refused-is T old new LR (Compile source object report slots budget store weights) s text h))
 
 pub compiled : (Tells : Type 0) (old new : Holding) (LR SR : List ℕ → Type 0) (s r : Status) (text before after : List ℕ) (T Failed : Type 0) → Tells → IsTold s r text before after T Failed
-    → (o : Option Command) → IfCompile o (λ source object report slots budget store. object ≡ report → ⊥) → IfCommand o (λ c. HasEnded Tells old new LR SR c s text) → r ≡ status.Done
-    → IfCompile o (λ source object report slots budget store. (line : List ℕ) × IsCompiled old new source object report slots [] budget store line × (T → after ≡ before ++ line))
+    → (o : Option Command) → IfCompile o (λ source object report slots budget store weights. object ≡ report → ⊥) → IfCommand o (λ c. HasEnded Tells old new LR SR c s text) → r ≡ status.Done
+    → IfCompile o (λ source object report slots budget store weights. (line : List ℕ) × IsCompiled old new source object report slots budget store weights line × (T → after ≡ before ++ line))
 compiled Tells old new LR SR s r text before after T Failed tells told None apart a d = tt
 compiled Tells old new LR SR s r text before after T Failed tells told (Some (Run object memory steps)) apart a d = tt
 compiled Tells old new LR SR s r text before after T Failed tells told (Some (Exec source memory calls)) apart a d = tt
@@ -95,9 +96,10 @@ compiled Tells old new LR SR s r text before after T Failed tells told (Some (Li
 compiled Tells old new LR SR s r text before after T Failed tells told (Some (Check report)) apart a d = tt
 compiled Tells old new LR SR s r text before after T Failed tells told (Some (Contexts object memory schedule)) apart a d = tt
 compiled Tells old new LR SR s r text before after T Failed tells told (Some (Peep object output)) apart a d = tt
+compiled Tells old new LR SR s r text before after T Failed tells told (Some (Counts source memory output jumps)) apart a d = tt
 compiled Tells old new LR SR s r text before after T Failed tells told (Some (Gen seed size)) apart a d = tt
-compiled Tells old new LR SR s r text before after T Failed tells (inl w) (Some (Compile source object report slots budget store)) apart a d = absurd (done-not_fault r d w.0)
-compiled Tells old new LR SR s r text before after T Failed tells (inr h) (Some (Compile source object report slots budget store)) apart a d = (text, compiled-end Tells old new LR SR source object report slots budget store s text tells (sym h.0 ∙ d) apart a, h.1)
+compiled Tells old new LR SR s r text before after T Failed tells (inl w) (Some (Compile source object report slots budget store weights)) apart a d = absurd (done-not_fault r d w.0)
+compiled Tells old new LR SR s r text before after T Failed tells (inr h) (Some (Compile source object report slots budget store weights)) apart a d = (text, compiled-end Tells old new LR SR source object report slots budget store weights s text tells (sym h.0 ∙ d) apart a, h.1)
 
 -- the report alone
 without-none : (r : Status) → IfWithout r (λ v. ⊤)
@@ -113,15 +115,15 @@ refused-none _ P h = tt
 fault-none : (s : Status) (P : Verdict → Type 0) → s ≡ status.WriteFault → IfWithout s P
 fault-none s P w = subst (λ (x : Status). IfWithout x P) (sym w) tt
 
-reported-end : (T : Type 0) (old new : Holding) (LR SR : List ℕ → Type 0) (source object report : List ℕ) (slots budget store : ℕ) (s : Status) (text : List ℕ) → T
-    → HasEnded T old new LR SR (Compile source object report slots budget store) s text → IfWithout s (λ v. IsReported old new source report slots [] budget v)
-reported-end T old new LR SR source object report slots budget store s text t (inl h) = done-reported T old new source object report slots budget store s text t h
-reported-end T old new LR SR source object report slots budget store s text t (inr (inl w)) = fault-none s (λ v. IsReported old new source report slots [] budget v) w.0
-reported-end T old new LR SR source object report slots budget store s text t (inr (inr h)) =
-    refused-none s (λ v. IsReported old new source report slots [] budget v) (refused-is T old new LR (Compile source object report slots budget store) s text h)
+reported-end : (T : Type 0) (old new : Holding) (LR SR : List ℕ → Type 0) (source object report : List ℕ) (slots budget store : ℕ) (weights : Option (List ℕ)) (s : Status) (text : List ℕ) → T
+    → HasEnded T old new LR SR (Compile source object report slots budget store weights) s text → IfWithout s (λ v. IsReported old new source report slots budget weights v)
+reported-end T old new LR SR source object report slots budget store weights s text t (inl h) = done-reported T old new source object report slots budget store weights s text t h
+reported-end T old new LR SR source object report slots budget store weights s text t (inr (inl w)) = fault-none s (λ v. IsReported old new source report slots budget weights v) w.0
+reported-end T old new LR SR source object report slots budget store weights s text t (inr (inr h)) =
+    refused-none s (λ v. IsReported old new source report slots budget weights v) (refused-is T old new LR (Compile source object report slots budget store weights) s text h)
 
 pub reported : (Tells : Type 0) (old new : Holding) (LR SR : List ℕ → Type 0) (s r : Status) (text before after : List ℕ) (T Failed : Type 0) → Tells → IsTold s r text before after T Failed
-    → (o : Option Command) → IfCommand o (λ c. HasEnded Tells old new LR SR c s text) → IfWithout r (λ v. IfCompile o (λ source object report slots budget store. IsReported old new source report slots [] budget v))
+    → (o : Option Command) → IfCommand o (λ c. HasEnded Tells old new LR SR c s text) → IfWithout r (λ v. IfCompile o (λ source object report slots budget store weights. IsReported old new source report slots budget weights v))
 reported Tells old new LR SR s r text before after T Failed tells told None a = without-none r
 reported Tells old new LR SR s r text before after T Failed tells told (Some (Run object memory steps)) a = without-none r
 reported Tells old new LR SR s r text before after T Failed tells told (Some (Exec source memory calls)) a = without-none r
@@ -131,10 +133,11 @@ reported Tells old new LR SR s r text before after T Failed tells told (Some (Li
 reported Tells old new LR SR s r text before after T Failed tells told (Some (Check report)) a = without-none r
 reported Tells old new LR SR s r text before after T Failed tells told (Some (Contexts object memory schedule)) a = without-none r
 reported Tells old new LR SR s r text before after T Failed tells told (Some (Peep object output)) a = without-none r
+reported Tells old new LR SR s r text before after T Failed tells told (Some (Counts source memory output jumps)) a = without-none r
 reported Tells old new LR SR s r text before after T Failed tells told (Some (Gen seed size)) a = without-none r
-reported Tells old new LR SR s r text before after T Failed tells (inl w) (Some (Compile source object report slots budget store)) a = fault-none r (λ v. IsReported old new source report slots [] budget v) w.0
-reported Tells old new LR SR s r text before after T Failed tells (inr h) (Some (Compile source object report slots budget store)) a =
-    subst (λ (x : Status). IfWithout x (λ v. IsReported old new source report slots [] budget v)) (sym h.0) (reported-end Tells old new LR SR source object report slots budget store s text tells a)
+reported Tells old new LR SR s r text before after T Failed tells (inl w) (Some (Compile source object report slots budget store weights)) a = fault-none r (λ v. IsReported old new source report slots budget weights v) w.0
+reported Tells old new LR SR s r text before after T Failed tells (inr h) (Some (Compile source object report slots budget store weights)) a =
+    subst (λ (x : Status). IfWithout x (λ v. IsReported old new source report slots budget weights v)) (sym h.0) (reported-end Tells old new LR SR source object report slots budget store weights s text tells a)
 
 -- the line of `gen`
 gen-made : (seed size : ℕ) (bs : List (List ℕ)) (s : Status) (fs : List File) (t : List ℕ) → Makes (Gen seed size) bs s fs t → (s ≡ status.Done) × IsGenerated seed size t
@@ -176,7 +179,7 @@ gen-ended T old new LR SR seed size s text (inr (inr h)) = elim (gen-cause T old
 pub generated : (Tells : Type 0) (old new : Holding) (LR SR : List ℕ → Type 0) (s r : Status) (text before after : List ℕ) (T Failed : Type 0) → IsTold s r text before after T Failed
     → (o : Option Command) → IfCommand o (λ c. HasEnded Tells old new LR SR c s text) → IfGen o (λ seed size. EndsGenerated seed size r T before after)
 generated Tells old new LR SR s r text before after T Failed told None a = tt
-generated Tells old new LR SR s r text before after T Failed told (Some (Compile source object report slots budget store)) a = tt
+generated Tells old new LR SR s r text before after T Failed told (Some (Compile source object report slots budget store weights)) a = tt
 generated Tells old new LR SR s r text before after T Failed told (Some (Run object memory steps)) a = tt
 generated Tells old new LR SR s r text before after T Failed told (Some (Exec source memory calls)) a = tt
 generated Tells old new LR SR s r text before after T Failed told (Some (Asm input object)) a = tt
@@ -185,13 +188,14 @@ generated Tells old new LR SR s r text before after T Failed told (Some (Lint ob
 generated Tells old new LR SR s r text before after T Failed told (Some (Check report)) a = tt
 generated Tells old new LR SR s r text before after T Failed told (Some (Contexts object memory schedule)) a = tt
 generated Tells old new LR SR s r text before after T Failed told (Some (Peep object output)) a = tt
+generated Tells old new LR SR s r text before after T Failed told (Some (Counts source memory output jumps)) a = tt
 generated Tells old new LR SR s r text before after T Failed (inl w) (Some (Gen seed size)) a = inl w.0
 generated Tells old new LR SR s r text before after T Failed (inr h) (Some (Gen seed size)) a = gen-told seed size s r text before after T h.0 h.1 (gen-ended Tells old new LR SR seed size s text a)
 
 -- memory failed before anything was printed
 pub memory-generated : (o : Option Command) (before after : List ℕ) (T : Type 0) → IfGen o (λ seed size. EndsGenerated seed size status.NoMemory T before after)
 memory-generated None before after T = tt
-memory-generated (Some (Compile source object report slots budget store)) before after T = tt
+memory-generated (Some (Compile source object report slots budget store weights)) before after T = tt
 memory-generated (Some (Run object memory steps)) before after T = tt
 memory-generated (Some (Exec source memory calls)) before after T = tt
 memory-generated (Some (Asm input object)) before after T = tt
@@ -200,6 +204,7 @@ memory-generated (Some (Lint object)) before after T = tt
 memory-generated (Some (Check report)) before after T = tt
 memory-generated (Some (Contexts object memory schedule)) before after T = tt
 memory-generated (Some (Peep object output)) before after T = tt
+memory-generated (Some (Counts source memory output jumps)) before after T = tt
 memory-generated (Some (Gen seed size)) before after T = inr (inl refl)
 
 -- what was printed
@@ -360,6 +365,7 @@ fault-input T held R c FalseReport is h = absurd cc
 fault-input T held R c (Unlawful p r) is h = absurd cc
 fault-input T held R c (UnlawfulLine p r) is h = absurd cc
 fault-input T held R c (StoreFull n) is h = absurd cc
+fault-input T held R c (BadWeights n) is h = absurd cc
 fault-input T held R c (BadSchedule n) is h = absurd cc
 
 read-end : (Tells : Type 0) (old new : Holding) (LR SR : List ℕ → Type 0) (c : Command) (s : Status) (text : List ℕ) → s ≡ status.ReadFault → HasEnded Tells old new LR SR c s text

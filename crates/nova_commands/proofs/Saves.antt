@@ -1,15 +1,17 @@
 -- The files that a command saves.
-use Rattle.std.proofs.Common.{◌≡◌, ℕ, ◌⊎◌, inl, inr, List, [], ◌∷◌, refl, ap, sym, ◌∙◌, subst, arith}
+use Rattle.std.proofs.Common.{◌≡◌, ℕ, ◌⊎◌, inl, inr, List, [], ◌∷◌, Option, Some, None, refl, ap, sym, ◌∙◌, subst, arith}
 use Rattle.std.specs.Prelude.{Contains}
 use Rattle.nv_outside.specs.Holding.{Holding, Replaced, SameElsewhere}
 use Rattle.nova_commands.specs.Answers.{Makes, Refuses, IsCaused, IsDone, IsStopped}
-use Rattle.command_line.specs.Command.{Command, Compile, Run, Exec, Asm, Dis, Lint, Check, Gen, Contexts, Peep, SomeFile, outputs_of}
+use Rattle.command_line.specs.Command.{Command, Compile, Run, Exec, Asm, Dis, Lint, Check, Gen, Contexts, Peep, Counts, SomeFile, outputs_of}
 use Rattle.zo_cert.specs.declared.report.Verdict.{Verdict}
 use Rattle.zo_cert.specs.declared.report.Verdict.TheVariants as verdict
 use Rattle.nova_commands.specs.Headline.{CompiledMakes, WithoutMakes, CompileMakes, IsCompiled, IfWithout, IsReported}
 use Rattle.command_line.specs.Limits.{source_limit}
 use Rattle.command_line.specs.Lines.{IsUncaused, cannot_write}
 use Rattle.nova_commands.specs.Loading.{input, IsRead, AreRead, StopsAt, IsUnread, inputs_of}
+use Rattle.nova_commands.specs.Weighing.{AreWeighed, HasWeights}
+use Rattle.command_line.specs.Inputs.{weights_input}
 use Rattle.machine_commands.specs.Saving.{File, file, AreSaved, IsCut, IsSameBut}
 use Rattle.command_line.specs.declared.refusal.Refusal.{Refusal}
 use Rattle.command_line.specs.declared.status.Status.{Status}
@@ -94,7 +96,7 @@ compiled-cut_elsewhere T text object report slots ws budget store _ fs t old new
 
 -- a save that failed is of one of the outputs
 pub cut-output : (T : Type 0) (c : Command) (bs : List (List ℕ)) (s : Status) (fs : List File) (t : List ℕ) (old new : Holding) (P : List ℕ → Type 0) → Makes c bs s fs t → IsCut T fs old new P → SomeFile (outputs_of c) P
-cut-output T (Compile source object report slots budget store) (b ∷ []) s fs t old new P h k = compiled-cut T b object report slots [] budget store s fs t old new P h k
+cut-output T (Compile source object report slots budget store weights) (b ∷ g) s fs t old new P h k = compiled-cut T b object report slots h.0 budget store s fs t old new P h.2 k
 cut-output T (Run object memory steps) (b ∷ g ∷ []) s fs t old new P h k = absurd (subst (λ (x : List File). IsCut T x old new P) h.0 k)
 cut-output T (Exec source memory calls) (b ∷ g ∷ []) s fs t old new P h k = absurd (subst (λ (x : List File). IsCut T x old new P) h.0 k)
 cut-output T (Asm input object) (b ∷ []) s fs t old new P h k = (object, (0, omega arith, refl), (cut-only T fs (file object h.object) old new P h.saves k).0)
@@ -104,6 +106,7 @@ cut-output T (Check report) (b ∷ []) s fs t old new P h k = absurd (subst (λ 
 cut-output T (Gen seed size) [] s fs t old new P h k = absurd (subst (λ (x : List File). IsCut T x old new P) h.0 k)
 cut-output T (Contexts object memory schedule) (b ∷ g ∷ u ∷ []) s fs t old new P h k = absurd (subst (λ (x : List File). IsCut T x old new P) h.0 k)
 cut-output T (Peep object output) (b ∷ []) s fs t old new P h k = (output, (0, omega arith, refl), (cut-only T fs (file output h.saved) old new P h.saves k).0)
+cut-output T (Counts source memory output jumps) (b ∷ g ∷ []) s fs t old new P h k = (output, (0, omega arith, refl), (cut-only T fs (file output h.counts) old new P h.saves k).0)
 cut-output T _ _ s fs t old new P h k = absurd h
 
 -- no other file changed
@@ -117,7 +120,7 @@ pub nothing-saved : (fs : List File) (old new : Holding) → fs ≡ [] → AreSa
 nothing-saved fs old new is h = subst (λ (x : List File). AreSaved x old new) is h
 
 pub saved-elsewhere : (c : Command) (bs : List (List ℕ)) (s : Status) (fs : List File) (t : List ℕ) (old new : Holding) → Makes c bs s fs t → AreSaved fs old new → IsSameBut (outputs_of c) old new
-saved-elsewhere (Compile source object report slots budget store) (b ∷ []) s fs t old new h k = compiled-elsewhere b object report slots [] budget store s fs t old new h k
+saved-elsewhere (Compile source object report slots budget store weights) (b ∷ g) s fs t old new h k = compiled-elsewhere b object report slots h.0 budget store s fs t old new h.2 k
 saved-elsewhere (Run object memory steps) (b ∷ g ∷ []) s fs t old new h k = same-all [] old new (nothing-saved fs old new h.0 k)
 saved-elsewhere (Exec source memory calls) (b ∷ g ∷ []) s fs t old new h k = same-all [] old new (nothing-saved fs old new h.0 k)
 saved-elsewhere (Asm input object) (b ∷ []) s fs t old new h k = same-but old new object (saved-only fs (file object h.object) old new h.saves k).elsewhere
@@ -127,10 +130,11 @@ saved-elsewhere (Check report) (b ∷ []) s fs t old new h k = same-all [] old n
 saved-elsewhere (Gen seed size) [] s fs t old new h k = same-all [] old new (nothing-saved fs old new h.0 k)
 saved-elsewhere (Contexts object memory schedule) (b ∷ g ∷ u ∷ []) s fs t old new h k = same-all [] old new (nothing-saved fs old new h.0 k)
 saved-elsewhere (Peep object output) (b ∷ []) s fs t old new h k = same-but old new output (saved-only fs (file output h.saved) old new h.saves k).elsewhere
+saved-elsewhere (Counts source memory output jumps) (b ∷ g ∷ []) s fs t old new h k = same-but old new output (saved-only fs (file output h.counts) old new h.saves k).elsewhere
 saved-elsewhere _ _ s fs t old new h k = absurd h
 
 pub cut-elsewhere : (T : Type 0) (c : Command) (bs : List (List ℕ)) (s : Status) (fs : List File) (t : List ℕ) (old new : Holding) (P : List ℕ → Type 0) → T → Makes c bs s fs t → IsCut T fs old new P → IsSameBut (outputs_of c) old new
-cut-elsewhere T (Compile source object report slots budget store) (b ∷ []) s fs t old new P tells h k = compiled-cut_elsewhere T b object report slots [] budget store s fs t old new P tells h k
+cut-elsewhere T (Compile source object report slots budget store weights) (b ∷ g) s fs t old new P tells h k = compiled-cut_elsewhere T b object report slots h.0 budget store s fs t old new P tells h.2 k
 cut-elsewhere T (Run object memory steps) (b ∷ g ∷ []) s fs t old new P tells h k = absurd (subst (λ (x : List File). IsCut T x old new P) h.0 k)
 cut-elsewhere T (Exec source memory calls) (b ∷ g ∷ []) s fs t old new P tells h k = absurd (subst (λ (x : List File). IsCut T x old new P) h.0 k)
 cut-elsewhere T (Asm input object) (b ∷ []) s fs t old new P tells h k = same-but old new object ((cut-only T fs (file object h.object) old new P h.saves k).1 tells)
@@ -140,17 +144,29 @@ cut-elsewhere T (Check report) (b ∷ []) s fs t old new P tells h k = absurd (s
 cut-elsewhere T (Gen seed size) [] s fs t old new P tells h k = absurd (subst (λ (x : List File). IsCut T x old new P) h.0 k)
 cut-elsewhere T (Contexts object memory schedule) (b ∷ g ∷ u ∷ []) s fs t old new P tells h k = absurd (subst (λ (x : List File). IsCut T x old new P) h.0 k)
 cut-elsewhere T (Peep object output) (b ∷ []) s fs t old new P tells h k = same-but old new output ((cut-only T fs (file output h.saved) old new P h.saves k).1 tells)
+cut-elsewhere T (Counts source memory output jumps) (b ∷ g ∷ []) s fs t old new P tells h k = same-but old new output ((cut-only T fs (file output h.counts) old new P h.saves k).1 tells)
 cut-elsewhere T _ _ s fs t old new P tells h k = absurd h
 
+-- the weights are those by the file that is named
+named-weights : (T : Type 0) (old : Holding) (weights : Option (List ℕ)) (g : List (List ℕ)) (ws : List ℕ) → T → AreRead T old (weights_input weights) g → AreWeighed g ws → HasWeights old weights ws
+named-weights T old None [] ws tells read h = h
+named-weights T old None (t ∷ g) ws tells read h = absurd read
+named-weights T old (Some name) [] ws tells read h = absurd read
+named-weights T old (Some name) (t ∷ []) ws tells read h = (t, read.0.here tells, read.0.short, h)
+named-weights T old (Some name) (t ∷ u ∷ g) ws tells read h = absurd h
+
 -- what `compile` saved is compiled
-compiled-with : (T : Type 0) (old new : Holding) (source object report : List ℕ) (slots : ℕ) (ws : List ℕ) (budget store : ℕ) (b : List ℕ) (fs : List File) (t : List ℕ)
-    → T → (object ≡ report → ⊥) → IsRead T old (input source source_limit) b → CompiledMakes b object report slots ws budget store fs t → AreSaved fs old new → IsCompiled old new source object report slots ws budget store t
-compiled-with T old new source object report slots ws budget store b fs t tells apart read h saved =
+compiled-with : (T : Type 0) (old new : Holding) (source object report : List ℕ) (slots : ℕ) (ws : List ℕ) (budget store : ℕ) (weights : Option (List ℕ)) (b : List ℕ) (fs : List File) (t : List ℕ)
+    → T → (object ≡ report → ⊥) → IsRead T old (input source source_limit) b → HasWeights old weights ws → CompiledMakes b object report slots ws budget store fs t → AreSaved fs old new
+    → IsCompiled old new source object report slots budget store weights t
+compiled-with T old new source object report slots ws budget store weights b fs t tells apart read weighed h saved =
     let both : AreBoth (file object h.object) (file report h.report) old new = both-saved (file object h.object) (file report h.report) old new (subst (λ (x : List File). AreSaved x old new) h.saves saved) in
     record {
       text = b;
       held = read.here tells;
       short = read.short;
+      ws = ws;
+      weighed = weighed;
       object = h.object;
       saved = both.second.elsewhere object apart ∙ both.first.here;
       report = h.report;
@@ -162,23 +178,25 @@ compiled-with T old new source object report slots ws budget store b fs t tells 
       told = h.told;
     }
 
-compiled-of : (T : Type 0) (old new : Holding) (source object report : List ℕ) (slots budget store : ℕ) (bs : List (List ℕ)) (s : Status) (fs : List File) (t : List ℕ)
-    → T → s ≡ Done → (object ≡ report → ⊥) → AreRead T old (inputs_of (Compile source object report slots budget store)) bs → Makes (Compile source object report slots budget store) bs s fs t → (T → AreSaved fs old new)
-    → IsCompiled old new source object report slots [] budget store t
-compiled-of T old new source object report slots budget store (b ∷ []) s fs t tells done apart read h saved =
-    compiled-with T old new source object report slots [] budget store b fs t tells apart read.0 (subst (λ (x : Status). CompileMakes b object report slots [] budget store x fs t) done h) (saved tells)
-compiled-of T old new source object report slots budget store _ s fs t tells done apart read h saved = absurd h
+compiled-of : (T : Type 0) (old new : Holding) (source object report : List ℕ) (slots budget store : ℕ) (weights : Option (List ℕ)) (bs : List (List ℕ)) (s : Status) (fs : List File) (t : List ℕ)
+    → T → s ≡ Done → (object ≡ report → ⊥) → AreRead T old (inputs_of (Compile source object report slots budget store weights)) bs → Makes (Compile source object report slots budget store weights) bs s fs t → (T → AreSaved fs old new)
+    → IsCompiled old new source object report slots budget store weights t
+compiled-of T old new source object report slots budget store weights (b ∷ g) s fs t tells done apart read h saved =
+    compiled-with T old new source object report slots h.0 budget store weights b fs t tells apart read.0 (named-weights T old weights g h.0 tells read.1 h.1) (subst (λ (x : Status). CompileMakes b object report slots h.0 budget store x fs t) done h.2) (saved tells)
+compiled-of T old new source object report slots budget store weights [] s fs t tells done apart read h saved = absurd h
 
-pub done-compiled : (T : Type 0) (old new : Holding) (source object report : List ℕ) (slots budget store : ℕ) (s : Status) (t : List ℕ) → T → s ≡ Done → (object ≡ report → ⊥) → IsDone T old new (Compile source object report slots budget store) s t
-    → IsCompiled old new source object report slots [] budget store t
-done-compiled T old new source object report slots budget store s t tells done apart h = compiled-of T old new source object report slots budget store h.contents s h.files t tells done apart h.read h.makes h.saved
+pub done-compiled : (T : Type 0) (old new : Holding) (source object report : List ℕ) (slots budget store : ℕ) (weights : Option (List ℕ)) (s : Status) (t : List ℕ) → T → s ≡ Done → (object ≡ report → ⊥) → IsDone T old new (Compile source object report slots budget store weights) s t
+    → IsCompiled old new source object report slots budget store weights t
+done-compiled T old new source object report slots budget store weights s t tells done apart h = compiled-of T old new source object report slots budget store weights h.contents s h.files t tells done apart h.read h.makes h.saved
 
 -- what it saved without banks
-reported-with : (T : Type 0) (old new : Holding) (source report : List ℕ) (slots : ℕ) (ws : List ℕ) (budget : ℕ) (v : Verdict) (b : List ℕ) (fs : List File) → T → IsRead T old (input source source_limit) b → WithoutMakes b report slots ws budget v fs
-    → AreSaved fs old new → IsReported old new source report slots ws budget v
-reported-with T old new source report slots ws budget v b fs tells read h saved = record {
+reported-with : (T : Type 0) (old new : Holding) (source report : List ℕ) (slots : ℕ) (ws : List ℕ) (budget : ℕ) (weights : Option (List ℕ)) (v : Verdict) (b : List ℕ) (fs : List File) → T → IsRead T old (input source source_limit) b → HasWeights old weights ws
+    → WithoutMakes b report slots ws budget v fs → AreSaved fs old new → IsReported old new source report slots budget weights v
+reported-with T old new source report slots ws budget weights v b fs tells read weighed h saved = record {
   text = b;
   held = read.here tells;
+  ws = ws;
+  weighed = weighed;
   program = h.program;
   is_source = h.is_source;
   report = h.report;
@@ -188,17 +206,17 @@ reported-with T old new source report slots ws budget v b fs tells read h saved 
   without = h.without;
 }
 
-reported-of : (T : Type 0) (old new : Holding) (source object report : List ℕ) (slots budget store : ℕ) (bs : List (List ℕ)) (s : Status) (fs : List File) (t : List ℕ)
-    → T → AreRead T old (inputs_of (Compile source object report slots budget store)) bs → Makes (Compile source object report slots budget store) bs s fs t → (T → AreSaved fs old new)
-    → IfWithout s (λ v. IsReported old new source report slots [] budget v)
-reported-of T old new source object report slots budget store (b ∷ []) Infeasible fs t tells read h saved = reported-with T old new source report slots [] budget verdict.Infeasible b fs tells read.0 h.0 (saved tells)
-reported-of T old new source object report slots budget store (b ∷ []) BudgetSpent fs t tells read h saved = reported-with T old new source report slots [] budget verdict.Spent b fs tells read.0 h.0 (saved tells)
-reported-of T old new source object report slots budget store (b ∷ []) _ fs t tells read h saved = tt
-reported-of T old new source object report slots budget store _ s fs t tells read h saved = absurd h
+reported-of : (T : Type 0) (old new : Holding) (source object report : List ℕ) (slots budget store : ℕ) (weights : Option (List ℕ)) (bs : List (List ℕ)) (s : Status) (fs : List File) (t : List ℕ)
+    → T → AreRead T old (inputs_of (Compile source object report slots budget store weights)) bs → Makes (Compile source object report slots budget store weights) bs s fs t → (T → AreSaved fs old new)
+    → IfWithout s (λ v. IsReported old new source report slots budget weights v)
+reported-of T old new source object report slots budget store weights (b ∷ g) Infeasible fs t tells read h saved = reported-with T old new source report slots h.0 budget weights verdict.Infeasible b fs tells read.0 (named-weights T old weights g h.0 tells read.1 h.1) h.2.0 (saved tells)
+reported-of T old new source object report slots budget store weights (b ∷ g) BudgetSpent fs t tells read h saved = reported-with T old new source report slots h.0 budget weights verdict.Spent b fs tells read.0 (named-weights T old weights g h.0 tells read.1 h.1) h.2.0 (saved tells)
+reported-of T old new source object report slots budget store weights (b ∷ g) _ fs t tells read h saved = tt
+reported-of T old new source object report slots budget store weights [] s fs t tells read h saved = absurd h
 
-pub done-reported : (T : Type 0) (old new : Holding) (source object report : List ℕ) (slots budget store : ℕ) (s : Status) (t : List ℕ) → T → IsDone T old new (Compile source object report slots budget store) s t
-    → IfWithout s (λ v. IsReported old new source report slots [] budget v)
-done-reported T old new source object report slots budget store s t tells h = reported-of T old new source object report slots budget store h.contents s h.files t tells h.read h.makes h.saved
+pub done-reported : (T : Type 0) (old new : Holding) (source object report : List ℕ) (slots budget store : ℕ) (weights : Option (List ℕ)) (s : Status) (t : List ℕ) → T → IsDone T old new (Compile source object report slots budget store weights) s t
+    → IfWithout s (λ v. IsReported old new source report slots budget weights v)
+done-reported T old new source object report slots budget store weights s t tells h = reported-of T old new source object report slots budget store weights h.contents s h.files t tells h.read h.makes h.saved
 
 -- what was made is saved, or a save failed
 pub saves-end : (T : Type 0) (old mid new : Holding) (Rises Later : List ℕ → Type 0) (c : Command) (bs : List (List ℕ)) (made s : Status) (fs : List File) (line t : List ℕ)

@@ -2,16 +2,20 @@
 use Rattle.std.specs.Prelude.{◌≡◌, ◌⊎◌, ◌++◌, ℕ, List, [], ◌∷◌, ⊤}
 use Rattle.nv_outside.specs.Holding.{Holding, AppendsFront}
 use Rattle.machine_commands.specs.Assembly.{AsmMakes, AsmRefuses, HasAssembly, IsListed}
-use Rattle.command_line.specs.Command.{Command, Compile, Run, Exec, Asm, Dis, Lint, Check, Gen, Contexts, Peep}
+use Rattle.command_line.specs.Command.{Command, Compile, Run, Exec, Asm, Dis, Lint, Check, Gen, Contexts, Peep, Counts}
 use Rattle.nova_commands.specs.Checking.{CheckRefuses, IsChecked}
-use Rattle.nova_commands.specs.Executing.{ExecRefuses, IsExecuted}
+use Rattle.nova_commands.specs.Entries.{CountsMake}
+use Rattle.nova_commands.specs.Executing.{ExecRefuses, IsExecuted, HasJob}
 use Rattle.nova_commands.specs.Generating.{IsGenerated, GenRefuses}
-use Rattle.nova_commands.specs.Headline.{CompileMakes, CompileRefuses, IsEndOf}
+use Rattle.nova_commands.specs.Headline.{WeighedMakes, WeighedRefuses, IsEndOf}
 use Rattle.command_line.specs.Lines.{IsUncaused, refusal_status, refusal_text, cannot_write}
+use Rattle.nova_commands.specs.Weighing.{AreWeighed, TextsRefuse}
 use Rattle.nova_commands.specs.Loading.{AreRead, StopsAt, IsUnread, inputs_of}
 use Rattle.machine_commands.specs.Machine.{HasCode, IsBadObjectFor, LintRefuses, IsLinted, RunRefuses, IsRun}
+use Rattle.nv_base.specs.declared.outcome.Outcome.{Outcome}
+use Rattle.command_line.specs.Status.{outcome_status}
 use Rattle.uc_isa.specs.Lawful.{IsLawful}
-use Rattle.nova_commands.specs.Reading.{HasTyped, SourceRefuses}
+use Rattle.nova_commands.specs.Reading.{HasTyped}
 use Rattle.machine_commands.specs.Peeping.{PeepMakes}
 use Rattle.machine_commands.specs.Saving.{File, AreSaved, IsCut}
 use Rattle.machine_commands.specs.Scheduled.{ContextsRefuse, IsScheduled}
@@ -21,7 +25,7 @@ use Rattle.command_line.specs.declared.status.Status.TheVariants.{Done, ReadFaul
 
 -- what a command makes of the contents of its inputs: a status, the files that it saves, in this order, and a text
 abbrev pub Makes : Command → List (List ℕ) → Status → List File → List ℕ → Type 0
-Makes (Compile source object report slots budget store) (bytes ∷ []) status files text = CompileMakes bytes object report slots [] budget store status files text
+Makes (Compile source object report slots budget store weights) (bytes ∷ given) status files text = WeighedMakes bytes given object report slots budget store status files text
 Makes (Run object memory steps) (bytes ∷ given ∷ []) status files text = (files ≡ []) × IsRun bytes given steps status text
 Makes (Exec source memory calls) (bytes ∷ given ∷ []) status files text = (files ≡ []) × IsExecuted bytes given calls status text
 Makes (Asm input object) (bytes ∷ []) status files text = AsmMakes bytes object status files text
@@ -31,6 +35,7 @@ Makes (Check report) (bytes ∷ []) status files text = (files ≡ []) × IsChec
 Makes (Gen seed size) [] status files text = (files ≡ []) × (status ≡ Done) × IsGenerated seed size text
 Makes (Contexts object memory schedule) (bytes ∷ given ∷ turns ∷ []) status files text = (files ≡ []) × IsScheduled bytes given turns status text
 Makes (Peep object output) (bytes ∷ []) status files text = PeepMakes bytes output status files text
+Makes (Counts source memory output jumps) (bytes ∷ given ∷ []) status files text = CountsMake bytes given output jumps status files text
 Makes _ _ status files text = ⊥
 
 -- what a command makes without a file, of contents that decide it
@@ -43,23 +48,25 @@ Prints (Check report) (bytes ∷ []) status text = IsChecked bytes status text
 Prints (Contexts object memory schedule) (bytes ∷ given ∷ turns ∷ []) status text = IsScheduled bytes given turns status text
 Prints _ _ status text = ⊥
 
--- the contents of the input of a command that saves a file are those of a program, or of code
+-- the contents of the inputs of a command that saves a file are such as it can make it of: a program, code, weights, memories
 abbrev pub CanMake : Command → List (List ℕ) → Type 0
-CanMake (Compile source object report slots budget store) (bytes ∷ []) = HasTyped bytes (λ _. ⊤)
+CanMake (Compile source object report slots budget store weights) (bytes ∷ given) = HasTyped bytes (λ _. (ws : List ℕ) × AreWeighed given ws)
 CanMake (Asm input object) (bytes ∷ []) = HasAssembly bytes
 CanMake (Peep object output) (bytes ∷ []) = HasCode bytes (λ c. IsLawful c.list)
+CanMake (Counts source memory output jumps) (bytes ∷ given ∷ []) = HasJob bytes given
 CanMake _ _ = ⊥
 
 -- how it ends then
 abbrev pub CanEnd : Command → List (List ℕ) → Status → Type 0
-CanEnd (Compile source object report slots budget store) (bytes ∷ []) status = HasTyped bytes (λ program. IsEndOf program slots store status)
+CanEnd (Compile source object report slots budget store weights) (bytes ∷ given) status = HasTyped bytes (λ program. IsEndOf program slots store status)
 CanEnd (Asm input object) (bytes ∷ []) status = status ≡ Done
 CanEnd (Peep object output) (bytes ∷ []) status = status ≡ Done
+CanEnd (Counts source memory output jumps) (bytes ∷ given ∷ []) status = (o : Outcome) × (status ≡ outcome_status o)
 CanEnd _ _ status = ⊥
 
 -- the contents of its inputs are why a command is refused
 abbrev pub Refuses : Command → List (List ℕ) → Refusal → Type 0
-Refuses (Compile source object report slots budget store) (bytes ∷ []) e = CompileRefuses bytes slots [] budget store e
+Refuses (Compile source object report slots budget store weights) (bytes ∷ given) e = WeighedRefuses bytes given slots budget store e
 Refuses (Run object memory steps) (bytes ∷ given ∷ []) e = RunRefuses bytes given e
 Refuses (Exec source memory calls) (bytes ∷ given ∷ []) e = ExecRefuses bytes given e
 Refuses (Asm input object) (bytes ∷ []) e = AsmRefuses bytes e
@@ -69,11 +76,12 @@ Refuses (Check report) (bytes ∷ []) e = CheckRefuses bytes e
 Refuses (Gen seed size) [] e = GenRefuses seed size e
 Refuses (Contexts object memory schedule) (bytes ∷ given ∷ turns ∷ []) e = ContextsRefuse bytes given turns e
 Refuses (Peep object output) (bytes ∷ []) e = LintRefuses bytes e
+Refuses (Counts source memory output jumps) (bytes ∷ given ∷ []) e = ExecRefuses bytes given e
 Refuses _ _ e = ⊥
 
 -- the same where the contents alone decide it: why a typed program isn't compiled its form and its code decide
 abbrev pub MustRefuse : Command → List (List ℕ) → Refusal → Type 0
-MustRefuse (Compile source object report slots budget store) (bytes ∷ []) e = SourceRefuses bytes e
+MustRefuse (Compile source object report slots budget store weights) (bytes ∷ given) e = TextsRefuse bytes given e
 MustRefuse (Run object memory steps) (bytes ∷ given ∷ []) e = RunRefuses bytes given e
 MustRefuse (Exec source memory calls) (bytes ∷ given ∷ []) e = ExecRefuses bytes given e
 MustRefuse (Asm input object) (bytes ∷ []) e = AsmRefuses bytes e
@@ -82,6 +90,7 @@ MustRefuse (Lint object) (bytes ∷ []) e = LintRefuses bytes e
 MustRefuse (Check report) (bytes ∷ []) e = CheckRefuses bytes e
 MustRefuse (Contexts object memory schedule) (bytes ∷ given ∷ turns ∷ []) e = ContextsRefuse bytes given turns e
 MustRefuse (Peep object output) (bytes ∷ []) e = LintRefuses bytes e
+MustRefuse (Counts source memory output jumps) (bytes ∷ given ∷ []) e = ExecRefuses bytes given e
 MustRefuse _ _ e = ⊥
 
 -- an input isn't read, while those before it are, or all are, and their contents are why

@@ -17,6 +17,10 @@ abbrev pub ExecRefuses : List ℕ → List ℕ → Refusal → Type 0
 ExecRefuses text memory e =
     SourceRefuses text e ⊎ HasTyped text (λ program. IsMemoryRefusedFor (main_words program) memory e)
 
+-- the source is that of a program, and the memory text gives its arguments and memories
+abbrev pub HasJob : List ℕ → List ℕ → Type 0
+HasJob text memory = HasTyped text (λ program. (packet : Memories) × ((arguments : List ℕ) × Gives (main_words program) memory packet arguments))
+
 -- the status and the text are those of what the program of the source means, with so many calls, on the arguments and
 -- memories that the memory text gives
 pub record IsExecuted (source_text memory : List ℕ) (calls : ℕ) (status : Status) (text : List ℕ) : Type 0 where

@@ -1,5 +1,5 @@
 -- What a compilation promises, and when it is refused.
-use Rattle.std.specs.Prelude.{◌≡◌, ◌≤◌, ◌<◌, ◌⊎◌, ℕ, List, [], ◌∷◌, Some, length, ⊤}
+use Rattle.std.specs.Prelude.{◌≡◌, ◌≤◌, ◌<◌, ◌⊎◌, ℕ, List, [], ◌∷◌, Option, Some, None, length, ⊤}
 use Rattle.nv_outside.specs.Holding.{Holding, Replaced}
 use Rattle.nv_ast.specs.Sizes.{main_words, room}
 use Rattle.nv_ast.specs.Tree.{ProgramTree}
@@ -19,6 +19,7 @@ use Rattle.nova_commands.specs.Forms.{form_bound, HasBanks, HasSmallBanks, HasLa
 use Rattle.command_line.specs.Lines.{compiled_text, infeasible_text, spent_text}
 use Rattle.command_line.specs.Limits.{source_limit}
 use Rattle.nova_commands.specs.Reading.{HasTyped, SourceRefuses}
+use Rattle.nova_commands.specs.Weighing.{AreWeighed, HasWeights, TextsRefuse}
 use Rattle.machine_commands.specs.Saving.{File, file, IsSameBut}
 use Rattle.command_line.specs.declared.refusal.Refusal.{Refusal}
 use Rattle.command_line.specs.declared.refusal.Refusal.TheVariants.{SourceLarge, StoreFull}
@@ -45,11 +46,14 @@ pub record IsCompiledTo (text object report : List ℕ) (slots : ℕ) (ws : List
   pub reports : IsReportOf report r
   pub banks : HasBanks program slots ws budget tagged.code tagged.starts r
 
--- the source is held; the object and the report are now those of its code and its banks, which are told, and no other file changed
-pub record IsCompiled (old new : Holding) (source_name object_name report_name : List ℕ) (slots : ℕ) (ws : List ℕ) (budget store : ℕ) (line : List ℕ) : Type 0 where
+-- the source and the weights are held; the object and the report are now those of its code and its banks, which are told, and no other file
+-- changed
+pub record IsCompiled (old new : Holding) (source_name object_name report_name : List ℕ) (slots budget store : ℕ) (weights_name : Option (List ℕ)) (line : List ℕ) : Type 0 where
   pub text : List ℕ
   pub held : old source_name ≡ Some text
   pub short : length text ≤ source_limit
+  pub ws : List ℕ
+  pub weighed : HasWeights old weights_name ws
   pub object : List ℕ
   pub saved : new object_name ≡ Some object
   pub report : List ℕ
@@ -68,11 +72,13 @@ IfWithout ends.Infeasible P = P verdict.Infeasible
 IfWithout ends.BudgetSpent P = P verdict.Spent
 IfWithout _ P = ⊤
 
--- the source is held; the report is now the text of a true one on the banks of a form of its program, which has this verdict, and no other
--- file changed
-pub record IsReported (old new : Holding) (source_name report_name : List ℕ) (slots : ℕ) (ws : List ℕ) (budget : ℕ) (verdict : Verdict) : Type 0 where
+-- the source and the weights are held; the report is now the text of a true one on the banks of a form of its program, which has this
+-- verdict, and no other file changed
+pub record IsReported (old new : Holding) (source_name report_name : List ℕ) (slots budget : ℕ) (weights_name : Option (List ℕ)) (verdict : Verdict) : Type 0 where
   pub text : List ℕ
   pub held : old source_name ≡ Some text
+  pub ws : List ℕ
+  pub weighed : HasWeights old weights_name ws
   pub program : ProgramTree
   pub is_source : IsTypedSource text program
   pub report : List ℕ
@@ -110,6 +116,11 @@ CompileMakes text object_name report_name slots ws budget store ends.Infeasible 
 CompileMakes text object_name report_name slots ws budget store ends.BudgetSpent files line = WithoutMakes text report_name slots ws budget verdict.Spent files × (line ≡ spent_text budget)
 CompileMakes text object_name report_name slots ws budget store _ files line = ⊥
 
+-- what it makes of a source and the file of weights, where one was given
+abbrev pub WeighedMakes : List ℕ → List (List ℕ) → List ℕ → List ℕ → ℕ → ℕ → ℕ → Status → List File → List ℕ → Type 0
+WeighedMakes text given object_name report_name slots budget store status files line =
+    (ws : List ℕ) × AreWeighed given ws × CompileMakes text object_name report_name slots ws budget store status files line
+
 -- ---- why it is refused
 
 -- why a typed program isn't compiled: the program of its banks is too large, or its code is too long
@@ -122,6 +133,11 @@ IsUnfit program slots ws budget store _ = ⊥
 abbrev pub CompileRefuses : List ℕ → ℕ → List ℕ → ℕ → ℕ → Refusal → Type 0
 CompileRefuses text slots ws budget store e = SourceRefuses text e ⊎ HasTyped text (λ program. IsUnfit program slots ws budget store e)
 
+-- the source or the file of weights is refused, or its program isn't compiled under the weights
+abbrev pub WeighedRefuses : List ℕ → List (List ℕ) → ℕ → ℕ → ℕ → Refusal → Type 0
+WeighedRefuses text given slots budget store e =
+    TextsRefuse text given e ⊎ ((ws : List ℕ) × AreWeighed given ws × HasTyped text (λ program. IsUnfit program slots ws budget store e))
+
 -- how the compilation of a typed program can end: without banks only where there are fewer slots than room
 abbrev pub IsEndOf : ProgramTree → ℕ → ℕ → Status → Type 0
 IsEndOf program slots store ends.Done = ⊤
@@ -133,21 +149,30 @@ IsEndOf program slots store _ = ⊥
 
 -- ---- what must be compiled
 
--- A text of a typed program is held under this name, which isn't too long. The program of its banks isn't too large, and the slots and the
--- store hold all that the program's sizes may want.
-pub record IsCompilable (held : Holding) (source_name : List ℕ) (slots store : ℕ) : Type 0 where
+-- A text of a typed program is held under this name, which isn't too long, and a text of weights under the other, where there is one. The
+-- program of its banks isn't too large, and the slots and the store hold all that the program's sizes may want.
+pub record IsCompilable (held : Holding) (source_name : List ℕ) (slots store : ℕ) (weights_name : Option (List ℕ)) : Type 0 where
   pub text : List ℕ
   pub here : held source_name ≡ Some text
   pub short : length text ≤ source_limit
   pub program : ProgramTree
   pub is_source : IsTypedSource text program
+  pub ws : List ℕ
+  pub weighed : HasWeights held weights_name ws
   pub banks : HasSmallBanks program slots
   pub room_in_slots : room program ≤ slots
   pub code_in_store : form_bound program ≤ store
 
--- no count of faults rose that `compile` can raise: of loads of the source, of saves of the object and of the report, of the sink
-pub record IsUndisturbed (LoadRises SaveRises : List ℕ → Type 0) (PutFailed : Type 0) (source_name object_name report_name : List ℕ) : Type 0 where
+-- this holds of the name, where there is one
+abbrev pub IfNamed : Option (List ℕ) → (List ℕ → Type 0) → Type 0
+IfNamed None P = ⊤
+IfNamed (Some name) P = P name
+
+-- no count of faults rose that `compile` can raise: of loads of the source and of the weights, of saves of the object and of the report, of
+-- the sink
+pub record IsUndisturbed (LoadRises SaveRises : List ℕ → Type 0) (PutFailed : Type 0) (source_name object_name report_name : List ℕ) (weights_name : Option (List ℕ)) : Type 0 where
   pub source : ¬ LoadRises source_name
+  pub weights : IfNamed weights_name (λ name. ¬ LoadRises name)
   pub object : ¬ SaveRises object_name
   pub report : ¬ SaveRises report_name
   pub sink : ¬ PutFailed

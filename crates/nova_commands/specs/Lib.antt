@@ -7,7 +7,9 @@ pub mod Naming
 pub mod Headline
 pub mod Building
 pub mod Executing
+pub mod Entries
 pub mod Generating
 pub mod Checking
 pub mod Answers
 pub mod inner
+pub mod Weighing

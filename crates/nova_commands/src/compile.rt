@@ -7,7 +7,8 @@ ghost use Rattle.zo_cert.specs.Report.{IsValidReport};
 ghost use Rattle.zo_cert.specs.ReportText.{report_text};
 ghost use Rattle.nova_commands.specs.Checking.{IsReportOf};
 ghost use Rattle.nova_back.specs.Causes.{report_cost};
-ghost use Rattle.nova_commands.specs.Headline.{CompileMakes, CompileRefuses};
+ghost use Rattle.nova_commands.specs.Headline.{CompileMakes, CompileRefuses, WeighedMakes, WeighedRefuses};
+ghost use Rattle.nova_commands.specs.Weighing.{IsWeighedBy, TextsRefuse};
 ghost use Rattle.nova_commands.specs.Naming.{source_exceptions};
 ghost use Rattle.command_line.specs.Limits.{source_limit};
 ghost use Rattle.command_line.specs.Lines.{IsUncaused, compiled_text};
@@ -20,7 +21,7 @@ ghost use Rattle.command_line.specs.inner.Words.{AreInLimits};
 
 use crate::build::{CompileError, Compiled, compile_text};
 use crate::naming::exceptions_of;
-use crate::source::text_refusal;
+use crate::source::{source_of, text_refusal};
 use command_line::{Options, Refusal, Status, compiled_line, counted_line, line};
 use label_weights::Weights;
 use machine_commands::{Made, Output, Outputs};
@@ -30,6 +31,7 @@ use nv_base::NoMemory;
 use std::alloc::Global;
 use uc_isa::Code;
 use uc_object::{Object, Tagged, encode};
+use weights_text::{WeightsError, read_weights};
 use zo_cert::{Report, print_report};
 use zo_model::cost;
 
@@ -43,7 +45,8 @@ pub enum CompileOutcome {
     Spent(Report),
 }
 
-/// Compiles a source, whose object and report are saved under two names; where no banks were found, the report alone.
+/// Compiles a source, whose object and report are saved under two names; where no banks were found, the report alone. Each label
+/// weighs 1.
 pub fn compile_bytes<'a>(
     alloc: Global,
     bytes: &[u8],
@@ -53,11 +56,66 @@ pub fn compile_bytes<'a>(
 ) -> Result<Made<'a>, Refusal<'a>>
     requires text { length bytes.now ≤ source_limit }
     requires options { AreInLimits options }
-    ensures made { IfOk result (λ m. CompileMakes bytes.now object.now report.now options.slots [] options.budget options.store m.status (files_of m.outputs) m.text.items) }
+    ensures made { IfOk result (λ m. WeighedMakes bytes.now [] object.now report.now options.slots options.budget options.store m.status (files_of m.outputs) m.text.items) }
     ensures told { IfOk result (λ m. AreTold m.outputs) }
-    ensures refused { IfErr result (λ e. IsUncaused e ⊎ CompileRefuses bytes.now options.slots [] options.budget options.store e) }
+    ensures refused { IfErr result (λ e. IsUncaused e ⊎ WeighedRefuses bytes.now [] options.slots options.budget options.store e) }
 {
-    let found = outcome_evenly(alloc, bytes, options)?;
+    let ones = no_weights(alloc);
+    compile_under(alloc, bytes, object, report, options, &ones)
+}
+
+/// The same where the labels of the source's form have the weights of a text. A fault of the source is told before one of the text.
+pub fn compile_weighed<'a>(
+    alloc: Global,
+    bytes: &[u8],
+    weights: &[u8],
+    object: &'a str,
+    report: &'a str,
+    options: Options,
+) -> Result<Made<'a>, Refusal<'a>>
+    requires text { length bytes.now ≤ source_limit }
+    requires options { AreInLimits options }
+    ensures made { IfOk result (λ m. WeighedMakes bytes.now (weights.now ∷ []) object.now report.now options.slots options.budget options.store m.status (files_of m.outputs) m.text.items) }
+    ensures told { IfOk result (λ m. AreTold m.outputs) }
+    ensures refused { IfErr result (λ e. IsUncaused e ⊎ WeighedRefuses bytes.now (weights.now ∷ []) options.slots options.budget options.store e) }
+{
+    let w = weights_of(alloc, bytes, weights)?;
+    compile_under(alloc, bytes, object, report, options, &w)
+}
+
+// The weights of a text, which goes with this source.
+fn weights_of<'a>(alloc: Global, bytes: &[u8], weights: &[u8]) -> Result<Weights, Refusal<'a>>
+    requires { length bytes.now ≤ source_limit }
+    ensures weighed { IfOk result (IsWeighedBy weights.now) }
+    ensures refused { IfErr result (λ e. IsUncaused e ⊎ TextsRefuse bytes.now (weights.now ∷ []) e) }
+{
+    match read_weights(alloc, weights) {
+        Ok(w) => Ok(w),
+        Err(WeightsError::NoMemory) => Err(Refusal::NoMemory),
+        Err(WeightsError::Bad(n)) => {
+            // The source's own faults come first.
+            let _program = source_of(alloc, bytes)?;
+            Err(Refusal::BadWeights(n))
+        }
+    }
+}
+
+// Compiles a source under these weights.
+fn compile_under<'a>(
+    alloc: Global,
+    bytes: &[u8],
+    object: &'a str,
+    report: &'a str,
+    options: Options,
+    w: &Weights,
+) -> Result<Made<'a>, Refusal<'a>>
+    requires text { length bytes.now ≤ source_limit }
+    requires options { AreInLimits options }
+    ensures made { IfOk result (λ m. CompileMakes bytes.now object.now report.now options.slots w.now options.budget options.store m.status (files_of m.outputs) m.text.items) }
+    ensures told { IfOk result (λ m. AreTold m.outputs) }
+    ensures refused { IfErr result (λ e. IsUncaused e ⊎ CompileRefuses bytes.now options.slots w.now options.budget options.store e) }
+{
+    let found = outcome_of_report(alloc, bytes, options, w)?;
     Ok(outcome_made(alloc, bytes, found, object, report, options.budget)?)
 }
 

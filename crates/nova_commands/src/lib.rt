@@ -4,6 +4,7 @@
 
 mod build;
 mod compile;
+mod count;
 mod execute;
 mod generate;
 mod load;
@@ -20,3 +21,4 @@ pub use load::load_inputs;
 pub use perform::work;
 pub use program::exit_code;
 pub use top::run;
+pub use weights_text::{WeightsError, print_counts, read_weights};

@@ -9,7 +9,8 @@ ghost use Rattle.machine_commands.specs.inner.Files.{files_of, AreTold};
 ghost use Rattle.nova_commands.specs.inner.Replies.{IsShown};
 ghost use Rattle.machine_commands.specs.inner.Outcomes.{IsOutcome};
 
-use crate::compile::compile_bytes;
+use crate::compile::{compile_bytes, compile_weighed};
+use crate::count::counts_bytes;
 use crate::execute::exec_bytes;
 use crate::generate::generate;
 use crate::report::check_bytes;
@@ -52,7 +53,7 @@ fn work_alone<'a>(alloc: Global, command: Command<'a>) -> Result<Made<'a>, Refus
 {
     match command {
         Command::Gen(seed, size) => shown(generate(alloc, seed, size)),
-        Command::Compile(_, _, _, _)
+        Command::Compile(_, _, _, _, _)
         | Command::Run(_, _, _)
         | Command::Exec(_, _, _)
         | Command::Asm(_, _)
@@ -60,7 +61,8 @@ fn work_alone<'a>(alloc: Global, command: Command<'a>) -> Result<Made<'a>, Refus
         | Command::Lint(_)
         | Command::Check(_)
         | Command::Contexts(_, _, _)
-        | Command::Peep(_, _) => unreachable!(),
+        | Command::Peep(_, _)
+        | Command::Counts(_, _, _, _) => unreachable!(),
     }
 }
 
@@ -78,7 +80,7 @@ fn work_on<'a>(
     ensures refused { IfErr result (λ e. IsUncaused e ⊎ Refuses (command_as command.entry) (input.now.items ∷ []) e) }
 {
     match command {
-        Command::Compile(_, object, report, options) => {
+        Command::Compile(_, object, report, options, _) => {
             compile_bytes(alloc, input, object, report, options)
         }
         Command::Asm(_, object) => assemble_bytes(alloc, input, object),
@@ -89,11 +91,12 @@ fn work_on<'a>(
         Command::Run(_, _, _)
         | Command::Exec(_, _, _)
         | Command::Gen(_, _)
-        | Command::Contexts(_, _, _) => unreachable!(),
+        | Command::Contexts(_, _, _)
+        | Command::Counts(_, _, _, _) => unreachable!(),
     }
 }
 
-// Does what a command with two inputs is for, of which the second is a memory text.
+// Does what a command with two inputs is for.
 fn work_on_two<'a>(
     alloc: Global,
     command: Command<'a>,
@@ -110,8 +113,11 @@ fn work_on_two<'a>(
     match command {
         Command::Run(_, _, steps) => shown(run_bytes(alloc, input, text, steps)),
         Command::Exec(_, _, calls) => shown(exec_bytes(alloc, input, text, calls)),
-        Command::Compile(_, _, _, _)
-        | Command::Asm(_, _)
+        Command::Counts(_, _, output, jumps) => counts_bytes(alloc, input, text, output, jumps),
+        Command::Compile(_, object, report, options, _) => {
+            compile_weighed(alloc, input, text, object, report, options)
+        }
+        Command::Asm(_, _)
         | Command::Dis(_)
         | Command::Lint(_)
         | Command::Check(_)
@@ -138,7 +144,8 @@ fn work_on_three<'a>(
 {
     match command {
         Command::Contexts(_, _, _) => shown(contexts_bytes(alloc, input, text, turns)),
-        Command::Compile(_, _, _, _)
+        Command::Compile(_, _, _, _, None)
+        | Command::Compile(_, _, _, _, Some(_))
         | Command::Run(_, _, _)
         | Command::Exec(_, _, _)
         | Command::Asm(_, _)
@@ -146,7 +153,8 @@ fn work_on_three<'a>(
         | Command::Lint(_)
         | Command::Check(_)
         | Command::Gen(_, _)
-        | Command::Peep(_, _) => unreachable!(),
+        | Command::Peep(_, _)
+        | Command::Counts(_, _, _, _) => unreachable!(),
     }
 }
 

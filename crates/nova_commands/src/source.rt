@@ -25,8 +25,8 @@ pub fn source_of<'a>(alloc: Global, bytes: &[u8]) -> Result<Typed, Refusal<'a>>
     }
 }
 
-// Why a source has no typed program, as it is told.
-fn refusal_of<'a>(error: FrontError) -> Refusal<'a>
+/// Why a source has no typed program, as it is told.
+pub fn refusal_of<'a>(error: FrontError) -> Refusal<'a>
     ensures { IsToldAs error result }
 {
     match error {

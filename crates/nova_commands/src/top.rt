@@ -29,7 +29,7 @@ use std::alloc::Global;
 ///
 /// | Words | |
 /// |---|---|
-/// | `compile SRC OBJ REPORT [slots=N] [budget=N] [store=N]` | saves the object of the code of the source SRC, and the report on its banks; where no banks are found, the report alone |
+/// | `compile SRC OBJ REPORT [slots=N] [budget=N] [store=N] [weights=FILE]` | saves the object of the code of the source SRC, and the report on its banks, whose labels weigh what the text of weights FILE says; where no banks are found, the report alone |
 /// | `run OBJ MEM steps=N` | takes 1 to 100,000,000 steps of OBJ's code on the memory text MEM, and prints the outcome |
 /// | `exec SRC MEM steps=N` | runs the program of SRC with 1 to 100,000,000 calls on the memory text MEM, and prints the outcome |
 /// | `asm TEXT OBJ` | saves the object of the code of the assembly text TEXT |
@@ -38,12 +38,14 @@ use std::alloc::Global;
 /// | `check REPORT` | checks a report by itself, and prints its verdict |
 /// | `contexts OBJ MEM SCHEDULE` | runs up to four contexts of OBJ's code on the memory text MEM by the schedule, and prints how each stands, whether they can disturb one another, and the memories |
 /// | `peep OBJ OUT` | saves OBJ without the needless instructions of its code as OUT |
+/// | `counts SRC MEM FILE steps=N` | runs the form of the program of SRC with 1 to 100,000,000 jumps on the memory text MEM, saves how often each of its labels was entered as FILE, and prints the outcome |
 /// | `gen SEED SIZE` | makes a source of 1 to 500 lines from a seed of 32 bits, compiles it, runs the code, and prints how long both are, the verdict on its banks, and the word |
 ///
 /// Where the options don't say it, `compile` takes 128 slots, which are the most, 2,000 branches of 1 to 1,000,000 in the search
-/// for banks, and 2,048 instructions of 1 to 1,048,576.
+/// for banks, and 2,048 instructions of 1 to 1,048,576; and each label weighs 1.
 ///
-/// Sources have at most 262,144 bytes, objects 17,104,847, memory texts and schedules 4 MiB, assembly texts and reports 64 MiB.
+/// Sources have at most 262,144 bytes, objects 17,104,847, memory texts and schedules 4 MiB, texts of weights 16 MiB, assembly texts
+/// and reports 64 MiB.
 pub fn run<F: Files, K: Sink>(
     alloc: Global,
     words: &Vec<String>,
@@ -52,12 +54,12 @@ pub fn run<F: Files, K: Sink>(
 ) -> Status
     // The headline: the object that `compile` saved is that of lawful code that does what the source says, with the names of its
     // exceptions and the starts of labels, and its report is true. Where that says optimal, no vector that meets the rows of its
-    // 0-1 program costs less. By those starts the code's moves cost no more than the report says.
-    ensures compiled { F.tells → result ≡ Status.Done → IfCompile (command_of (texts_of words.now)) (λ source object report slots budget store. (line : List ℕ) × IsCompiled (F.held files.old) (F.held files.new) source object report slots [] budget store line × (K.tells → K.written out.new ≡ K.written out.old ++ line)) }
+    // 0-1 program costs less. By those starts and the weights of the labels the code's moves cost no more than the report says.
+    ensures compiled { F.tells → result ≡ Status.Done → IfCompile (command_of (texts_of words.now)) (λ source object report slots budget store weights. (line : List ℕ) × IsCompiled (F.held files.old) (F.held files.new) source object report slots budget store weights line × (K.tells → K.written out.new ≡ K.written out.old ++ line)) }
 
     // Where no banks are found, the report alone is saved. It is true, and says that none meet the rows, or that the budget was
     // spent; and there are fewer slots than the program has room.
-    ensures without { F.tells → IfWithout result (λ verdict. IfCompile (command_of (texts_of words.now)) (λ source object report slots budget store. IsReported (F.held files.old) (F.held files.new) source report slots [] budget verdict)) }
+    ensures without { F.tells → IfWithout result (λ verdict. IfCompile (command_of (texts_of words.now)) (λ source object report slots budget store weights. IsReported (F.held files.old) (F.held files.new) source report slots budget weights verdict)) }
 
     // What `gen` prints: the length of the text that the seed makes, that of lawful code that does what its program says, the
     // verdict of a true report on its banks with the cost, and the word that the program means; or why the program isn't
@@ -65,9 +67,9 @@ pub fn run<F: Files, K: Sink>(
     ensures generated { IfGen (command_of (texts_of words.now)) (λ seed size. EndsGenerated seed size result K.tells (K.written out.old) (K.written out.new)) }
 
     // Completeness: a source that is held and keeps to the limits is compiled, where there are as many slots as its program has
-    // room, and store for what its sizes may want. Only the three files, the sink and memory keep `compile` from that, and only
-    // the sink and memory `gen` on a small program.
-    ensures complete { F.tells → IfCompile (command_of (texts_of words.now)) (λ source object report slots budget store. IsCompilable (F.held files.old) source slots store → IsUndisturbed (λ q. Rose (F.load_faults files.old q) (F.load_faults files.new q)) (λ q. Rose (F.save_faults files.old q) (F.save_faults files.new q)) (Rose (K.faults out.old) (K.faults out.new)) source object report → (result ≡ Status.Done) ⊎ (result ≡ Status.NoMemory)) }
+    // room, store for what its sizes may want, and a text of weights, if one is named. Only the files that are named, the sink and
+    // memory keep `compile` from that, and only the sink and memory `gen` on a small program.
+    ensures complete { F.tells → IfCompile (command_of (texts_of words.now)) (λ source object report slots budget store weights. IsCompilable (F.held files.old) source slots store weights → IsUndisturbed (λ q. Rose (F.load_faults files.old q) (F.load_faults files.new q)) (λ q. Rose (F.save_faults files.old q) (F.save_faults files.new q)) (Rose (K.faults out.old) (K.faults out.new)) source object report weights → (result ≡ Status.Done) ⊎ (result ≡ Status.NoMemory)) }
     ensures made { IfGen (command_of (texts_of words.now)) (λ seed size. IsSmallMade seed size → ¬ Rose (K.faults out.old) (K.faults out.new) → (result ≡ Status.Done) ⊎ (result ≡ Status.NoMemory)) }
 
     // What the command made of the contents of its inputs and saved, or why it is refused, and the text that was printed. A

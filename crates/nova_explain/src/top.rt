@@ -116,13 +116,13 @@ fn push_usage(message_text: &mut Message, lines: &[&str]) -> Status {
     Status::Usage
 }
 
-const USAGE: [&str; 16] = [
+const USAGE: [&str; 17] = [
     "nova_explain SRC              where a source is faulty, or how large it is",
     "nova_explain type KIND        what `type KIND at FIRST AFTER` means, KIND from 1 to 24",
     "nova_explain syntax WORD      what `syntax WORD at BYTE` means: char, number, name, syntax, deep",
     "nova_explain status NUMBER    what a status of novac means",
     "",
-    "novac compile SRC OBJ REPORT  compiles a source, and saves its object and the report on its banks; slots=N, budget=N, store=N may follow",
+    "novac compile SRC OBJ REPORT  compiles a source, and saves its object and the report on its banks; slots=N, budget=N, store=N, weights=FILE may follow",
     "novac run OBJ MEM steps=N     takes N steps of an object's code on a memory text",
     "novac exec SRC MEM steps=N    runs the program of a source with N calls on a memory text",
     "novac asm TEXT OBJ            assembles, and saves the object",
@@ -130,6 +130,7 @@ const USAGE: [&str; 16] = [
     "novac lint OBJ                looks at the rules of lawful code",
     "novac contexts OBJ MEM SCHEDULE  runs up to four contexts of an object's code on a memory text, by a schedule",
     "novac peep OBJ OUT            saves an object without the needless instructions of its code",
+    "novac counts SRC MEM FILE steps=N  saves how often the labels of a source are entered in N jumps on a memory text",
     "novac check REPORT            checks a report, with its certificate",
     "novac gen SEED SIZE           makes a source, compiles it, and runs the code",
     "steps=N is from 1 to 100,000,000. File names differ from each other.",

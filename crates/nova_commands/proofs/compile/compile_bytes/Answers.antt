@@ -1,10 +1,11 @@
 use Rattle.std.proofs.Common.{[]}
-use Rattle.nova_commands.proofs.CompileOutcome.{found-savable}
+use Rattle.nova_commands.proofs.Weighed.{weighed-made, weighed-refused}
 use Rattle.nova_commands.proofs.compile.compile_bytes.Goals as goal
 
-pub outcome_made-requires-clause-found : goal.outcome_made-requires-clause-found
-outcome_made-requires-clause-found c =
-    found-savable c.args.bytes.now c.args.options.slots [] c.args.options.budget c.args.options.store c.in_ok-found.found c.requires.options.store c.in_ok-found.ensures.found
-
 pub returns-clause-made : goal.returns-clause-made
-returns-clause-made c = c.in_ok-outcome_made.ensures.made c.args.options.slots [] c.args.options.store c.in_ok-found.ensures.found
+returns-clause-made c =
+    weighed-made c.args.bytes.now [] c.args.object.now c.args.report.now c.args.options.slots _ c.args.options.budget c.args.options.store c.compile_under.result c.no_weights-ones.ensures c.compile_under.ensures.made
+
+pub returns-clause-refused : goal.returns-clause-refused
+returns-clause-refused c =
+    weighed-refused c.args.bytes.now [] c.args.options.slots _ c.args.options.budget c.args.options.store c.compile_under.result c.no_weights-ones.ensures c.compile_under.ensures.refused

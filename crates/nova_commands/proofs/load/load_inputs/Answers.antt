@@ -1,4 +1,4 @@
-use Rattle.std.proofs.Common.{ℕ, List, ◌⊎◌, IfOk, IfErr, ◌∙◌, ap, subst}
+use Rattle.std.proofs.Common.{List, ◌⊎◌, IfOk, IfErr, ◌∙◌, ap, subst}
 use Rattle.nv_outside.specs.Calls.{AsksAtMost}
 use Rattle.nv_outside.specs.Causes.{Rose}
 use Rattle.nv_outside.proofs.Calls.{at_most-none}

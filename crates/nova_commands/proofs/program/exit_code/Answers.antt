@@ -1,8 +1,7 @@
-use Rattle.std.proofs.Common.{◌≡◌, ◌∙◌, sym, refl, inl, inr, subst, ap, List, ℕ, None}
+use Rattle.std.proofs.Common.{◌≡◌, ◌∙◌, sym, refl, inr, ap, List, ℕ}
 use Rattle.std.proofs.lemmas.Bool.{false≢true}
 use Rattle.nv_outside.specs.Causes.{Rose}
-use Rattle.command_line.specs.Command.{command_of, texts_of}
-use Rattle.command_line.specs.declared.status.Status.{Status}
+use Rattle.command_line.specs.Command.{command_of}
 use Rattle.command_line.specs.declared.status.Status.TheVariants as status
 use Rattle.nova_commands.specs.Exits.{words_given}
 use Rattle.nova_commands.proofs.Ending.{asks-nothing, if-err-weaker, if-err-all}
