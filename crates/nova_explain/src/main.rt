@@ -5,14 +5,6 @@
 //! fails, 5 for memory exhaustion.
 #![tactic(auto)]
 
-mod elsewhere;
-mod excerpt;
-mod expected;
-mod fields;
-mod refusal;
-mod sizes;
-mod slips;
-mod source;
 mod status;
 mod top;
 

@@ -1,9 +1,9 @@
 //! From the words of a command line to the text that is printed.
 
-use crate::source::explain_source;
 use crate::status::Status;
 use explain_pages::page_of;
 use explain_parts::text::Message;
+use explain_source::{push_fault, push_sizes};
 use nv_base::NoMemory;
 use nv_outside::{Files, Loaded, Put, Sink};
 use nv_text::MOST_BYTES;
@@ -86,12 +86,19 @@ fn push_source<F: Files>(
 ) -> Status {
     let mut bytes = Vec::new(alloc);
     match files.load(name, MOST_BYTES as u64, &mut bytes) {
-        Loaded::Done => explain_source(alloc, message_text, name, &bytes),
+        Loaded::Done => push_explained(alloc, message_text, name, &bytes),
         Loaded::TooLong => push_too_long(message_text, name),
         Loaded::Failed => return push_unread(message_text, name),
         Loaded::NoMemory => message_text.fail(),
     }
     Status::Told
+}
+
+// Appends the fault of a source, or its sizes.
+fn push_explained(alloc: Global, message_text: &mut Message, name: &str, bytes: &[u8]) {
+    if !push_fault(alloc, message_text, name, bytes) {
+        push_sizes(alloc, message_text, name, bytes);
+    }
 }
 
 // Appends that a source has too many bytes.

@@ -8,7 +8,7 @@ use nv_ast::{Decl, Fun, LayoutText, Name, Program, Span, Typed};
 use std::alloc::Global;
 
 /// Appends the sizes of a program: of the whole, and of each declaration.
-pub fn push_sizes(alloc: Global, out: &mut Message, name: &str, typed: &Typed) {
+pub fn push_typed_sizes(alloc: Global, out: &mut Message, name: &str, typed: &Typed) {
     out.put(name);
     out.line(": a program without a fault");
     out.put("expanded size ");
