@@ -113,15 +113,12 @@ def compiled(where, source, status, output):
 
 
 def explained(row, answer):
-    """The row with a call of nova_explain, whose output has to begin with the line and the column of the answer's first byte,
-    or to give the size, or to say that the program has no fault."""
-    source = row.files["s.nova"]
-    place = re.search(r" at ([0-9]+)", answer)
-    if place:
-        before = source[: int(place[1])].split(b"\n")
-        front = f"s.nova:{len(before)}:{len(before[-1]) + 1}: .."
+    """The row with a call of nova_explain, whose output has to begin with a place, which tests/mistakes.txt and tests/explain.txt pin, or
+    to give the size, or to say that the program has no fault."""
+    if " at " in answer:
+        front = ".. error: .."
     elif answer.startswith("too large"):
-        front = f"s.nova: the expanded size is {answer.split()[-1]}, .."
+        front = f"s.nova: error: the expanded size is {answer.split()[-1]}, .."
     else:
         front = "s.nova: a program without a fault"
     row.calls.append(Call(["nova_explain", "s.nova"], 0, f"{front}\n..\n".encode()))

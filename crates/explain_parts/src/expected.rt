@@ -49,12 +49,13 @@ impl<'a> Why<'a> {
                 "`&&`, `||` and `!` take bools. Write `x != 0`, or `&`, `|` and `~` on words.",
             Why::Operand =>
                 "Only words are added, shifted and compared. Of bools write `a && b || !a && !b` for `a == b`.",
-            Why::Condition => "A condition is a bool. Write `x != 0`.",
+            Why::Condition => "A condition is a bool: `x != 0`.",
             Why::Address => "An address is one word.",
             Why::Arm => "Both arms of an `if` give one type.",
             Why::Handled => "The handler gives the type of the body of its `try`.",
             Why::Argument(_) | Why::Raised(_) => "Give what the declaration has, in its order.",
-            Why::Result(_) => "Give what the head of the function says, or change the head.",
+            Why::Result(_) =>
+                "The body gives what the head of the function says. Change one of them.",
             Why::Packed(_) =>
                 "A packed value is a word, or the tuple of its words in round brackets.",
             Why::Unpacked(_) =>

@@ -15,7 +15,7 @@ pub fn kind_sentence(kind: u8) -> &'static str {
         9 => "a list of parameters or patterns has a name twice",
         10 => "no variable of this name is in sight",
         11 => "no function of this name is declared above or in the same group",
-        12 => "a function of its own group is called, and something is left to do behind the call",
+        12 => "a function of its own group is called, and something is left to do after the call",
         _ => later_sentence(kind),
     }
 }
@@ -23,8 +23,8 @@ pub fn kind_sentence(kind: u8) -> &'static str {
 // The same of kind 13 and those above it.
 fn later_sentence(kind: u8) -> &'static str {
     match kind {
-        13 => "the number of arguments or patterns isn't the declared one",
-        14 => "another type is wanted here",
+        13 => "another number of values is declared",
+        14 => "mismatched types",
         15 => "what stands before the dot has no such field",
         16 => "the pattern doesn't fit the type",
         17 => "no exception of this name is declared above",
@@ -32,9 +32,8 @@ fn later_sentence(kind: u8) -> &'static str {
         19 => "no access moves this number of words",
         20 => "a scratch address is no plain number, or the words reach past word 511",
         21 => "a shift goes by more than 31 places",
-        22 => "this has no value, and one is wanted",
-        23 =>
-            "main's parameters or result or an exception have too many words, or a parameter of main has a bool",
+        22 => "a value is expected, and this has none",
+        23 => "an exception, or what `main` takes or gives, has too many words or a bool",
         24 => "a type has more than 1,024 words or a height of more than 100",
         _ => "a fault of the types",
     }
@@ -43,7 +42,7 @@ fn later_sentence(kind: u8) -> &'static str {
 /// What helps against a type fault of this kind.
 pub fn kind_advice(kind: u8) -> &'static str {
     match kind {
-        1 => "Declare one, as `fun main[]: word { 0 }`.",
+        1 => "A run begins with `main`: `fun main[]: word { 0 }`.",
         2 => "Choose another name. Layouts, exceptions and functions have separate name spaces.",
         3 => "Declare the layout above its use, or mend the name.",
         4 => "Make two fields of a longer one.",
@@ -67,7 +66,7 @@ fn later_advice(kind: u8) -> &'static str {
             "Write a part of the wanted type, or declare what is found here. Only words are compared, and a condition is a bool.",
         15 => "Take a field that the record has, or unpack the value first.",
         16 =>
-            "A pattern in round brackets has as many parts as the tuple. A name and `_` fit everything.",
+            "A pattern in round brackets has as many parts as the tuple: `_` leaves one out. A name fits everything.",
         17 => "Declare the exception above its use, or mend the name.",
         18 => "Leave one of them out.",
         19 =>

@@ -12,6 +12,7 @@ enum Cell {
     Words(u32),
     Tuple(usize, usize),
     Record(usize, usize),
+    Overlay(usize, usize),
 }
 
 /// A part of a tuple, or a field; without a name in a record it stands for the fields of another record.
@@ -126,6 +127,54 @@ impl<'a> Types<'a> {
         self.add(Cell::Record(from, to), words)
     }
 
+    /// The record of an overlay's alternatives.
+    pub fn overlay(&mut self, alternatives: &[Part<'a>]) -> usize {
+        let words = self.words_in(alternatives);
+        let from = self.parts.len();
+        self.add_parts(alternatives);
+        let to = self.parts.len();
+        self.add(Cell::Overlay(from, to), words)
+    }
+
+    /// Whether a type is the record of an overlay's alternatives.
+    pub fn is_overlay(&self, t: usize) -> bool {
+        matches!(self.cell(t), Cell::Overlay(_, _))
+    }
+
+    /// Whether a bool is a part of a type, or it.
+    pub fn has_bool(&self, alloc: Global, out: &mut Message, t: usize) -> bool {
+        let mut work = Vec::new(alloc);
+        out.keep(&mut work, t);
+        for _ in 0..MOST_FIELDS {
+            let Some(it) = work.pop() else {
+                return false;
+            };
+            if matches!(self.cell(it), Cell::Bool) {
+                return true;
+            }
+            self.queue_kinds(out, &mut work, it);
+        }
+        false
+    }
+
+    // Puts the types of the parts of a type upon the work.
+    fn queue_kinds(&self, out: &mut Message, work: &mut Vec<usize>, t: usize) {
+        let (from, to) = self.stretch(t);
+        for at in from..to {
+            if let Some(it) = self.part(at) {
+                out.keep(work, it.kind);
+            }
+        }
+    }
+
+    // The stretch of the parts of a tuple or a record.
+    fn stretch(&self, t: usize) -> (usize, usize) {
+        match self.cell(t) {
+            Cell::Tuple(from, to) | Cell::Record(from, to) | Cell::Overlay(from, to) => (from, to),
+            _ => (0, 0),
+        }
+    }
+
     fn words_in(&self, parts: &[Part<'a>]) -> u64 {
         let mut words: u64 = 0;
         for it in parts {
@@ -183,7 +232,8 @@ impl<'a> Types<'a> {
             let Some(record) = work.pop() else {
                 return;
             };
-            if let Cell::Record(from, to) = self.cell(record) {
+            if self.is_record(record) {
+                let (from, to) = self.stretch(record);
                 self.add_fields(out, found, from, to);
                 self.queue_records(out, work, from, to);
             }
@@ -259,7 +309,7 @@ impl<'a> Types<'a> {
                 out.keep(work, Piece::Text(")"));
                 self.queue_parts(out, work, t)
             }
-            Cell::Record(_, _) => {
+            Cell::Record(_, _) | Cell::Overlay(_, _) => {
                 out.put("{ ");
                 out.keep(work, Piece::Text(" }"));
                 self.queue_parts(out, work, t)
@@ -269,10 +319,7 @@ impl<'a> Types<'a> {
 
     // Puts the parts of a tuple or a record upon the work, the first one on top.
     fn queue_parts(&self, out: &mut Message, work: &mut Vec<Piece<'a>>, t: usize) {
-        let (from, to) = match self.cell(t) {
-            Cell::Tuple(from, to) | Cell::Record(from, to) => (from, to),
-            _ => (0, 0),
-        };
+        let (from, to) = self.stretch(t);
         let in_record = self.is_record(t);
         for at in (from..to).rev() {
             if let Some(it) = self.part(at) {
@@ -285,12 +332,12 @@ impl<'a> Types<'a> {
     }
 
     fn is_record(&self, t: usize) -> bool {
-        matches!(self.cell(t), Cell::Record(_, _))
+        matches!(self.cell(t), Cell::Record(_, _) | Cell::Overlay(_, _))
     }
 }
 
-// The type of a field among some.
-fn kind_of(fields: &[Part], name: &Name) -> Option<usize> {
+/// The type of a field among some.
+pub fn kind_of(fields: &[Part], name: &Name) -> Option<usize> {
     for it in fields {
         if it.name.is_some_and(|x| x == name) {
             return Some(it.kind);

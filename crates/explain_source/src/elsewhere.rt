@@ -37,6 +37,30 @@ pub fn push_elsewhere(
     }
 }
 
+/// The head of a function whose name is `main` in letters of another case.
+pub fn main_in_capitals(program: &Program) -> Option<Span> {
+    for decl in program.decls.iter() {
+        if let Decl::Group(funs) = decl {
+            if let Some(span) = main_among(funs) {
+                return Some(span);
+            }
+        }
+    }
+    None
+}
+
+fn main_among(funs: &[Fun]) -> Option<Span> {
+    for fun in funs {
+        if fun.name.bytes().eq_ignore_ascii_case(b"main".as_slice()) {
+            return Some(Span {
+                first: fun.span.first,
+                after: fun.span.first.saturating_add(4),
+            });
+        }
+    }
+    None
+}
+
 // All declarations in order.
 fn listed<'a>(alloc: Global, out: &mut Message, program: &'a Program) -> Vec<Declaration<'a>> {
     let mut found = Vec::new(alloc);

@@ -10,15 +10,25 @@ const MARGIN: &str = "    ";
 // The most bytes of a line before and after a fault's first byte.
 const REACH: usize = 120;
 
-/// Appends `NAME:LINE:COLUMN: ` for the first byte of a span.
+/// Appends `NAME:LINE:COLUMN: error: ` for the first byte of a span.
 pub fn push_place(out: &mut Message, name: &str, bytes: &[u8], span: Span) {
+    push_line_column(out, name, bytes, span);
+    out.put(": error: ")
+}
+
+/// The same with `warning`.
+pub fn push_warned_place(out: &mut Message, name: &str, bytes: &[u8], span: Span) {
+    push_line_column(out, name, bytes, span);
+    out.put(": warning: ")
+}
+
+fn push_line_column(out: &mut Message, name: &str, bytes: &[u8], span: Span) {
     let at = span.first as usize;
     out.put(name);
     out.put(":");
     out.number(line_of(bytes, at) as u64);
     out.put(":");
-    out.number(column_of(bytes, at) as u64);
-    out.put(": ")
+    out.number(column_of(bytes, at) as u64)
 }
 
 /// Appends the line where a span begins, and a line with carets under the span, as far as it stands on that line.

@@ -96,17 +96,104 @@ impl Expected {
         false
     }
 
-    /// Appends `wanted: ` and the kinds of tokens.
-    pub fn push(&self, out: &mut Message) {
-        out.put("wanted: ");
-        if self.fitting.is_empty() {
-            out.put("nothing");
+    /// Appends what may stand there, in few words.
+    pub fn push(&self, alloc: Global, out: &mut Message) {
+        let mut words = Vec::new(alloc);
+        for group in &GROUPS {
+            if self.has(group.mark) {
+                out.keep(&mut words, group.name);
+            }
         }
-        for (n, token) in self.fitting.iter().enumerate() {
-            out.put(if n == 0 { "" } else { ", " });
-            push_kind(out, token);
+        self.keep_others(out, &mut words);
+        push_listed(out, &words)
+    }
+
+    // Adds the tokens that belong to no group.
+    fn keep_others(&self, out: &mut Message, words: &mut Vec<&'static str>) {
+        for token in self.fitting.iter() {
+            if !self.is_grouped(token) {
+                out.keep(words, *token);
+            }
         }
-        out.line("")
+    }
+
+    // Whether a token belongs to a group that may stand there.
+    fn is_grouped(&self, token: &str) -> bool {
+        for group in &GROUPS {
+            if self.has(group.mark) && is_one_of(group.tokens, token) {
+                return true;
+            }
+        }
+        false
+    }
+}
+
+// Tokens of one use: where the mark may stand, all of them may, and the name is said in their place.
+#[derive(Clone, Copy)]
+struct Group {
+    mark: &'static str,
+    name: &'static str,
+    tokens: &'static [&'static str],
+}
+
+const GROUPS: [Group; 5] = [
+    Group {
+        mark: "layout",
+        name: "a declaration",
+        tokens: &["layout", "exception", "fun", "and"],
+    },
+    Group {
+        mark: "~",
+        name: "an expression",
+        tokens: &[
+            "x", "1", "let", "if", "unpack", "pack", "raise", "try", "sram", "sdram", "scratch",
+            "true", "false", "~", "!", "(", "{",
+        ],
+    },
+    Group {
+        mark: "&&",
+        name: "an operator",
+        tokens: &[
+            "+", "-", "&", "|", "^", "<<", ">>", "<<<", "==", "!=", "<", "<=", ">", ">=", "&&",
+            "||", ".", "[",
+        ],
+    },
+    Group {
+        mark: "bool",
+        name: "a type",
+        tokens: &["word", "bool", "packed", "unpacked", "(", "{"],
+    },
+    Group {
+        mark: "_",
+        name: "a pattern",
+        tokens: &["x", "_", "("],
+    },
+];
+
+fn is_one_of(tokens: &[&str], token: &str) -> bool {
+    for it in tokens {
+        if it.as_bytes() == token.as_bytes() {
+            return true;
+        }
+    }
+    false
+}
+
+// Appends words with commas and an `or`.
+fn push_listed(out: &mut Message, words: &[&str]) {
+    if words.is_empty() {
+        out.put("nothing");
+    }
+    for (n, word) in words.iter().enumerate() {
+        let is_last = n.saturating_add(1) == words.len();
+        out.put(if n == 0 {
+            ""
+        } else if is_last {
+            " or "
+        } else {
+            ", "
+        });
+        push_kind(out, word);
     }
 }
 
@@ -126,12 +213,17 @@ fn fitting(
     fitting
 }
 
-// Appends a kind of tokens.
-fn push_kind(out: &mut Message, token: &str) {
-    match token.as_bytes() {
-        b"x" => out.put("a name"),
-        b"1" => out.put("a number"),
-        it => out.quoted(it),
+// Appends a group's name, or a kind of tokens.
+fn push_kind(out: &mut Message, word: &str) {
+    let bytes = word.as_bytes();
+    if bytes == b"x".as_slice() {
+        out.put("a name")
+    } else if bytes == b"1".as_slice() {
+        out.put("a number")
+    } else if bytes.starts_with(b"a ") || bytes.starts_with(b"an ") {
+        out.put(word)
+    } else {
+        out.quoted(bytes)
     }
 }
 

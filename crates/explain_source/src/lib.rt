@@ -1,13 +1,20 @@
-//! What is said of a source: its first fault, with the line and what helps, or its sizes.
+//! What is said of a source: its faults, each with the line and what helps, or its sizes.
 #![tactic(auto)]
 
 mod elsewhere;
-mod excerpt;
+pub mod excerpt;
 mod expected;
+mod expression_slips;
 mod fields;
+mod foreign;
+mod further;
+mod head_slips;
+mod narrow;
+pub mod place;
 mod refusal;
-mod sizes;
+pub mod sizes;
+mod slip;
 mod slips;
 mod source;
 
-pub use source::{push_fault, push_sizes};
+pub use source::{push_fault, push_short_sizes, push_sizes};

@@ -1,17 +1,34 @@
 //! Why a source is refused.
 
-use crate::elsewhere::push_elsewhere;
+use crate::elsewhere::{main_in_capitals, push_elsewhere};
 use crate::excerpt::{push_excerpt, push_place};
 use crate::expected::Expected;
+use crate::further::{explain_all, original_span};
+use crate::narrow::narrowed;
+use crate::place::Place;
 use crate::sizes::push_parts;
-use crate::slips::{Around, byte_advice};
+use crate::slip::Mark;
+use crate::slips::{byte_advice, slip_at};
 use explain_parts::kinds::{kind_advice, kind_sentence};
 use explain_parts::text::{Message, part};
 use explain_walk::Walk;
+use line_text::{column_of, line_of};
 use nv_ast::{Program, Span};
 use nv_text::{MOST_BYTES, TextError, Token, parse, tokens};
 use nv_types::TypeError;
 use std::alloc::Global;
+
+/// A fault of the types of a text whose faulty bodies before it are replaced.
+#[derive(Clone, Copy)]
+pub struct Fault<'s, 'b, 't> {
+    /// The text as it is, and the bodies that are replaced.
+    pub source: &'s [u8],
+    pub bodies: &'b [Span],
+    /// The text with which the fault is the first one, and its span there.
+    pub bytes: &'t [u8],
+    pub kind: u8,
+    pub span: Span,
+}
 
 /// Appends why a text of at most 262,144 bytes has no program.
 pub fn explain_text(alloc: Global, out: &mut Message, name: &str, bytes: &[u8], fault: TextError) {
@@ -48,44 +65,38 @@ pub fn explain_text(alloc: Global, out: &mut Message, name: &str, bytes: &[u8], 
 
 // Appends a fault of the word at a place, and what helps.
 fn push_word(out: &mut Message, name: &str, bytes: &[u8], at: u32, sentence: &str, advice: &str) {
-    push_head(out, name, bytes, word_at(bytes, at), sentence);
-    out.line(advice)
-}
-
-// Appends the place, a sentence and the line of a fault.
-fn push_head(out: &mut Message, name: &str, bytes: &[u8], span: Span, sentence: &str) {
+    let span = word_at(bytes, at);
     push_place(out, name, bytes, span);
     out.line(sentence);
-    push_excerpt(out, bytes, span)
+    push_excerpt(out, bytes, span);
+    out.line(advice)
 }
 
 // A byte that begins no token.
 fn explain_char(out: &mut Message, name: &str, bytes: &[u8], at: u32) {
-    let place = at as usize;
-    let byte = byte_at(bytes, place);
+    let rest = part(bytes, at as usize, bytes.len());
     let span = Span {
         first: at,
         after: at.saturating_add(1),
     };
     push_place(out, name, bytes, span);
-    if byte.is_ascii_graphic() {
-        out.put("no token begins with ");
-        out.quoted(&[byte]);
-    } else {
-        out.put("no token begins with the byte ");
-        out.number(u64::from(byte));
-    }
+    out.put("no token begins with ");
+    push_byte(out, rest);
     out.line(" (syntax char)");
     push_excerpt(out, bytes, span);
-    let next = byte_at(bytes, place.saturating_add(1));
-    out.line(byte_advice(byte, next, place))
+    out.line(byte_advice(rest, at as usize))
 }
 
-// A byte of a text, or 0 after its end.
-fn byte_at(bytes: &[u8], at: usize) -> u8 {
-    match bytes.get(at) {
-        Some(byte) => *byte,
-        None => 0,
+// Appends the first byte of a text: where it is a sign the sign, else its number.
+fn push_byte(out: &mut Message, rest: &[u8]) {
+    let Some(byte) = rest.first() else {
+        return;
+    };
+    if byte.is_ascii_graphic() {
+        out.quoted(&[*byte])
+    } else {
+        out.put("the byte ");
+        out.number(u64::from(*byte))
     }
 }
 
@@ -124,122 +135,193 @@ fn push_syntax(
     at: u32,
     found: &[Token],
 ) {
-    let place = at as usize;
-    let around = Around::at(bytes, found, place);
-    let span = Span {
-        first: at,
-        after: at.saturating_add(around.found.len().min(64) as u32),
-    };
+    let place = Place::at(bytes, found, at as usize);
+    let expected = Expected::at(alloc, out, bytes, found, at as usize);
+    let slip = slip_at(&place, &expected);
+    let span = marked(&place, slip.mark);
     push_place(out, name, bytes, span);
-    push_found(out, around.found);
-    push_excerpt(out, bytes, span);
-    let expected = Expected::at(alloc, out, bytes, found, place);
-    push_expected(out, &expected, around)
-}
-
-// Appends what could stand there, and what helps.
-fn push_expected(out: &mut Message, expected: &Expected, around: Around) {
-    expected.push(out);
-    out.line(around.advice(expected))
-}
-
-// Appends what token is at fault.
-fn push_found(out: &mut Message, found: &[u8]) {
-    if found.is_empty() {
-        return out.line("the program isn't complete at the text's end (syntax syntax)");
+    match slip.title {
+        Some(title) => out.put(title),
+        None => push_title(alloc, out, &place, &expected),
     }
-    out.put("with ");
-    out.quoted(found);
-    out.line(" the text begins no program (syntax syntax)")
+    out.line(" (syntax syntax)");
+    push_excerpt(out, bytes, span);
+    let is_told = push_open(out, bytes, &place, &expected);
+    if !is_told || !slip.is_general {
+        push_help(out, slip.help)
+    }
 }
+
+fn push_help(out: &mut Message, help: &str) {
+    if !help.is_empty() {
+        out.line(help)
+    }
+}
+
+// Where a slip is shown. After the text's end the last token's end is.
+fn marked(place: &Place, mark: Mark) -> Span {
+    match mark {
+        Mark::Before(back) => place.span(back),
+        Mark::Found => {
+            if place.text(0).is_empty() {
+                end_of(place.span(1))
+            } else {
+                place.span(0)
+            }
+        }
+        Mark::Gap => end_of(place.span(1)),
+    }
+}
+
+// The place right after a span.
+fn end_of(span: Span) -> Span {
+    Span {
+        first: span.after,
+        after: span.after,
+    }
+}
+
+// Appends what is expected and what is found.
+fn push_title(alloc: Global, out: &mut Message, place: &Place, expected: &Expected) {
+    out.put("expected ");
+    expected.push(alloc, out);
+    out.put(", found ");
+    if place.text(0).is_empty() {
+        out.put("the end of the text")
+    } else {
+        out.quoted(place.text(0))
+    }
+}
+
+// Appends which bracket isn't closed, or which `if` has no second arm, where this is the fault, and gives whether it is.
+fn push_open(out: &mut Message, bytes: &[u8], place: &Place, expected: &Expected) -> bool {
+    if let Some(choice) = unfinished(place, expected) {
+        push_opened(out, bytes, &choice);
+        out.line(" has no `else`.");
+        return true;
+    }
+    let Some(open) = place.open_bracket() else {
+        return false;
+    };
+    if !is_unclosed(place, &open, expected) {
+        return false;
+    }
+    push_opened(out, bytes, &open);
+    out.line(" isn't closed.");
+    true
+}
+
+// Appends a token with its line and column.
+fn push_opened(out: &mut Message, bytes: &[u8], open: &Place) {
+    let at = open.span(0).first as usize;
+    out.quoted(open.text(0));
+    out.put(" of ");
+    out.number(line_of(bytes, at) as u64);
+    out.put(":");
+    out.number(column_of(bytes, at) as u64)
+}
+
+// The `if` without a second arm that a place ends.
+fn unfinished<'a, 't>(place: &Place<'a, 't>, expected: &Expected) -> Option<Place<'a, 't>> {
+    let is_ended = place.is(0, "}") && place.is(1, ";") && expected.has("1");
+    let is_cut = place.is_among(0, &[";", "}", ")", "]"]) || place.text(0).is_empty();
+    if is_ended || is_cut && expected.has("else") && !place.next_is("else") {
+        return place.open_choice();
+    }
+    None
+}
+
+// Whether a bracket should have been closed before a place.
+fn is_unclosed(place: &Place, open: &Place, expected: &Expected) -> bool {
+    if place.text(0).is_empty() || place.is_among(0, &["fun", "layout", "exception"]) {
+        return true;
+    }
+    let closing = open.closing();
+    expected.has(closing) && !open.is(0, "{") && !place.is(0, closing) && place.is_among(0, &ENDING)
+}
+
+// Tokens before which the round and square brackets of a statement are closed.
+const ENDING: [&str; 7] = [";", ")", "]", "}", "let", "else", "handle"];
 
 /// Appends why a program isn't typed, or too large.
 pub fn explain_type(alloc: Global, out: &mut Message, name: &str, bytes: &[u8], fault: TypeError) {
     match fault {
         TypeError::NoMemory => out.fail(),
-        TypeError::Fault(kind, span) => explain_kind(alloc, out, name, bytes, kind, span),
+        TypeError::Fault(kind, span) => explain_all(alloc, out, name, bytes, kind, span),
         TypeError::TooLarge(size) => explain_size(alloc, out, name, bytes, size),
     }
 }
 
-// A fault of the types.
-fn explain_kind(alloc: Global, out: &mut Message, name: &str, bytes: &[u8], kind: u8, span: Span) {
-    push_place(out, name, bytes, span);
-    out.put(kind_sentence(kind));
-    out.put(" (type ");
-    out.number(u64::from(kind));
-    out.line(")");
-    push_excerpt(out, bytes, span);
-    let advice = push_details(alloc, out, bytes, kind, span);
-    out.line(advice)
-}
-
-// Appends what is wanted and what is there, from a walk over the program up to the fault, and gives what helps.
-fn push_details(
-    alloc: Global,
-    out: &mut Message,
-    bytes: &[u8],
-    kind: u8,
-    span: Span,
-) -> &'static str {
-    if bytes.len() > MOST_BYTES {
-        return kind_advice(kind);
+/// Appends a fault of the types.
+pub fn explain_kind(alloc: Global, out: &mut Message, name: &str, fault: Fault) {
+    if fault.bytes.len() > MOST_BYTES {
+        return;
     }
-    match parse(alloc, bytes) {
+    match parse(alloc, fault.bytes) {
         Ok(program) => {
-            let advice = push_program_details(alloc, out, &program, bytes, kind, span);
-            drop(program);
-            advice
+            push_walk(alloc, out, name, &program, fault);
+            drop(program)
         }
-        Err(_) => {
-            out.fail();
-            kind_advice(kind)
-        }
+        Err(_) => out.fail(),
     }
 }
 
-// The same of a program.
-fn push_program_details(
-    alloc: Global,
-    out: &mut Message,
-    program: &Program,
-    bytes: &[u8],
-    kind: u8,
-    span: Span,
-) -> &'static str {
-    push_elsewhere(alloc, out, program, bytes, kind, span);
-    if kind == 2 {
-        return kind_advice(kind);
-    }
-    push_note(alloc, out, program, kind, span)
-}
-
-// Appends what a walk notes, and gives what helps.
-fn push_note(
-    alloc: Global,
-    out: &mut Message,
-    program: &Program,
-    kind: u8,
-    span: Span,
-) -> &'static str {
-    let mut walk = Walk::new(alloc, kind, span);
-    let advice = push_walked(out, &mut walk, program);
-    drop(walk);
-    advice
+// Appends a fault and what a walk over the program up to it tells.
+fn push_walk(alloc: Global, out: &mut Message, name: &str, program: &Program, fault: Fault) {
+    let mut walk = Walk::new(alloc, fault.kind, fault.span);
+    push_walked(alloc, out, name, &mut walk, program, fault);
+    drop(walk)
 }
 
 // The same, by a walk that is still to be made.
-fn push_walked<'a>(out: &mut Message, walk: &mut Walk<'a>, program: &'a Program) -> &'static str {
+fn push_walked<'a>(
+    alloc: Global,
+    out: &mut Message,
+    name: &str,
+    walk: &mut Walk<'a>,
+    program: &'a Program,
+    fault: Fault,
+) {
     walk.program(program);
-    out.message_text(&walk.note);
     out.fail_if(walk.is_short());
-    walk.advice.unwrap_or(kind_advice(walk.kind))
+    let Some(span) = shown_span(alloc, out, program, fault) else {
+        return push_no_main(out, name);
+    };
+    push_place(out, name, fault.source, span);
+    if walk.title.is_empty() {
+        out.put(kind_sentence(fault.kind));
+    }
+    out.message_text(&walk.title);
+    out.put(" (type ");
+    out.number(u64::from(fault.kind));
+    out.line(")");
+    push_excerpt(out, fault.source, span);
+    push_elsewhere(alloc, out, program, fault.bytes, fault.kind, fault.span);
+    out.message_text(&walk.note);
+    push_help(out, walk.advice.unwrap_or(kind_advice(fault.kind)))
+}
+
+// The part of the source that is at fault, or none where it is that no function is like `main`.
+fn shown_span(alloc: Global, out: &mut Message, program: &Program, fault: Fault) -> Option<Span> {
+    let span = if fault.kind == 1 {
+        main_in_capitals(program)?
+    } else {
+        narrowed(alloc, out, fault.bytes, fault.kind, fault.span)
+    };
+    Some(original_span(fault.source, fault.bodies, span))
+}
+
+// Appends that there is no function `main`.
+fn push_no_main(out: &mut Message, name: &str) {
+    out.put(name);
+    out.line(": error: there is no function `main` (type 1)");
+    out.line(kind_advice(1))
 }
 
 // A program that is too large, with the sizes of its functions.
 fn explain_size(alloc: Global, out: &mut Message, name: &str, bytes: &[u8], size: u32) {
     out.put(name);
-    out.put(": the expanded size is ");
+    out.put(": error: the expanded size is ");
     out.number(u64::from(size));
     out.line(", and at most 4096 is allowed (too large)");
     push_parts_of(alloc, out, bytes, size);

@@ -24,16 +24,40 @@ pub fn push_typed_sizes(alloc: Global, out: &mut Message, name: &str, typed: &Ty
     )
 }
 
+/// Appends in one line how large a program is.
+pub fn push_typed_short_sizes(out: &mut Message, name: &str, typed: &Typed) {
+    let mut layouts: u64 = 0;
+    let mut exceptions: u64 = 0;
+    let mut functions: u64 = 0;
+    for decl in typed.program().decls.iter() {
+        match decl {
+            Decl::Layout(_, _, _) => layouts = layouts.saturating_add(1),
+            Decl::Exception(_, _, _) => exceptions = exceptions.saturating_add(1),
+            Decl::Group(funs) => functions = functions.saturating_add(funs.len() as u64),
+        }
+    }
+    out.put(name);
+    out.put(": no fault: ");
+    out.counted(functions, "function");
+    out.put(", ");
+    out.counted(layouts, "layout");
+    out.put(", ");
+    out.counted(exceptions, "exception");
+    out.put(", expanded size ");
+    out.number(u64::from(typed.expanded()));
+    out.line(" of at most 4096")
+}
+
 // Appends the room, and whether the slots of compiled code are enough for it.
 fn push_room(out: &mut Message, room: u32) {
     out.put("room ");
     out.number(u64::from(room));
     out.put(": at most so many words are wanted at once");
-    if room <= 128 {
-        out.line(", so the 128 slots of compiled code are enough")
+    out.line(if room <= 128 {
+        ", so the 128 slots of compiled code are enough"
     } else {
-        out.line(", and the 128 slots of compiled code may be too few")
-    }
+        ""
+    })
 }
 
 /// Appends the sizes of each declaration of a program of this expanded size and room.
@@ -85,8 +109,8 @@ fn has_costs(walk: &Walk, expanded: u32, room: Option<u32>) -> bool {
     same_room && cost.size.min(u64::from(u32::MAX)) == u64::from(expanded)
 }
 
-// What the group of `main` costs.
-fn main_cost<'a>(walk: &Walk<'a>) -> Option<Cost> {
+/// What the group of `main` costs.
+pub fn main_cost<'a>(walk: &Walk<'a>) -> Option<Cost> {
     for name in walk.functions.names() {
         if name.bytes() == b"main".as_slice() {
             return walk.costs.get(*name);

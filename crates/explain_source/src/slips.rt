@@ -1,216 +1,313 @@
 //! The usual slips that end in a fault of the text, and what to write in their place.
 
 use crate::expected::Expected;
-use explain_parts::text::part;
-use nv_text::Token;
+use crate::expression_slips::expression_slip;
+use crate::foreign::{declaration_slip, word_slip};
+use crate::head_slips::head_slip;
+use crate::place::Place;
+use crate::slip::{Mark, Slip};
 
-/// A token with which a text begins no program, and the three before it, the nearest first. Each is empty where there is none.
-#[derive(Clone, Copy)]
-pub struct Around<'a> {
-    pub found: &'a [u8],
-    pub last: &'a [u8],
-    pub second: &'a [u8],
-    pub third: &'a [u8],
-}
-
-impl<'a> Around<'a> {
-    /// Those at a place.
-    pub fn at(bytes: &'a [u8], tokens: &[Token], at: usize) -> Around<'a> {
-        let place = place_of(tokens, at);
-        Around {
-            found: text_of(bytes, tokens, Some(place)),
-            last: text_of(bytes, tokens, place.checked_sub(1)),
-            second: text_of(bytes, tokens, place.checked_sub(2)),
-            third: text_of(bytes, tokens, place.checked_sub(3)),
-        }
-    }
-
-    /// What to write in place of the usual slip, or in general.
-    pub fn advice(self, expected: &Expected) -> &'static str {
-        if self.found.is_empty() {
-            return self.at_the_end(expected);
-        }
-        if is(self.second, "exception") && is(self.found, ";") {
-            return "An exception has a list of types, which may be empty, as in `exception E[];`.";
-        }
-        if let Some(advice) = self.of_braces() {
-            return advice;
-        }
-        if let Some(advice) = self.of_operands(expected) {
-            return advice;
-        }
-        if let Some(advice) = self.of_operators(expected) {
-            return advice;
-        }
-        if let Some(advice) = self.of_blocks(expected) {
-            return advice;
-        }
-        self.of_declarations(expected)
-    }
-
-    // Where only more is missing.
-    fn at_the_end(self, expected: &Expected) -> &'static str {
-        if expected.has("}") {
-            "A `}` is missing, or more."
-        } else if expected.has("else") {
-            "An `if` has two arms: `else` and what it gives are missing."
-        } else {
-            "The text ends too early: write what is wanted behind it."
-        }
-    }
-
-    // Braces round the arm of an `if`.
-    fn of_braces(self) -> Option<&'static str> {
-        let in_front = if is(self.last, "{") {
-            self.second
-        } else if is(self.second, "{") {
-            self.third
-        } else {
-            return None;
-        };
-        if is(in_front, ")") || is(in_front, "else") {
-            Some(
-                "The arms of an `if` have no braces, since `{` begins a record. Write `if (c) 1 else 2`.",
-            )
-        } else {
-            None
-        }
-    }
-
-    // Where an operand is wanted.
-    fn of_operands(self, expected: &Expected) -> Option<&'static str> {
-        if !expected.has("1") || !expected.has("~") {
-            return None;
-        }
-        if is(self.found, "-") {
-            Some("There is no unary minus. Write `0 - x`.")
-        } else if is(self.found, "if") || is(self.found, "raise") || is(self.found, "try") {
-            Some(
-                "`if`, `raise` and `try` are no operands. Put them in a `let`, in an arm or in round brackets.",
-            )
-        } else if is(self.found, "}") && is(self.last, ";") {
-            Some("A block ends with a value. Write `()` behind the last statement.")
-        } else if is(self.found, "let") {
-            Some("A `let` begins a block. Put round brackets about the block.")
-        } else if is(self.found, ")") || is(self.found, "]") {
-            Some("An operand is missing.")
-        } else {
-            None
-        }
-    }
-
-    // Behind an operand.
-    fn of_operators(self, expected: &Expected) -> Option<&'static str> {
-        if is(self.last, "<<") || is(self.last, ">>") || is(self.last, "<<<") {
-            return Some(
-                "A shift takes a number of places that stands in the text, not a variable. A loop shifts by one place each time.",
-            );
-        }
-        if !expected.has("+") {
-            return None;
-        }
-        if self.is_comparison() {
-            Some("A comparison stands alone. Write `1 < x && x < 3`.")
-        } else if is(self.found, "=") {
-            Some("`==` compares words; `=` stands in `let` and in records alone.")
-        } else if is(self.found, "(") {
-            Some("Parameters and arguments stand in `[ ]`, as in `f[1, 2]`.")
-        } else if is(self.found, "~") || is(self.found, "!") {
-            Some("`~` and `!` stand before an operand, and an operator is wanted between two.")
-        } else {
-            None
-        }
-    }
-
-    fn is_comparison(self) -> bool {
-        is(self.found, "==")
-            || is(self.found, "!=")
-            || is(self.found, "<")
-            || is(self.found, "<=")
-            || is(self.found, ">")
-            || is(self.found, ">=")
-    }
-
-    // In blocks and choices.
-    fn of_blocks(self, expected: &Expected) -> Option<&'static str> {
-        if is(self.found, ";") && is(self.last, "]") {
-            Some(
-                "A call is no statement. Write `let () = f[x];`, or `let _ = f[x];` where it gives something.",
-            )
-        } else if is(self.found, ";") && expected.has("else") {
-            Some(
-                "An `if` has two arms. Write `else` and what it gives then; a store alone gives `()` behind its `;`.",
-            )
-        } else if is(self.found, ";") {
-            Some("Only a `let` and a store end with `;`. A block ends with a value, without one.")
-        } else if is(self.found, "}") && expected.has("else") {
-            Some("An `if` has two arms. Write `else` and what it gives then.")
-        } else if expected.has(";") && !is(self.found, ",") {
-            Some("A `let` and a store end with `;`.")
-        } else {
-            None
-        }
-    }
-
-    // In declarations, and in general.
-    fn of_declarations(self, expected: &Expected) -> &'static str {
-        if is(self.found, "(") && expected.has("[") {
-            "Parameters and arguments stand in `[ ]`, as in `f[1, 2]`."
-        } else if is(self.found, "_") {
-            "`_` is a pattern, and no name of a parameter or a value."
-        } else if expected.has("x") && is_word(self.found) {
-            "A keyword is no name. Choose another name."
-        } else if expected.has("fun") {
-            "Behind a declaration stands another one: `layout`, `exception` or `fun`."
-        } else {
-            "Write one of the wanted tokens here, or look at what stands before it."
-        }
+/// The slip at a place, or what is said in general.
+pub fn slip_at(place: &Place, expected: &Expected) -> Slip {
+    match special_slip(place, expected) {
+        Some(slip) => slip,
+        None => general_slip(place, expected),
     }
 }
 
-// The number of the first token from a place on.
-fn place_of(tokens: &[Token], at: usize) -> usize {
-    for (n, token) in tokens.iter().enumerate() {
-        if token.span.first as usize >= at {
-            return n;
-        }
+// A slip that is known.
+fn special_slip(place: &Place, expected: &Expected) -> Option<Slip> {
+    if let Some(slip) = word_slip(place, expected) {
+        return Some(slip);
     }
-    tokens.len()
+    if let Some(slip) = number_slip(place) {
+        return Some(slip);
+    }
+    if let Some(slip) = head_slip(place, expected) {
+        return Some(slip);
+    }
+    if expected.has("fun") {
+        return declaration_slip(place);
+    }
+    if let Some(slip) = statement_slip(place, expected) {
+        return Some(slip);
+    }
+    expression_slip(place, expected)
 }
 
-// The bytes of a token, or none.
-fn text_of<'a>(bytes: &'a [u8], tokens: &[Token], place: Option<usize>) -> &'a [u8] {
-    let Some(n) = place else {
-        return part(bytes, 0, 0);
+// Letters right after a number, and numbers with a point.
+fn number_slip(place: &Place) -> Option<Slip> {
+    if place.is(1, ".") && place.is_number(0) {
+        return part_slip(place);
+    }
+    if !place.is_number(1) || !place.is_joined() || !place.is_word(0) {
+        return None;
+    }
+    let Some(byte) = place.text(0).first() else {
+        return None;
     };
-    match tokens.get(n) {
-        Some(token) => part(bytes, token.span.first as usize, token.span.after as usize),
-        None => part(bytes, 0, 0),
+    match *byte {
+        b'_' => Slip::before(
+            1,
+            "a number has no `_`",
+            "Write the digits alone, as `0xffff0000`.",
+        ),
+        b'b' | b'B' if place.is(1, "0") => Slip::before(
+            1,
+            "there are no binary numbers",
+            "Write hexadecimal digits: `0xf` is 1111.",
+        ),
+        b'o' | b'O' if place.is(1, "0") => Slip::before(
+            1,
+            "there are no octal numbers",
+            "Write decimal or hexadecimal digits: `0x1ff`.",
+        ),
+        b'u' | b'U' | b'l' | b'L' => Slip::before(
+            1,
+            "a number has no suffix",
+            "Write the digits alone: each number is a word.",
+        ),
+        _ => Slip::before(
+            1,
+            "a number and a name stand side by side",
+            "Hexadecimal digits stand after `0x`. A name begins with a letter or `_`.",
+        ),
     }
 }
 
-fn is(token: &[u8], text: &str) -> bool {
-    token == text.as_bytes()
+// A number after a dot.
+fn part_slip(place: &Place) -> Option<Slip> {
+    if place.is_number(2) {
+        return Slip::before(
+            2,
+            "there are no fractions",
+            "A word is a whole number of 32 bits.",
+        );
+    }
+    Slip::titled(
+        "parts of a tuple have no numbers",
+        "Name them by a pattern: `let (a, b) = f[];`. A dot takes a record's field.",
+    )
 }
 
-fn is_word(token: &[u8]) -> bool {
-    match token.first() {
-        Some(byte) => byte.is_ascii_alphabetic(),
-        None => false,
+// Slips of statements: assignments, and what ends them.
+fn statement_slip(place: &Place, expected: &Expected) -> Option<Slip> {
+    if place.is(0, "=") && expected.has("<-") && !expected.has("+") {
+        return Slip::help("A store is `sram(at) <- x;`.");
+    }
+    if let Some(slip) = assignment_slip(place, expected) {
+        return Some(slip);
+    }
+    if let Some(slip) = choice_slip(place, expected) {
+        return Some(slip);
+    }
+    if place.is(0, ";") {
+        return semicolon_slip(place, expected);
+    }
+    if expected.has(";") && expected.has("+") {
+        return unended_slip(place);
+    }
+    None
+}
+
+const NO_ASSIGNMENT: &str = "nothing is assigned";
+
+const BIND_AGAIN: &str =
+    "Bind the name again: `let x = x + 1;`. What changes from turn to turn of a loop is a parameter.";
+
+// An `=` where none may stand, and signs such as `+=` and `++`.
+fn assignment_slip(place: &Place, expected: &Expected) -> Option<Slip> {
+    let is_double = place.is_among(0, &["+", "-"]) && place.text(0) == place.text(1);
+    if is_double && place.is_joined() && !expected.has("+") {
+        return Slip::before(1, NO_ASSIGNMENT, BIND_AGAIN);
+    }
+    if !place.is(0, "=") {
+        return None;
+    }
+    if expected.has("~") && place.is_joined() && place.is_among(1, &OPERATORS) {
+        return Slip::before(1, NO_ASSIGNMENT, BIND_AGAIN);
+    }
+    if !expected.has("+") {
+        return None;
+    }
+    if place.next_is(">") {
+        return Slip::help("The comparisons are `==`, `!=`, `<`, `<=`, `>` and `>=`.");
+    }
+    if is_in_condition(place) {
+        return Slip::help("`==` compares words. `=` is for `let` and the fields of records.");
+    }
+    if place.is(2, ".") {
+        return Slip::titled(
+            NO_ASSIGNMENT,
+            "A changed record is made anew: `let h = { a = 5, b = h.b };`.",
+        );
+    }
+    if place.is(1, "]") {
+        return Slip::titled(
+            NO_ASSIGNMENT,
+            "There are no arrays. A table is words of a memory: `sram(at + i) <- x;`.",
+        );
+    }
+    Slip::titled(NO_ASSIGNMENT, BIND_AGAIN)
+}
+
+const OPERATORS: [&str; 8] = ["+", "-", "&", "|", "^", "<<", ">>", "<<<"];
+
+// Whether the innermost bracket is that of a condition, or a sign of bools stands before.
+fn is_in_condition(place: &Place) -> bool {
+    if place.is_among(2, &["&&", "||", "!"]) {
+        return true;
+    }
+    let Some(open) = place.open_bracket() else {
+        return false;
+    };
+    open.is(0, "(") && open.is(1, "if")
+}
+
+// An `if` without its second arm, and an `else` that follows no arm.
+fn choice_slip(place: &Place, expected: &Expected) -> Option<Slip> {
+    if expected.has("else") {
+        return unfinished_choice(place);
+    }
+    if place.is(0, "else") && place.is(1, ";") {
+        return Slip::gap("An arm ends with a value: write `()` after its last `;`.");
+    }
+    if place.is(0, "else") {
+        return Slip::help("An `if` before it has both arms, or none is there.");
+    }
+    if place.is(0, "}") && place.is(1, ";") && expected.has("1") && place.open_choice().is_some() {
+        return Slip::help(
+            "An arm ends with a value: `(if (c) sram(0) <- 1; () else ())`. The brackets let statements follow.",
+        );
+    }
+    None
+}
+
+// Where `else` may stand.
+fn unfinished_choice(place: &Place) -> Option<Slip> {
+    if place.is(0, ";") && place.next_is("else") {
+        return Slip::help("No `;` stands before `else`.");
+    }
+    if place.is(0, ";") && place.is(1, "]") {
+        return Slip::help("Write `else` in place of the `;`, and go on with what follows.");
+    }
+    if place.is_among(0, &[";", "}", ")", "]"]) {
+        return Slip::help(
+            "Write `else` and what it gives then, or `else ()` where that is nothing.",
+        );
+    }
+    None
+}
+
+// A `;` that ends no statement.
+fn semicolon_slip(place: &Place, expected: &Expected) -> Option<Slip> {
+    if place.is(1, ";") {
+        return Slip::help("One `;` is enough.");
+    }
+    if !expected.has("+") || place.is_in_brackets() {
+        return None;
+    }
+    if expected.has(",") {
+        return Slip::help("The fields of a record are parted by `,`.");
+    }
+    if place.is(1, "]") {
+        return Slip::help(
+            "A call is no statement. Write `let () = f[x];`, or `let _ = f[x];` where it gives something.",
+        );
+    }
+    Slip::help(
+        "Only a `let` and a store end with `;`. Leave it out after a block's value, or write `let _ = ..;`.",
+    )
+}
+
+// A statement that hasn't ended.
+fn unended_slip(place: &Place) -> Option<Slip> {
+    if place.is_on_new_line() || place.is(0, "let") {
+        return Slip::gap("A `let` and a store end with `;`.");
+    }
+    if place.is(0, "}") {
+        return Slip::gap("A `let` and a store end with `;`, and a block with a value.");
+    }
+    None
+}
+
+// What is said in general.
+fn general_slip(place: &Place, expected: &Expected) -> Slip {
+    let help = if place.text(0).is_empty() {
+        end_help(expected)
+    } else if expected.has(";") && !expected.has("+") {
+        "A `layout` and an `exception` end with `;`."
+    } else if expected.has(";") {
+        "A `let` and a store end with `;`."
+    } else if place.is_among(0, &[")", "]", "}"]) && expected.has("+") {
+        "Another bracket is open here, or none."
+    } else if place.is(1, ",") && place.is_among(0, &[")", "]", "}"]) {
+        "No `,` stands after the last part."
+    } else {
+        kind_help(place, expected)
+    };
+    Slip {
+        title: None,
+        help,
+        mark: if expected.has(";") && place.is_on_new_line() {
+            Mark::Gap
+        } else {
+            Mark::Found
+        },
+        is_general: true,
     }
 }
 
-/// What to write in place of a byte that begins no token.
-pub fn byte_advice(byte: u8, next: u8, at: usize) -> &'static str {
+// Where only more is missing.
+fn end_help(expected: &Expected) -> &'static str {
+    if expected.has("else") {
+        "An `if` has two arms: `else` and what it gives are missing."
+    } else {
+        "The text ends too early."
+    }
+}
+
+// By what may stand there.
+fn kind_help(place: &Place, expected: &Expected) -> &'static str {
+    if expected.has("bool") {
+        "Types are `word` of 32 bits, `bool`, tuples, records, `packed(l)` and `unpacked(l)`."
+    } else if place.is(0, "_") {
+        "`_` is a pattern, and no name of a parameter or a value."
+    } else if expected.has("x") && place.is_word(0) && !expected.has("~") {
+        "A keyword is no name. Choose another name."
+    } else if expected.has("+") {
+        "Between two values stands an operator or a comma."
+    } else {
+        ""
+    }
+}
+
+/// What to write in place of the first byte of this, which begins no token.
+pub fn byte_advice(rest: &[u8], at: usize) -> &'static str {
+    if rest.starts_with(b"/*") {
+        "A comment is `// ..` up to the line's end. There is no `/* .. */`."
+    } else if rest.starts_with(b"#def") {
+        "A constant is a function without parameters: `fun limit[]: word { 1500 }`."
+    } else if rest.starts_with(b"#i") || rest.starts_with(b"#p") {
+        "A program is one text: nothing is imported, and there are no macros."
+    } else if at == 0 && rest.starts_with(b"\xef\xbb\xbf") {
+        "A byte order mark stands before the program. Save the text without it."
+    } else {
+        match rest.first() {
+            Some(byte) => single_byte_advice(*byte),
+            None => "",
+        }
+    }
+}
+
+fn single_byte_advice(byte: u8) -> &'static str {
     match byte {
-        b'/' if next == b'*' =>
-            "A comment is `// ..` up to the line's end. There is no `/* .. */`.",
         b'*' | b'/' | b'%' =>
             "There is no `*`, `/` or `%`. Multiply by shifts and sums, and divide by a loop.",
         b'"' | b'\'' => "There are no strings and no characters. Write their numbers, as 0x41.",
         b'#' => "`##` joins layouts. A comment begins with `//`.",
         b'?' => "There is no `? :`. Write `if (c) 1 else 2`.",
-        239 if at == 0 => "A byte order mark stands before the program. Save the text without it.",
+        b'$' | b'@' => "A name has letters, digits and `_`.",
         128..=255 => "Names and numbers are of ASCII. Only a comment may hold other bytes.",
         _ => "Take it out: only a comment may hold this byte.",
     }

@@ -1,10 +1,10 @@
 //! What a walk tells of the fault that it comes to.
 
 use crate::walk::{Shape, Walk};
-use explain_parts::expected::ExpectedType;
+use explain_parts::expected::{ExpectedType, Why};
 use explain_parts::names::{add_all_names, add_names, stands_before};
 use explain_parts::nearest::push_nearest;
-use explain_parts::types::{BOOL, Part};
+use explain_parts::types::{BOOL, Part, WORD};
 use nv_ast::{Expr, Fun, Kind, Name, Pat, Span, TyText};
 use nv_base::Mem;
 
@@ -17,8 +17,16 @@ impl<'a> Walk<'a> {
         self.note.line("")
     }
 
+    // The sentence `FRONT NAME BEHIND`.
+    fn entitle(&mut self, front: &str, name: &Name, behind: &str) {
+        self.title.put(front);
+        self.title.put(" ");
+        self.title.quoted(name.bytes());
+        self.title.put(behind)
+    }
+
     // Appends `found: NAME WHAT` as a line.
-    fn note_name(&mut self, name: &Name, what: &str) {
+    pub fn note_name(&mut self, name: &Name, what: &str) {
         self.note.put("found: ");
         self.note.quoted(name.bytes());
         self.note.put(" ");
@@ -40,21 +48,10 @@ impl<'a> Walk<'a> {
         if self.kind != 14 && self.kind != 22 {
             return;
         }
-        match expected {
-            ExpectedType::Typed(t, why) => {
-                self.note_type("wanted", t);
-                why.push(&mut self.note);
-                self.advise(why.advice(t == BOOL));
-            }
-            ExpectedType::Stored => {
-                self.note
-                    .line("wanted: word or a tuple of words, to be stored");
-                self.advise(
-                    "A store takes words alone: write each word of the value into one tuple.",
-                );
-            }
-            ExpectedType::Value | ExpectedType::Anything => self.note.line("wanted: a value"),
+        if self.explain_difference(expected, value) {
+            return;
         }
+        self.note_expected(expected);
         match value {
             Some(t) => {
                 self.note_type("found", t);
@@ -62,6 +59,41 @@ impl<'a> Walk<'a> {
             }
             None => self.note.line("found: no value"),
         }
+    }
+
+    // What is expected of a value.
+    fn note_expected(&mut self, expected: ExpectedType<'a>) {
+        match expected {
+            ExpectedType::Typed(t, why) => {
+                self.note_type("expected", t);
+                why.push(&mut self.note);
+                self.advise(why.advice(t == BOOL));
+            }
+            ExpectedType::Stored => {
+                self.note
+                    .line("expected: word or a tuple of words, to be stored");
+                self.advise(
+                    "A store takes words alone: write each word of the value into one tuple.",
+                );
+            }
+            ExpectedType::Value | ExpectedType::Anything => self.note.line("expected: a value"),
+        }
+    }
+
+    // What of a record, or of a number of words, is another than is expected, and whether that is told.
+    fn explain_difference(&mut self, expected: ExpectedType<'a>, value: Option<usize>) -> bool {
+        let (ExpectedType::Typed(t, why), Some(found)) = (expected, value) else {
+            return false;
+        };
+        let is_told = match why {
+            Why::Unpacked(_) => self.explain_record(t, found),
+            Why::Packed(_) => self.explain_packed(t, found),
+            _ => false,
+        };
+        if is_told {
+            self.advise(why.advice(false));
+        }
+        is_told
     }
 
     // What helps against another type than is wanted.
@@ -97,9 +129,10 @@ impl<'a> Walk<'a> {
             return;
         }
         self.inside = 0;
-        self.note.put("found: `word[");
-        self.note.number(u64::from(n));
-        self.note.line("]`")
+        self.title.put("`word[");
+        self.title.number(u64::from(n));
+        self.title.put("]` is no type: it has 1 to 1,024 words");
+        self.advice = Some("A table stands in a memory.")
     }
 
     /// 3 and 8: an unknown layout of a declaration.
@@ -116,7 +149,11 @@ impl<'a> Walk<'a> {
         if self.is_over {
             return;
         }
-        self.note_name(name, "is no layout that stands above");
+        self.entitle("no layout", name, " is declared above");
+        self.advice = Some("Declare the layout above its use, or mend the name.");
+        if is_named(name.bytes(), &SIZED_TYPES) {
+            self.advice = Some("A field is a number of bits: `{ a: 8 }`.");
+        }
         push_nearest(self.alloc, &mut self.note, name, self.layouts.names())
     }
 
@@ -143,22 +180,46 @@ impl<'a> Walk<'a> {
         for (n, name) in names.iter().enumerate() {
             if stands_before(names, n, name) {
                 self.inside = 0;
-                return self.note_name(name, "twice");
+                return self.entitle("the name", name, " is given twice");
             }
         }
     }
 
-    /// 4: a field or a gap of a wrong size.
-    pub fn explain_bits(&mut self, what: &str, n: u32, most: u32) {
-        if self.inside != 4 || (n >= 1 && n <= most) {
+    /// 4: a gap of a wrong size.
+    pub fn explain_gap(&mut self, n: u32) {
+        if self.inside != 4 || (n >= 1 && n <= 1024) {
             return;
         }
         self.inside = 0;
-        self.note.put("found: a ");
-        self.note.put(what);
-        self.note.put(" of ");
-        self.note.number(u64::from(n));
-        self.note.line(" bits")
+        self.title.put("a gap has 1 to 1,024 bits, and this one ");
+        self.title.number(u64::from(n));
+        self.advice = Some("Write several gaps, joined by `##`.")
+    }
+
+    /// 4: a field of a wrong size.
+    pub fn explain_bits(&mut self, name: &'a Name, n: u32) {
+        if self.inside != 4 || (n >= 1 && n <= 32) {
+            return;
+        }
+        self.inside = 0;
+        self.entitle("field", name, " has ");
+        self.title.counted(u64::from(n), "bit");
+        self.title.put(", and a field has 1 to 32");
+        if n > 32 && n <= 64 {
+            self.note_halves(name, n);
+            self.advice = Some("");
+        }
+    }
+
+    // Which two fields a longer one may be.
+    fn note_halves(&mut self, name: &'a Name, n: u32) {
+        self.note.put("Make two fields of it: `");
+        self.note.bytes(name.bytes());
+        self.note.put(": 32, ");
+        self.note.bytes(name.bytes());
+        self.note.put("_low: ");
+        self.note.number(u64::from(n.saturating_sub(32)));
+        self.note.line("`.")
     }
 
     /// 6: alternatives of different sizes.
@@ -197,15 +258,16 @@ impl<'a> Walk<'a> {
             return;
         }
         let words = self.types.words_of(types);
-        self.note.line("wanted: at most 8 words");
-        self.note_number("found", words, "word")
+        self.title
+            .put("an exception has at most 8 words, and this one ");
+        self.title.number(words)
     }
 
     /// 9 and 23: the head of a function.
     pub fn explain_function(&mut self, fun: &'a Fun, params: usize, returned: usize) {
         match self.inside {
             9 => self.explain_parameters(&fun.params),
-            23 => self.explain_main(params, returned),
+            23 => self.explain_main(fun, params, returned),
             _ => {}
         }
     }
@@ -219,21 +281,44 @@ impl<'a> Walk<'a> {
         self.note_twice(&names)
     }
 
-    // 23: the words of the parameters and the result.
-    fn explain_main(&mut self, params: usize, returned: usize) {
-        let words = self.types.words_of(params);
-        self.note.line(
-            "wanted: at most 8 words of parameters, none of them a bool, and at most 8 of the result",
-        );
-        self.note_number("found among parameters", words, "word");
-        let words = self.types.words_of(returned);
-        self.note_number("found in the result", words, "word")
+    // 23: a bool among the parameters, or too many words of the parameters or the result.
+    fn explain_main(&mut self, fun: &'a Fun, params: usize, returned: usize) {
+        for (n, param) in fun.params.iter().enumerate() {
+            let t = self.types.tuple_part(params, n).unwrap_or(WORD);
+            if self.types.has_bool(self.alloc, &mut self.note, t) {
+                self.advice = Some(
+                    "What starts a program is words: write `flag: word`, and `flag != 0` where it is used.",
+                );
+                return self.entitle("parameter", &param.0, " of `main` has a bool");
+            }
+        }
+        let given = self.types.words_of(params);
+        let is_given = given > 8;
+        let words = if is_given {
+            given
+        } else {
+            self.types.words_of(returned)
+        };
+        self.title.put(if is_given {
+            "`main` takes "
+        } else {
+            "`main` gives "
+        });
+        self.title.counted(words, "word");
+        self.title.put(", and at most 8 are allowed")
     }
 
     /// 10: an unknown variable.
     pub fn explain_variable(&mut self, name: &'a Name) {
+        self.entitle("no variable", name, " is in sight");
         if self.functions.get(name).is_some() {
             return self.note_name(name, "is a function, and a call has brackets, as in `f[]`");
+        }
+        if self.layouts.get(name).is_some() {
+            return self.note_name(name, "is a layout: `unpack[l](w)` gives its fields");
+        }
+        if let Some(advice) = foreign_advice(name.bytes()) {
+            self.advice = Some(advice);
         }
         let known = self.scope.names(self.alloc, &mut self.note);
         push_nearest(self.alloc, &mut self.note, name, &known)
@@ -244,6 +329,7 @@ impl<'a> Walk<'a> {
         if self.kind != 15 || self.is_over {
             return;
         }
+        self.entitle("there is no field", name, "");
         self.note_type("found", t);
         self.note.line(" before the dot");
         let fields = self.types.fields_of(self.alloc, &mut self.note, t);
@@ -273,11 +359,40 @@ impl<'a> Walk<'a> {
     /// 11, 12 and 13: a call.
     pub fn explain_call(&mut self, name: &'a Name, params: usize, given: usize) {
         match self.kind {
-            11 => push_nearest(self.alloc, &mut self.note, name, self.functions.names()),
+            11 => self.explain_function_name(name),
             12 => self.explain_own_call(name),
-            13 => self.explain_count(params, given, "argument"),
+            13 => self.explain_count(name, params, given, "argument"),
             _ => {}
         }
+    }
+
+    // 11: an unknown function.
+    fn explain_function_name(&mut self, name: &'a Name) {
+        self.entitle("no function", name, " is declared above");
+        if self.scope.get(name).is_some() {
+            self.advice = Some(
+                "There are no arrays: parts of a tuple are named by `let (a, b) = t;`, and a table stands in a memory.",
+            );
+            return self.note_name(name, "is a variable, and no function");
+        }
+        if self.layouts.get(name).is_some() {
+            self.advice = Some("");
+            return self.note_name(
+                name,
+                "is a layout: write `unpack[l](w)` or `pack[l]({ .. })`",
+            );
+        }
+        if self.exceptions.get(name).is_some() {
+            self.advice = Some("");
+            return self.note_name(name, "is an exception: write `raise E[..]`");
+        }
+        push_nearest(self.alloc, &mut self.note, name, self.functions.names())
+    }
+
+    // 17: an unknown exception.
+    fn explain_exception_name(&mut self, name: &'a Name) {
+        self.entitle("no exception", name, " is declared above");
+        push_nearest(self.alloc, &mut self.note, name, self.exceptions.names())
     }
 
     // 12: which function of a group calls which.
@@ -296,19 +411,24 @@ impl<'a> Walk<'a> {
         self.note.line(" of its own group here")
     }
 
-    // 13: how many are wanted, and how many are there.
-    fn explain_count(&mut self, types: usize, given: usize, what: &str) {
-        if let Some(expected) = self.types.tuple_length(types) {
-            self.note_number("wanted", expected as u64, what);
-        }
-        self.note_number("found", given as u64, what)
+    // 13: how many are expected, and how many are there.
+    fn explain_count(&mut self, name: &'a Name, types: usize, given: usize, what: &str) {
+        let Some(expected) = self.types.tuple_length(types) else {
+            return;
+        };
+        self.title.quoted(name.bytes());
+        self.title.put(" takes ");
+        self.title.counted(expected as u64, what);
+        self.title.put(", and here ");
+        self.title.put(if given == 1 { "is " } else { "are " });
+        self.title.number(given as u64)
     }
 
     /// 13 and 17: a raise.
     pub fn explain_raise(&mut self, name: &'a Name, types: usize, given: usize) {
         match self.kind {
-            13 => self.explain_count(types, given, "value"),
-            17 => push_nearest(self.alloc, &mut self.note, name, self.exceptions.names()),
+            13 => self.explain_count(name, types, given, "value"),
+            17 => self.explain_exception_name(name),
             _ => {}
         }
     }
@@ -317,13 +437,24 @@ impl<'a> Walk<'a> {
     pub fn explain_handler(&mut self, name: &'a Name, types: usize, patterns: &'a [Pat]) {
         match self.kind {
             9 => self.explain_names(patterns),
-            13 => self.explain_count(types, patterns.len(), "pattern"),
+            13 => self.explain_handled(name, types, patterns.len()),
             16 => {
-                self.note_type("wanted", types);
+                self.note_type("expected", types);
                 self.note.line(", as the exception has")
             }
-            17 => push_nearest(self.alloc, &mut self.note, name, self.exceptions.names()),
+            17 => self.explain_exception_name(name),
             _ => {}
+        }
+    }
+
+    // 13: how many values an exception has, and how many patterns are there.
+    fn explain_handled(&mut self, name: &'a Name, types: usize, given: usize) {
+        if let Some(expected) = self.types.tuple_length(types) {
+            self.title.quoted(name.bytes());
+            self.title.put(" has ");
+            self.title.counted(expected as u64, "value");
+            self.title.put(", and the handler ");
+            self.title.counted(given as u64, "pattern")
         }
     }
 
@@ -339,7 +470,7 @@ impl<'a> Walk<'a> {
         match self.kind {
             9 => self.explain_name(p),
             16 => {
-                self.note_type("wanted", t);
+                self.note_type("expected", t);
                 self.note.line(", as the value has");
                 self.note_parts(p, t)
             }
@@ -371,8 +502,8 @@ impl<'a> Walk<'a> {
         match self.kind {
             19 => {
                 let expected = match mem {
-                    Mem::Sdram => "wanted: 2, 4, 6 or 8 words",
-                    _ => "wanted: 1 to 8 words",
+                    Mem::Sdram => "expected: 2, 4, 6 or 8 words",
+                    _ => "expected: 1 to 8 words",
                 };
                 self.note.line(expected);
                 self.note_number("found", words, "word")
@@ -387,13 +518,43 @@ impl<'a> Walk<'a> {
         match address.kind {
             Kind::Number(at) => {
                 let last = u64::from(at).saturating_add(words).saturating_sub(1);
-                self.note.line("wanted: words up to 511");
+                self.note.line("expected: words up to 511");
                 self.note.put("found: words up to ");
                 self.note.number(last);
                 self.note.line("")
             }
-            _ => self.note.line("wanted: a plain number, without brackets"),
+            _ => self.note.line("expected: a plain number, without brackets"),
         }
+    }
+}
+
+// Types of so many bits in other languages.
+const SIZED_TYPES: [&str; 8] = [
+    "u8", "u16", "u32", "uint8_t", "uint16_t", "uint32_t", "byte", "bit",
+];
+
+// Whether a name is one of these.
+fn is_named(name: &[u8], words: &[&str]) -> bool {
+    for it in words {
+        if name == it.as_bytes() {
+            return true;
+        }
+    }
+    false
+}
+
+// What helps where a word of another language is taken for a variable.
+fn foreign_advice(name: &[u8]) -> Option<&'static str> {
+    if is_named(name, &["return"]) {
+        Some("There is no `return`: the last expression is the value.")
+    } else if is_named(name, &["break", "continue"]) {
+        Some(
+            "There are no loops: a loop is a function that calls itself last, and ends where it gives a value.",
+        )
+    } else if is_named(name, &["True", "False", "TRUE", "FALSE"]) {
+        Some("The bools are `true` and `false`.")
+    } else {
+        None
     }
 }
 

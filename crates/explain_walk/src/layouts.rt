@@ -71,7 +71,7 @@ impl<'a> Walk<'a> {
     }
 
     fn gap(&mut self, n: u32) -> Shape {
-        self.explain_bits("gap", n, 1024);
+        self.explain_gap(n);
         self.shape_with(u64::from(n), 0, &[])
     }
 
@@ -81,7 +81,7 @@ impl<'a> Walk<'a> {
         let mut bits: u64 = 0;
         let mut fields: u64 = 0;
         for f in fs {
-            let member = self.member(&f.1);
+            let member = self.member(&f.0, &f.1);
             bits = bits.saturating_add(member.bits);
             fields = fields.saturating_add(member.fields);
             self.note.keep(&mut parts, Part::named(&f.0, member.kind));
@@ -115,16 +115,16 @@ impl<'a> Walk<'a> {
     }
 
     #[cycle(layout)]
-    fn member(&mut self, text: &'a FieldText) -> Member {
+    fn member(&mut self, name: &'a Name, text: &'a FieldText) -> Member {
         match text {
-            FieldText::Bits(n) => self.bit_field(*n),
+            FieldText::Bits(n) => self.bit_field(name, *n),
             FieldText::Inner(l) => Member::of(self.whole_shape(l)),
             FieldText::Overlay(alternatives) => self.overlay(alternatives),
         }
     }
 
-    fn bit_field(&mut self, n: u32) -> Member {
-        self.explain_bits("field", n, 32);
+    fn bit_field(&mut self, name: &'a Name, n: u32) -> Member {
+        self.explain_bits(name, n);
         Member {
             bits: u64::from(n),
             fields: 1,
@@ -139,7 +139,7 @@ impl<'a> Walk<'a> {
         let mut bits: u64 = 0;
         let mut fields: u64 = 0;
         for it in alternatives {
-            let member = self.member(&it.1);
+            let member = self.member(&it.0, &it.1);
             bits = bits.max(member.bits);
             fields = fields.saturating_add(member.fields);
             self.note.keep(&mut sizes, (&it.0, member.bits));
@@ -147,7 +147,7 @@ impl<'a> Walk<'a> {
         }
         self.explain_twice(5, &parts);
         self.explain_sizes(&sizes);
-        let kind = self.types.record(&parts);
+        let kind = self.types.overlay(&parts);
         Member { bits, fields, kind }
     }
 }

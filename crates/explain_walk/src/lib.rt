@@ -6,6 +6,7 @@ mod blocks;
 mod explain;
 mod expressions;
 mod layouts;
+mod records;
 mod walk;
 
 pub use walk::{Function, Shape, Walk};

@@ -70,6 +70,8 @@ pub struct Walk<'a> {
     pub inside: u8,
     /// Whether the fault is told, and nothing after it is walked.
     pub is_over: bool,
+    /// A sentence on the fault, where more is known than the kind.
+    pub title: Message,
     /// What is told of the fault.
     pub note: Message,
     /// What helps, where more is known than the kind.
@@ -94,6 +96,7 @@ impl<'a> Walk<'a> {
             span,
             inside: 0,
             is_over: false,
+            title: Message::new(alloc),
             note: Message::new(alloc),
             advice: None,
         }
@@ -121,6 +124,7 @@ impl<'a> Walk<'a> {
     /// Whether memory ran out for anything that the walk keeps or tells.
     pub fn is_short(&self) -> bool {
         self.note.is_short()
+            || self.title.is_short()
             || self.types.is_short()
             || self.scope.is_short()
             || self.layouts.is_short()

@@ -1,0 +1,114 @@
+//! Slips in expressions.
+
+use crate::expected::Expected;
+use crate::place::Place;
+use crate::slip::Slip;
+
+/// A slip where an operand or an operator is expected.
+pub fn expression_slip(place: &Place, expected: &Expected) -> Option<Slip> {
+    if place.is_among(1, &SHIFTS) {
+        return shift_slip(place);
+    }
+    if expected.has("1") && expected.has("~") {
+        return operand_slip(place);
+    }
+    if place.is_number(1) && place.is_among(2, &SHIFTS) && place.is_among(0, &["+", "-"]) {
+        return Slip::titled(
+            "a shift binds less tightly than `+` and `-`",
+            "Write brackets round the shift: `(x << 5) + x`.",
+        );
+    }
+    if is_operator_expected(expected) {
+        return operator_slip(place);
+    }
+    None
+}
+
+const SHIFTS: [&str; 3] = ["<<", ">>", "<<<"];
+
+const COMPARISONS: [&str; 6] = ["==", "!=", "<", "<=", ">", ">="];
+
+fn is_operator_expected(expected: &Expected) -> bool {
+    expected.has("+") || expected.has("&&")
+}
+
+// After a sign of a shift.
+fn shift_slip(place: &Place) -> Option<Slip> {
+    if place.is_among(0, &["=", ">", "<"]) {
+        return Slip::help("Logical shifts are `<<` and `>>`, and `<<<` rotates to the left.");
+    }
+    Slip::help(
+        "A shift goes by a number that stands in the text. A loop, or a chain of `if`s, shifts by a variable.",
+    )
+}
+
+// Where an operand is expected.
+fn operand_slip(place: &Place) -> Option<Slip> {
+    match place.text(0) {
+        b">" if place.is(1, "<") => Slip::before(1, "there is no `<>`", "Write `!=`."),
+        b"-" if place.next_is("-") => Slip::help(
+            "A comment begins with `//`. There is no unary minus: write `0 - x`.",
+        ),
+        b"-" => Slip::help("There is no unary minus. Write `0 - x`."),
+        b"&" => Slip::help("There are no pointers: an address is a word."),
+        b"word" | b"bool" => Slip::titled(
+            "a variable has no type",
+            "Write `let x = 5;`. The type is that of the value.",
+        ),
+        b"fun" | b"layout" | b"exception" => {
+            Slip::help(
+                "Declarations stand at the top, not inside a function. A function before may lack its last value or a bracket.",
+            )
+        }
+        b"let" => Slip::help(
+            "A `let` begins a block. Put round brackets about the block: `(let y = x; y + y)`.",
+        ),
+        b"if" | b"raise" | b"try" => {
+            Slip::help(
+                "`if`, `raise` and `try` are no operands. Put them into a `let`, an arm or round brackets.",
+            )
+        }
+        b"handle" => Slip::help("The block of a `try` ends with a value, without a `;`."),
+        b")" | b"]" | b"," | b"}" => ending_slip(place),
+        _ => None,
+    }
+}
+
+// A bracket or a comma in place of an operand.
+fn ending_slip(place: &Place) -> Option<Slip> {
+    if place.is(1, ",") {
+        return Slip::help("No `,` stands after the last part.");
+    }
+    if place.is(0, "}") && place.is(1, "{") {
+        return Slip::help("A block has a value. That of nothing is `()`.");
+    }
+    if place.is(0, "}") && place.is(1, ";") {
+        return Slip::help("A block ends with a value. Write `()` after the last statement.");
+    }
+    Slip::help("An operand is missing.")
+}
+
+// Where an operator is expected.
+fn operator_slip(place: &Place) -> Option<Slip> {
+    if place.is_among(0, &COMPARISONS) {
+        return Slip::titled("a comparison stands alone", "Write `1 < x && x < 3`.");
+    }
+    match place.text(0) {
+        b"(" if place.is_word(1) => Slip::help(
+            "Parameters and arguments stand in `[ ]`, as in `f[1, 2]`.",
+        ),
+        b"[" => Slip::help(
+            "There are no arrays: the parts of a tuple are named by a pattern, `let (a, b) = t;`.",
+        ),
+        b"," if !place.is_in_brackets() => Slip::help(
+            "Several values stand in round brackets: `(a, b)`.",
+        ),
+        b"~" | b"!" => Slip::help(
+            "`~` and `!` stand before an operand, and an operator between two.",
+        ),
+        b"{" => Slip::help(
+            "Braces are for functions, `try` and records. An arm has none, and a block as a value stands in round brackets.",
+        ),
+        _ => None,
+    }
+}

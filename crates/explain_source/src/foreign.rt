@@ -1,0 +1,262 @@
+//! Words of other languages, and what Nova has in their place.
+
+use crate::expected::Expected;
+use crate::place::Place;
+use crate::slip::Slip;
+
+const NO_LOOP: &str = "there are no loops";
+
+const LOOP: &str =
+    "A loop is a function that calls itself last: `fun count[n: word]: word { if (n == 0) 0 else count[n - 1] }`.";
+
+const END_OF_LOOP: &str =
+    "A loop is a function that calls itself last. It ends where it gives a value in place of the call.";
+
+const NO_SWITCH: &str = "there is no `switch`";
+
+const CHAIN: &str = "Write a chain: `if (x == 1) a else if (x == 2) b else c`.";
+
+const NO_THEN: &str = "there is no `then`";
+
+const CHOICE: &str = "Write `if (c) 1 else 2`.";
+
+const NO_ELIF: &str = "there is no `elif`";
+
+const CHOICES: &str = "Write `else if (c) 1 else 2`.";
+
+const UNBOUND: &str = "no variable is declared so";
+
+const BIND: &str = "A variable is bound by `let x = 5;`.";
+
+const CONSTANT: &str =
+    "A constant is a function without parameters: `fun limit[]: word { 1500 }`, used as `limit[]`.";
+
+const TYPED: &str =
+    "A function is `fun f[x: word]: word { x }`, and a constant one without parameters.";
+
+const FUNCTION: &str = "A function is `fun f[x: word]: word { x }`.";
+
+const BITS: &str = "A header is a layout: `layout l = { a: 8, b: 24 };`.";
+
+const ONE_TEXT: &str = "A program is one text: nothing is imported.";
+
+const EXCEPTION: &str = "An exception is declared by `exception E[word];`.";
+
+const HANDLER: &str =
+    "A handler is `handle E[x] { .. }`, with one pattern for each value of the exception.";
+
+// Each table has words of other languages, each with a sentence on it, which may be empty, and what helps.
+
+// Words that begin a statement, before the token.
+const STATEMENTS: [(&str, &str, &str); 17] = [
+    (
+        "return",
+        "there is no `return`: the last expression is the value",
+        "Leave the word out. An arm of an `if` gives a value: `if (c) x else ..`.",
+    ),
+    ("while", NO_LOOP, LOOP),
+    ("for", NO_LOOP, LOOP),
+    ("loop", NO_LOOP, LOOP),
+    ("do", NO_LOOP, LOOP),
+    ("repeat", NO_LOOP, LOOP),
+    ("until", NO_LOOP, LOOP),
+    ("break", NO_LOOP, END_OF_LOOP),
+    ("continue", NO_LOOP, END_OF_LOOP),
+    ("goto", NO_LOOP, END_OF_LOOP),
+    ("switch", NO_SWITCH, CHAIN),
+    ("match", NO_SWITCH, CHAIN),
+    ("case", NO_SWITCH, CHAIN),
+    (
+        "not",
+        "there is no `not`",
+        "Write `!x` of a bool, and `~x` of a word.",
+    ),
+    (
+        "throw",
+        "there is no `throw`",
+        "Write `raise E[];`, without a `;` where it ends a block.",
+    ),
+    ("then", NO_THEN, CHOICE),
+    ("elif", NO_ELIF, CHOICES),
+];
+
+// Words that declare a variable, before its name.
+const BINDINGS: [(&str, &str, &str); 13] = [
+    ("var", UNBOUND, BIND),
+    ("const", UNBOUND, BIND),
+    ("val", UNBOUND, BIND),
+    ("auto", UNBOUND, BIND),
+    ("int", UNBOUND, BIND),
+    ("uint", UNBOUND, BIND),
+    ("unsigned", UNBOUND, BIND),
+    ("u8", UNBOUND, BIND),
+    ("u16", UNBOUND, BIND),
+    ("u32", UNBOUND, BIND),
+    ("uint8_t", UNBOUND, BIND),
+    ("uint16_t", UNBOUND, BIND),
+    ("uint32_t", UNBOUND, BIND),
+];
+
+// Operators that are words, after an operand.
+const OPERATORS: [(&str, &str, &str); 4] = [
+    (
+        "and",
+        "there is no operator `and`",
+        "Write `&&` between bools, and `&` between words.",
+    ),
+    (
+        "or",
+        "there is no operator `or`",
+        "Write `||` between bools, and `|` between words.",
+    ),
+    (
+        "xor",
+        "there is no operator `xor`",
+        "Write `^` between words.",
+    ),
+    (
+        "mod",
+        "there is no operator `mod`",
+        "A remainder by a power of two is a mask: `x & 7`.",
+    ),
+];
+
+// Words of choices.
+const CHOICE_WORDS: [(&str, &str, &str); 4] = [
+    ("elif", NO_ELIF, CHOICES),
+    ("elsif", NO_ELIF, CHOICES),
+    ("elseif", NO_ELIF, CHOICES),
+    ("then", NO_THEN, CHOICE),
+];
+
+// Words of handlers.
+const HANDLERS: [(&str, &str, &str); 3] = [
+    ("catch", "", HANDLER),
+    ("except", "", HANDLER),
+    ("rescue", "", HANDLER),
+];
+
+// Words that begin a declaration.
+const DECLARATIONS: [(&str, &str, &str); 42] = [
+    ("let", "", CONSTANT),
+    ("const", "", CONSTANT),
+    ("static", "", CONSTANT),
+    ("var", "", CONSTANT),
+    ("val", "", CONSTANT),
+    ("define", "", CONSTANT),
+    ("word", "", TYPED),
+    ("bool", "", TYPED),
+    ("int", "", TYPED),
+    ("uint", "", TYPED),
+    ("unsigned", "", TYPED),
+    ("u8", "", TYPED),
+    ("u16", "", TYPED),
+    ("u32", "", TYPED),
+    ("uint8_t", "", TYPED),
+    ("uint16_t", "", TYPED),
+    ("uint32_t", "", TYPED),
+    ("func", "", FUNCTION),
+    ("fn", "", FUNCTION),
+    ("def", "", FUNCTION),
+    ("function", "", FUNCTION),
+    ("void", "", FUNCTION),
+    ("proc", "", FUNCTION),
+    ("sub", "", FUNCTION),
+    ("struct", "", BITS),
+    ("type", "", BITS),
+    ("record", "", BITS),
+    ("typedef", "", BITS),
+    ("enum", "", BITS),
+    ("class", "", BITS),
+    ("header", "", BITS),
+    ("union", "", BITS),
+    ("import", "", ONE_TEXT),
+    ("include", "", ONE_TEXT),
+    ("use", "", ONE_TEXT),
+    ("using", "", ONE_TEXT),
+    ("require", "", ONE_TEXT),
+    ("module", "", ONE_TEXT),
+    ("package", "", ONE_TEXT),
+    ("error", "", EXCEPTION),
+    ("throw", "", EXCEPTION),
+    ("raise", "", EXCEPTION),
+];
+
+// The slip of a word that is so many tokens before a place, if it is one of these.
+fn slip_of(
+    place: &Place,
+    back: usize,
+    words: &[(&'static str, &'static str, &'static str)],
+) -> Option<Slip> {
+    let text = place.text(back);
+    for it in words {
+        if text == it.0.as_bytes() {
+            return titled(back, it.1, it.2);
+        }
+    }
+    None
+}
+
+fn titled(back: usize, title: &'static str, help: &'static str) -> Option<Slip> {
+    if title.is_empty() {
+        return Slip::help(help);
+    }
+    Slip::before(back, title, help)
+}
+
+/// A word of another language inside a function: before the token, or the token itself.
+pub fn word_slip(place: &Place, expected: &Expected) -> Option<Slip> {
+    if expected.has("fun") {
+        return None;
+    }
+    if let Some(slip) = slip_before(place) {
+        return Some(slip);
+    }
+    if let Some(slip) = slip_of(place, 0, &CHOICE_WORDS) {
+        return Some(slip);
+    }
+    if expected.has("handle") {
+        return slip_of(place, 0, &HANDLERS);
+    }
+    if expected.has("+") {
+        return slip_of(place, 0, &OPERATORS);
+    }
+    None
+}
+
+// A word before the token.
+fn slip_before(place: &Place) -> Option<Slip> {
+    if place.is(0, ".") {
+        return None;
+    }
+    if place.is(1, "mut") && place.is(2, "let") {
+        return Slip::before(
+            1,
+            "there is no `mut`",
+            "Bind the name again: `let x = x + 1;`.",
+        );
+    }
+    if place.is_word(0) {
+        if let Some(slip) = slip_of(place, 1, &BINDINGS) {
+            return Some(slip);
+        }
+    }
+    slip_of(place, 1, &STATEMENTS)
+}
+
+/// A word of another language where a declaration is expected.
+pub fn declaration_slip(place: &Place) -> Option<Slip> {
+    if place.is_among(0, &["}", ")", "]"]) {
+        return Slip::titled(
+            "this bracket closes nothing",
+            "Take it out, or look for a bracket above that closes too early.",
+        );
+    }
+    if place.is(0, ";") {
+        return Slip::help("Only a `layout` and an `exception` end with `;`.");
+    }
+    match slip_of(place, 0, &DECLARATIONS) {
+        Some(slip) => Some(slip),
+        None => Slip::help("A program is a list of `layout`, `exception` and `fun`."),
+    }
+}

@@ -1,0 +1,201 @@
+//! Slips in declarations, patterns, accesses and the like, where few tokens may stand.
+
+use crate::expected::Expected;
+use crate::place::Place;
+use crate::slip::Slip;
+
+const ACCESS: &str = "A fetch is `sram[COUNT](ADDRESS)`, a store `sram(ADDRESS) <- VALUE;`.";
+
+const HEAD: &str =
+    "A function is `fun f[x: word]: word { x }`. One without parameters has `[]`, and `()` is the type of nothing.";
+
+/// A slip where the token before says what is begun.
+pub fn head_slip(place: &Place, expected: &Expected) -> Option<Slip> {
+    if expected.has("+") || expected.has("fun") {
+        return late_slip(place, expected);
+    }
+    if let Some(slip) = access_slip(place, expected) {
+        return Some(slip);
+    }
+    if let Some(slip) = named_slip(place, expected) {
+        return Some(slip);
+    }
+    if let Some(slip) = pattern_slip(place, expected) {
+        return Some(slip);
+    }
+    colon_slip(place, expected)
+}
+
+// After a whole expression.
+fn late_slip(place: &Place, expected: &Expected) -> Option<Slip> {
+    if place.is(0, "<-") && expected.has("+") {
+        return Slip::help(
+            "A store is a statement that begins with `sram(ADDRESS) <-`, without a count.",
+        );
+    }
+    if place.is(0, ":") && place.next_is("=") {
+        return Slip::help("A variable is bound by `let x = 5;`.");
+    }
+    if place.is(0, ":") && expected.has("+") {
+        return Slip::help(
+            "A colon gives a type to a parameter or bits to a field. A `let` has no type, and a record's value has `=`.",
+        );
+    }
+    if expected.has("fun") && place.is_word(0) && place.next_is("[") {
+        return Slip::help(HEAD);
+    }
+    None
+}
+
+// Memories, layouts and exceptions at work.
+fn access_slip(place: &Place, expected: &Expected) -> Option<Slip> {
+    let is_memory = place.is_among(1, &MEMORIES);
+    if is_memory || place.is(1, "[") && place.is_among(2, &MEMORIES) {
+        return Slip::help(ACCESS);
+    }
+    if expected.has("(") && !expected.has("1") && place.is(1, "]") && place.is_among(4, &MEMORIES) {
+        return Slip::help(ACCESS);
+    }
+    if expected.has("<-") {
+        return Slip::help(ACCESS);
+    }
+    if place.is_among(1, &["unpack", "pack"])
+        || place.is(1, "]") && place.is_among(4, &["unpack", "pack"])
+    {
+        return Slip::help(
+            "Write the layout's name and the value: `unpack[LAYOUT](w)`, `pack[LAYOUT]({ .. })`.",
+        );
+    }
+    if place.is(2, "raise") {
+        return Slip::help("Values stand in `[ ]`, also where there are none: `raise E[]`.");
+    }
+    if place.is(1, "handle") || place.is(2, "handle") {
+        return Slip::help(
+            "A handler is `handle E[x] { .. }`, with one pattern for each value of the exception.",
+        );
+    }
+    None
+}
+
+const MEMORIES: [&str; 3] = ["sram", "sdram", "scratch"];
+
+// After a keyword and its name.
+fn named_slip(place: &Place, expected: &Expected) -> Option<Slip> {
+    if place.is(1, "if") {
+        return Slip::help("A condition stands in `( )`: `if (c) 1 else 2`.");
+    }
+    if place.is(1, "try") {
+        return Slip::help("Write `try { .. } handle E[] { .. }`.");
+    }
+    if place.is(2, "exception") {
+        return Slip::help(
+            "An exception has a list of types, which may be empty: `exception E[];`.",
+        );
+    }
+    if place.is(2, "layout") {
+        return Slip::help("A layout is `layout l = { a: 8, b: 24 };`.");
+    }
+    if place.is_among(2, &["fun", "and"]) {
+        return Slip::help(if place.is(0, "(") {
+            "Parameters and arguments stand in `[ ]`, as in `f[1, 2]`."
+        } else {
+            HEAD
+        });
+    }
+    if place.is(1, "]") && expected.has(":") {
+        return Slip::help(
+            "The type of the result stands after a colon: `fun f[x: word]: word { x }`. `()` is the type of nothing.",
+        );
+    }
+    if expected.has("{")
+        && !expected.has("x")
+        && !expected.has("bool")
+        && place.open_bracket().is_none()
+    {
+        return Slip::help(HEAD);
+    }
+    None
+}
+
+// After `let`, and in patterns.
+fn pattern_slip(place: &Place, expected: &Expected) -> Option<Slip> {
+    if place.is(2, "let") && expected.has("=") {
+        return match place.text(0) {
+            b":" => Slip::help("A `let` has no type: `let x = 5;`."),
+            b"," => Slip::help("Several names stand in `( )`: `let (a, b) = f[];`."),
+            b";" => Slip::help("A `let` gives a value at once: `let x = 0;`."),
+            b"[" => Slip::help("There are no arrays. A table is words of a memory."),
+            _ => Slip::help("A `let` is `let x = 5;`."),
+        };
+    }
+    if place.is(1, ")") && expected.has("=") && place.is(0, ":") {
+        return Slip::help("A `let` has no type: `let (a, b) = f[];`.");
+    }
+    if expected.has("_") && place.is_among(0, &["{", "["]) {
+        return Slip::help("Several names stand in `( )`: `let (a, b) = f[];`.");
+    }
+    None
+}
+
+// Names before a colon or an equals sign, and what parts fields.
+fn colon_slip(place: &Place, expected: &Expected) -> Option<Slip> {
+    if expected.has(":") {
+        return before_colon_slip(place);
+    }
+    if place.is_among(0, &["word", "bool"]) && expected.has("]") && expected.has("x") {
+        return Slip::help("A parameter is its name, a colon and its type: `fun f[x: word]`.");
+    }
+    if expected.has("=") && place.is(0, ":") {
+        return Slip::help("A record's value has `=`: `{ source = 1 }`.");
+    }
+    if expected.has("=") && place.is(1, ")") {
+        return Slip::help("A `let` is `let () = f[x];`.");
+    }
+    if expected.has("=") && place.is(2, "{") {
+        return Slip::help(brace_help(place));
+    }
+    if place.is(1, "{") && expected.has("x") && !expected.has("1") {
+        return Slip::help(brace_help(&place.later(1)));
+    }
+    sign_slip(place, expected)
+}
+
+// Where a colon is expected.
+fn before_colon_slip(place: &Place) -> Option<Slip> {
+    match place.text(0) {
+        b"," | b"]" => Slip::help("A parameter has a type: `fun f[x: word]`."),
+        b"=" => Slip::help("A colon gives the type or the bits: `{ a: 8 }`."),
+        b"}" => Slip::help(
+            "A function is `fun f[x: word]: word { x }`. A brace after the colon begins a record's type.",
+        ),
+        _ => Slip::help(
+            "A colon stands between a name and its type or its bits: `x: word`, `a: 8`.",
+        ),
+    }
+}
+
+// A sign between fields or layouts that isn't theirs.
+fn sign_slip(place: &Place, expected: &Expected) -> Option<Slip> {
+    match place.text(0) {
+        b";" if expected.has(",") => Slip::help(
+            "The fields of a layout and the parts of a list are parted by `,`.",
+        ),
+        b"," if expected.has("|") => Slip::help(
+            "The alternatives of an overlay are parted by `|`.",
+        ),
+        b"|" if expected.has(",") => Slip::help(
+            "Alternatives stand in an overlay: `v: overlay { a: 8 | b: 8 }`.",
+        ),
+        b"+" if expected.has("##") => Slip::help("Layouts are joined by `##`."),
+        _ => None,
+    }
+}
+
+// Where a `{` two tokens before begins a record, and what follows is none.
+fn brace_help(place: &Place) -> &'static str {
+    if place.is(3, ")") || place.is(3, "else") {
+        "The arms of an `if` have no braces, since `{` begins a record. Write `if (c) 1 else 2`."
+    } else {
+        "`{` begins a record: `{ a = 1 }`. A block as a value stands in round brackets: `(let y = x; y + y)`."
+    }
+}

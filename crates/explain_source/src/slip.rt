@@ -1,0 +1,64 @@
+//! What is said of a usual slip.
+
+/// Where a slip is shown.
+#[derive(Clone, Copy)]
+pub enum Mark {
+    /// At the token with which the text begins no program.
+    Found,
+    /// At the token that is so many before it.
+    Before(usize),
+    /// Right after the token before it.
+    Gap,
+}
+
+/// A slip: a sentence in place of what is expected and found, what helps, and where it is shown.
+#[derive(Clone, Copy)]
+pub struct Slip {
+    pub title: Option<&'static str>,
+    pub help: &'static str,
+    pub mark: Mark,
+    /// Whether it is said in general, and no slip is known.
+    pub is_general: bool,
+}
+
+impl Slip {
+    /// Of which what is expected and found is the sentence.
+    pub fn help(help: &'static str) -> Option<Slip> {
+        Some(Slip {
+            title: None,
+            help,
+            mark: Mark::Found,
+            is_general: false,
+        })
+    }
+
+    /// The same, shown after the token before.
+    pub fn gap(help: &'static str) -> Option<Slip> {
+        Some(Slip {
+            title: None,
+            help,
+            mark: Mark::Gap,
+            is_general: false,
+        })
+    }
+
+    /// With a sentence of its own.
+    pub fn titled(title: &'static str, help: &'static str) -> Option<Slip> {
+        Some(Slip {
+            title: Some(title),
+            help,
+            mark: Mark::Found,
+            is_general: false,
+        })
+    }
+
+    /// With a sentence of its own, shown at a token before.
+    pub fn before(back: usize, title: &'static str, help: &'static str) -> Option<Slip> {
+        Some(Slip {
+            title: Some(title),
+            help,
+            mark: Mark::Before(back),
+            is_general: false,
+        })
+    }
+}
