@@ -1,4 +1,5 @@
 //! Layouts of packed words: their outlines, sizes and fields, and the numbers in the fields.
+//! The interpreter calls `extract` and `insert`. `shape`, `size` and `fields` are for other users of the library: here only tests call them.
 #![tactic(auto)]
 
 mod bits;

@@ -1,4 +1,5 @@
 //! Where the values of a program in single-use form stand while its code runs: whether a placement fits.
+//! The compiler's own placement fits by proof, so here only tests call `fits`; it is for other users of the library.
 #![tactic(auto)]
 
 mod checking;
