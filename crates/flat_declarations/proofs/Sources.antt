@@ -18,18 +18,7 @@ use Rattle.flat_values.specs.inner.Whole.{Whole, whole_of, groups_from, raised_i
 use Rattle.std.proofs.lemmas.List.{map-append, length-append, length-replicate, length-map, replicate_more, drop_all}
 use Rattle.nv_ast.proofs.Items.{next_item}
 
-pub numbers-more : (old now new : List ℕ) (i n : ℕ) → now ≡ old ++ replicate i n → new ≡ now ++ n ∷ [] → new ≡ old ++ replicate (i + 1) n
-numbers-more old now new i n e f = f ∙ ap (λ l. l ++ n ∷ []) e ∙ append_assoc old (replicate i n) (n ∷ []) ∙ ap (λ l. old ++ l) (replicate_more i n)
-
 -- a declaration further
-pub groups-turn : (decls : List Decl) (i : ℕ) (d : Decl) (now new whole : List ℕ) (n m : ℕ) → i < length decls → d ≡ get_or decls i d
-    → ((ds : List DeclTree) → new ++ groups_from m ds ≡ now ++ groups_from n (decl_tree d ∷ ds))
-    → now ++ groups_from n (map decl_tree (drop i decls)) ≡ whole → new ++ groups_from m (map decl_tree (drop (i + 1) decls)) ≡ whole
-groups-turn decls i d now new whole n m h is step before = step (map decl_tree (drop (i + 1) decls)) ∙ ap (λ l. now ++ groups_from n (map decl_tree l)) (sym (next_item decls i d h is)) ∙ before
-
-pub groups-done : (decls : List Decl) (i : ℕ) (now whole : List ℕ) (n : ℕ) → length decls ≤ i → now ++ groups_from n (map decl_tree (drop i decls)) ≡ whole → now ≡ whole
-groups-done decls i now whole n h before = sym (append-nil now) ∙ ap (λ l. now ++ groups_from n (map decl_tree l)) (sym (drop_all i decls h)) ∙ before
-
 pub raised-turn : (decls : List Decl) (i : ℕ) (d : Decl) (now new whole : List TypeTrees) → i < length decls → d ≡ get_or decls i d
     → ((ds : List DeclTree) → new ++ raised_in ds ≡ now ++ raised_in (decl_tree d ∷ ds))
     → now ++ raised_in (map decl_tree (drop i decls)) ≡ whole → new ++ raised_in (map decl_tree (drop (i + 1) decls)) ≡ whole
@@ -48,15 +37,6 @@ as-many n (GroupDecl fs ∷ ds) =
     let c : length (fs ++ functions_in ds) ≡ length fs + length (functions_in ds) = length-append fs (functions_in ds) in
     let d : length (groups_from (suc n) ds) ≡ length (functions_in ds) = as-many (suc n) ds in
     omega arith
-
-pub group-added : (decl : Decl) (fs : Vec Fun Global) (old new : List ℕ) (count n : ℕ) → decl ≡ decls.Group fs → count ≡ length fs.items → new ≡ old ++ replicate count n → (ds : List DeclTree) → new ++ groups_from (n + 1) ds ≡ old ++ groups_from n (decl_tree decl ∷ ds)
-group-added decl fs old new count n is many e ds =
-    let long : count ≡ length (map fun_tree fs.items) = many ∙ sym (length-map fs.items fun_tree) in
-    ap (λ l. l ++ groups_from (n + 1) ds) e
-    ∙ append_assoc old (replicate count n) (groups_from (n + 1) ds)
-    ∙ ap (λ k. old ++ (replicate k n ++ groups_from (n + 1) ds)) long
-    ∙ ap (λ k. old ++ (replicate (length (map fun_tree fs.items)) n ++ groups_from k ds)) (add-one n)
-    ∙ sym (ap (λ d. old ++ groups_from n (decl_tree d ∷ ds)) is)
 
 pub raised-added : (decl : Decl) (x : List ℕ) (tys : Vec TyText Global) (s : Span) (t : Bor (Vec TyText Global)) (old new : List (Bor (Vec TyText Global))) → decl ≡ decls.Exception x tys s → t.now ≡ tys → new ≡ old ++ t ∷ []
     → (ds : List DeclTree) → map (λ t. list_types t.now.items) new ++ raised_in ds ≡ map (λ t. list_types t.now.items) old ++ raised_in (decl_tree decl ∷ ds)

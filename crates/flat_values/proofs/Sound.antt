@@ -204,11 +204,11 @@ module _ (w : Whole) (own : ℕ) (call : Calls) (typed : CallsTyped w call) wher
         (λ v next tv g sizes. (ap (λ o. bind_value q o p.vars) tv ∙ ap (bind q (value_ty v)) i.vars ∙ sym (matched-types q v scope), matched-words q v scope g i.words, sizes))
     run-one-typed (StoreStatement s m a e) p scope now i z h =
         let rest = no_rest (faults p (of_type WordTy) a) _ h in
-        then-stated-typed w (type_at p.known p.vars a) p.vars (eval w.declared call a scope now) (λ v next. then_stated (eval w.declared call e scope next) (λ u last. store scope m (word_of v) (words_of u) last))
+        then-stated-typed w (type_at p.known p.vars a) p.vars (eval w.declared call a scope now) (λ v next. then_stated (eval w.declared call e scope next) (λ u last. store s scope m (word_of v) (words_of u) last))
         (eval-typed a p (of_type WordTy) scope now i z (no_front (faults p (of_type WordTy) a) _ h))
-        (λ v next tv g sizes. then-stated-typed w (type_at p.known p.vars e) p.vars (eval w.declared call e scope next) (λ u last. store scope m (word_of v) (words_of u) last)
+        (λ v next tv g sizes. then-stated-typed w (type_at p.known p.vars e) p.vars (eval w.declared call e scope next) (λ u last. store s scope m (word_of v) (words_of u) last)
         (eval-typed e p expected_stored scope next i sizes (no_front (faults p expected_stored e) _ rest))
-        (λ u last tu words last-sizes. store-typed w p.vars scope m (word_of v) (words_of u) last i.vars i.words words last-sizes))
+        (λ u last tu words last-sizes. store-typed w s p.vars scope m (word_of v) (words_of u) last i.vars i.words words last-sizes))
 
     pub run-all-typed : (sts : StatementTrees) (p : Context) (scope : Scope) (now : Running) → Inside w own p scope → HasSizes now.packet → statements_faults p sts ≡ [] → StatedComesTo w (vars_behind p.known p.vars sts) (run_all w.declared call sts scope now)
     run-all-typed no_statements p scope now i z h = (i.vars, i.words, z)

@@ -17,6 +17,7 @@ use Rattle.nv_ast.specs.Scope.{Vars}
 use Rattle.nv_ast.specs.Typing.{and_ty, and_named_ty, or_ty, operand_ty, result_ty}
 use Rattle.nv_ast.specs.Faults.{same_as, other_type, can_move}
 use Rattle.nv_meaning.specs.Values.{Value, Word, Truth, Values, NamedValues, words_of, all_words, all_named_words, word_of, truth_of, Scope}
+use Rattle.nv_ast.specs.declared.token.Span.{Span}
 use Rattle.nv_meaning.specs.Running.{Running, Result, Gives, Raises, Halts, Results, GiveAll, Breaks, NamedResults, GiveNamed, BreaksNamed, Stated, GoesOn, StopsAt, and_then, and_all, and_named, and_stated, and_further, then_more, then_named, then_stated, before_rest, before_named, handled, after_fetch, fetch, after_store, store}
 use Rattle.nv_meaning.specs.Meaning.{combined, binary, shifted}
 use Rattle.flat_values.specs.inner.Whole.{Whole, raised_tys}
@@ -196,15 +197,15 @@ module _ (w : Whole) where
       by true e = after (fetched m at n now.packet) refl
       by false e = absurd (true≢false (sym e))
 
-  pub store-typed : (vars : Vars) (scope : Scope) (m : Mem) (at : ℕ) (ws : List ℕ) (now : Running) → vars ≡ scope_tys scope → ScopeWords scope → AreWords ws → HasSizes now.packet
-      → StatedComesTo w vars (store scope m at ws now)
-  store-typed vars scope m at ws now e f g s = by (can_move m (length ws))
+  pub store-typed : (text : Span) (vars : Vars) (scope : Scope) (m : Mem) (at : ℕ) (ws : List ℕ) (now : Running) → vars ≡ scope_tys scope → ScopeWords scope → AreWords ws → HasSizes now.packet
+      → StatedComesTo w vars (store text scope m at ws now)
+  store-typed text vars scope m at ws now e f g s = by (can_move m (length ws))
     where
-      after : (o : Option Memories) → stored m at ws now.packet ≡ o → StatedComesTo w vars (after_store scope m at ws o now)
+      after : (o : Option Memories) → stored m at ws now.packet ≡ o → StatedComesTo w vars (after_store text scope m at ws o now)
       after None is = tt
       after (Some q) is = (e, f, stored-sizes m at ws now.packet q s g is)
 
-      by : (b : Bool) → StatedComesTo w vars (if b then after_store scope m at ws (stored m at ws now.packet) now else GoesOn scope now)
+      by : (b : Bool) → StatedComesTo w vars (if b then after_store text scope m at ws (stored m at ws now.packet) now else GoesOn scope now)
       by true = after (stored m at ws now.packet) refl
       by false = (e, f, s)
 

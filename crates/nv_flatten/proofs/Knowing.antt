@@ -9,6 +9,7 @@ use Rattle.nv_ast.specs.Tree.{TypeTree, WordType, BoolType, PackedType, Unpacked
 use Rattle.nv_ast.specs.Types.{TupleTy, RecordTy, Tys, ty_and, named_ty_and, type_of, types_of, named_types_of, packed_ty, unpacked_ty, total_words}
 use Rattle.nv_ast.specs.Scope.{Signature, signature, signatures}
 use Rattle.nv_ast.specs.Faults.{type_faults, types_faults, named_types_faults, too_large, no_layout, twice_in_type, type_names, signature_faults, signatures_faults}
+pub use Rattle.nv_meaning.proofs.Grouped.{function-named}
 use Rattle.nv_meaning.specs.Meaning.{Declared, with_decl, with_decls, function_in}
 use Rattle.nv_meaning.specs.Running.{number_from}
 use Rattle.nv_meaning.specs.inner.Tables.{place_from}
@@ -100,15 +101,6 @@ function-behind (h' ∷ fs) more f h = by (bytes_eq f h'.name) refl (λ e. funct
     by : (b : Bool) → bytes_eq f h'.name ≡ b → (function_in fs f ≡ None → function_in (fs ++ more) f ≡ function_in more f) → function_in ((h' ∷ fs) ++ more) f ≡ function_in more f
     by true e next = let k : Some h' ≡ None = sym (ap (λ b. if b then Some h' else function_in fs f) e) ∙ h in cc
     by false e next = ap (λ b. if b then Some h' else function_in (fs ++ more) f) e ∙ next (sym (ap (λ b. if b then Some h' else function_in fs f) e) ∙ h)
-
--- a function has the name under which it is found
-pub function-named : (fs : List FunTree) (f : List ℕ) (g : FunTree) → function_in fs f ≡ Some g → bytes_eq f g.name ≡ true
-function-named [] f g h = cc
-function-named (h' ∷ fs) f g h = by (bytes_eq f h'.name) refl (λ e. function-named fs f g e)
-  where
-    by : (b : Bool) → bytes_eq f h'.name ≡ b → (function_in fs f ≡ Some g → bytes_eq f g.name ≡ true) → bytes_eq f g.name ≡ true
-    by true e next = subst (λ k. bytes_eq f k.name ≡ true) (same_Some _ _ (sym (ap (λ b. if b then Some h' else function_in fs f) e) ∙ h)) e
-    by false e next = next (sym (ap (λ b. if b then Some h' else function_in fs f) e) ∙ h)
 
 -- what is looked up among signatures is a function's
 pub signature-found : (k : Layouts) (fs : List FunTree) (f : List ℕ) (s : Signature) → look_up f (signatures k fs) ≡ Some s → (g : FunTree) × (function_in fs f ≡ Some g) × (signature k g ≡ s)

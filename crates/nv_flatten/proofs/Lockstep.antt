@@ -17,8 +17,8 @@ use Rattle.nv_ast.specs.Scope.{Known, Context, plain_tys, param_vars, signature}
 use Rattle.nv_ast.specs.Typing.{type_at}
 use Rattle.nv_ast.specs.Faults.{Expected, same_as, named_types_faults, type_faults, type_names, variable_twice, wide_main, program_faults, main_name}
 use Rattle.nv_meaning.specs.Values.{Values, values_from, words_of, all_words}
-use Rattle.nv_meaning.specs.Running.{Running, Result, Gives, Raises, Halts, taken, closed}
-use Rattle.nv_meaning.specs.Meaning.{Calls, eval, enter, entered, calls_within, function_in, run_main, source}
+use Rattle.nv_meaning.specs.Running.{Chain, plain, Running, Result, Gives, Raises, Halts, taken, calling, back_to, closed, untraced}
+use Rattle.nv_meaning.specs.Meaning.{Calls, eval, enter, entered, calls_within, function_in, group_in, groups_from, in_main, run_main, source}
 use Rattle.flat_ir.specs.declared.flat.FlatFun.{FlatFun}
 use Rattle.flat_ir.specs.Running as flat
 use Rattle.flat_ir.specs.Meaning as code
@@ -104,30 +104,43 @@ abbrev AreBodies : Whole → Type 0
 AreBodies w = (f : List ℕ) (g : FunTree) → function_in w.declared.functions f ≡ Some g → IsBody w f g
 
 -- the run inside a call
-abbrev called : ℕ → Running → Running
-called left now = record { calls = left; packet = now.packet; writes = now.writes }
+abbrev inside : Whole → List ℕ → Running → Running
+inside w f next = calling (f, group_in w.declared.functions next.chain.groups f) next
+
+abbrev called : Whole → List ℕ → ℕ → Running → Running
+called w f left now = inside w f (record { calls = left; packet = now.packet; writes = now.writes; chain = now.chain })
+
+back-comes : (w : Whole) (o : Option Ty) (c : Chain) (r : Result) → ComesTo w o r → ComesTo w o (back_to c r)
+back-comes w o c (Gives v now) h = h
+back-comes w o c (Raises k vs now) h = h
+back-comes w o c (Halts how now) h = h
+
+back-ended : (c : Chain) (r : Result) → ended (back_to c r) ≡ ended r
+back-ended c (Gives v now) = refl
+back-ended c (Raises k vs now) = refl
+back-ended c (Halts how now) = refl
 
 deeper-typed : (w : Whole) → AreBodies w → (depth : ℕ) → CallsTyped w (calls_within depth w.declared) → CallsTyped w (calls_within (suc depth) w.declared)
-deeper-typed w bs depth typed = record { typed = λ f g vs now found types are sizes. by f g vs now found types are sizes now.calls }
+deeper-typed w bs depth typed = record { typed = λ f g vs now found types are sizes. back-comes w _ now.chain _ (by f g vs now found types are sizes now.calls) }
   where
     by : (f : List ℕ) (g : FunTree) (vs : Values) (now : Running) → function_in w.declared.functions f ≡ Some g → value_tys vs ≡ plain_tys (params_in w g) → AreWords (all_words vs) → HasSizes now.packet
-        → (n : ℕ) → ComesTo w (Some (type_of w.declared.layouts g.result)) (taken n now (λ next. enter w.declared (calls_within depth w.declared) (function_in w.declared.functions f) vs next))
+        → (n : ℕ) → ComesTo w (Some (type_of w.declared.layouts g.result)) (taken n now (λ next. enter w.declared (calls_within depth w.declared) (function_in w.declared.functions f) vs (inside w f next)))
     by f g vs now found types are sizes zero = tt {0}
     by f g vs now found types are sizes (suc left) =
-        subst (λ o. ComesTo w (Some (type_of w.declared.layouts g.result)) (enter w.declared (calls_within depth w.declared) o vs (called left now))) (sym found)
-        (body-typed w f g (bs f g found) (calls_within depth w.declared) typed vs (called left now) types are sizes)
+        subst (λ o. ComesTo w (Some (type_of w.declared.layouts g.result)) (enter w.declared (calls_within depth w.declared) o vs (called w f left now))) (sym found)
+        (body-typed w f g (bs f g found) (calls_within depth w.declared) typed vs (called w f left now) types are sizes)
 
 deeper-same : (w : Whole) → AreBodies w → (all : Names) (funs : List FlatFun) → AllMade w all funs → (depth : ℕ) → Lock w all funs depth → CallsAgree w all (calls_within (suc depth) w.declared) (code.calls_within (suc depth) funs)
-deeper-same w bs all funs made depth lock = record { agree = λ i f g vs now named found types are sizes. by i f g vs now named found types are sizes now.calls }
+deeper-same w bs all funs made depth lock = record { agree = λ i f g vs now named found types are sizes. by i f g vs now named found types are sizes now.calls ∙ sym (back-ended now.chain _) }
   where
     by : (i : ℕ) (f : List ℕ) (g : FunTree) (vs : Values) (now : Running) → slice_get all i ≡ Some f → function_in w.declared.functions f ≡ Some g → value_tys vs ≡ plain_tys (params_in w g) → AreWords (all_words vs) → HasSizes now.packet
-        → (n : ℕ) → flat.taken n (flat_run now) (λ next. code.enter (code.calls_within depth funs) (slice_get funs i) (all_words vs) next) ≡ ended (taken n now (λ next. enter w.declared (calls_within depth w.declared) (function_in w.declared.functions f) vs next))
+        → (n : ℕ) → flat.taken n (flat_run now) (λ next. code.enter (code.calls_within depth funs) (slice_get funs i) (all_words vs) next) ≡ ended (taken n now (λ next. enter w.declared (calls_within depth w.declared) (function_in w.declared.functions f) vs (inside w f next)))
     by i f g vs now named found types are sizes zero = refl
     by i f g vs now named found types are sizes (suc left) =
         let r = made.by i f g named found in
-        ap (λ o. code.enter (code.calls_within depth funs) o (all_words vs) (flat_run (called left now))) r.1
-        ∙ body-agrees w f g (bs f g found) all r.0 r.2 (calls_within depth w.declared) (code.calls_within depth funs) lock.typed lock.same vs (called left now) types are sizes
-        ∙ sym (ap (λ o. ended (enter w.declared (calls_within depth w.declared) o vs (called left now))) found)
+        ap (λ o. code.enter (code.calls_within depth funs) o (all_words vs) (flat_run (called w f left now))) r.1
+        ∙ body-agrees w f g (bs f g found) all r.0 r.2 (calls_within depth w.declared) (code.calls_within depth funs) lock.typed lock.same vs (called w f left now) types are sizes
+        ∙ sym (ap (λ o. ended (enter w.declared (calls_within depth w.declared) o vs (called w f left now))) found)
 
 pub lockstep : (w : Whole) → AreBodies w → (all : Names) (funs : List FlatFun) → AllMade w all funs → (depth : ℕ) → Lock w all funs depth
 lockstep w bs all funs made zero = record {
@@ -139,15 +152,15 @@ lockstep w bs all funs made (suc depth) =
     record { typed = deeper-typed w bs depth l.typed; same = deeper-same w bs all funs made depth l }
 
 -- ---- main
-closed-same : (w : Whole) (t : Ty) → words t ≤ 8 → ((k : ℕ) (ts : Tys) → raised_tys w k ≡ Some ts → total_words ts ≤ 8) → (r : Result) → ComesTo w (Some t) r → closed r ≡ flat.closed (ended r)
+closed-same : (w : Whole) (t : Ty) → words t ≤ 8 → ((k : ℕ) (ts : Tys) → raised_tys w k ≡ Some ts → total_words ts ≤ 8) → (r : Result) → ComesTo w (Some t) r → untraced (closed r) ≡ flat.closed (ended r)
 closed-same w t few narrow (Gives v now) c =
     let same : t ≡ value_ty v = same_Some _ _ c.0 in
     let count : length (words_of v) ≡ words t = word-count v ∙ ap words (sym same) in
-    ap (λ ws. record { outcome = outcome.Ended ws; packet = now.packet; writes = now.writes }) (take_all 8 (words_of v) (omega arith))
+    ap (λ ws. record { outcome = outcome.Ended ws; packet = now.packet; writes = plain now.writes }) (take_all 8 (words_of v) (omega arith))
 closed-same w t few narrow (Raises k vs now) c =
     let count : length (all_words vs) ≡ total_words (value_tys vs) = all-word-count vs in
     let most : total_words (value_tys vs) ≤ 8 = narrow k (value_tys vs) c.0 in
-    ap (λ ws. record { outcome = outcome.Raised k ws; packet = now.packet; writes = now.writes }) (take_all 8 (all_words vs) (omega arith))
+    ap (λ ws. record { outcome = outcome.Raised k ws; packet = now.packet; writes = plain now.writes }) (take_all 8 (all_words vs) (omega arith))
 closed-same w t few narrow (Halts how now) c = refl
 
 -- main's parameters and result
@@ -170,8 +183,8 @@ main-narrow w g b found =
       result = subst (λ t. words t ≤ 8) b.result (ltb-false 8 (words (type_of k g.result)) ((or_parts (some_named_bool (named_types_of k g.params)) _ rest).1));
     }
 
-abbrev begun : ℕ → Memories → Running
-begun n p = record { calls = n; packet = p; writes = [] }
+abbrev begun : ProgramTree → ℕ → Memories → Running
+begun t n p = record { calls = n; packet = p; writes = []; chain = in_main (whole_of t).declared (groups_from 0 t.decls) }
 
 main-same : (t : ProgramTree) → program_faults t ≡ [] → (all : Names) (funs : List FlatFun) → AllMade (whole_of t) all funs → (g : FunTree) (fun : FlatFun)
     → function_in (whole_of t).declared.functions main_name ≡ Some g → slice_get funs 0 ≡ Some fun → IsMade (whole_of t) all g fun
@@ -189,14 +202,14 @@ main-same t h all funs made g fun found there m args p count are sizes n =
     all-from-words (plain_tys (params_in w g)) args (plain_bool (params_in w g) ∙ narrow.bools) (omega arith)
     ∙ take_all (total_words (plain_tys (params_in w g))) args (omega arith) in
     let fit : AreWords (all_words vs) = subst AreWords (sym spelled) are in
-    let r : Result = eval w.declared (calls_within n w.declared) g.body (entered g.params vs []) (begun n p) in
-    let comes : ComesTo w (Some (type_of w.declared.layouts g.result)) r = body-typed w main_name g b (calls_within n w.declared) lock.typed vs (begun n p) types fit sizes in
-    ap (λ o. closed (run_main w.declared o args n (begun n p))) found
-    ∙ ap (λ sc. closed (eval w.declared (calls_within n w.declared) g.body sc (begun n p))) (arguments-scope w.declared.layouts g.params args [])
+    let r : Result = eval w.declared (calls_within n w.declared) g.body (entered g.params vs []) (begun t n p) in
+    let comes : ComesTo w (Some (type_of w.declared.layouts g.result)) r = body-typed w main_name g b (calls_within n w.declared) lock.typed vs (begun t n p) types fit sizes in
+    ap (λ o. untraced (closed (run_main w.declared o args n (begun t n p)))) found
+    ∙ ap (λ sc. untraced (closed (eval w.declared (calls_within n w.declared) g.body sc (begun t n p)))) (arguments-scope w.declared.layouts g.params args [])
     ∙ closed-same w (type_of w.declared.layouts g.result) narrow.result (narrow-raised t h) r comes
-    ∙ sym (ap (λ o. flat.closed (code.enter (code.calls_within n funs) o args (flat_run (begun n p)))) there
-    ∙ ap (λ ws. flat.closed (code.does (code.calls_within n funs) fun.body (assigned_all code.blank fun.params.items ws) (flat_run (begun n p)))) (sym spelled)
-    ∙ ap flat.closed (body-agrees w main_name g b all fun m (calls_within n w.declared) (code.calls_within n funs) lock.typed lock.same vs (begun n p) types fit sizes))
+    ∙ sym (ap (λ o. flat.closed (code.enter (code.calls_within n funs) o args (flat_run (begun t n p)))) there
+    ∙ ap (λ ws. flat.closed (code.does (code.calls_within n funs) fun.body (assigned_all code.blank fun.params.items ws) (flat_run (begun t n p)))) (sym spelled)
+    ∙ ap flat.closed (body-agrees w main_name g b all fun m (calls_within n w.declared) (code.calls_within n funs) lock.typed lock.same vs (begun t n p) types fit sizes))
 
 module _ (t : ProgramTree) (h : program_faults t ≡ []) (funs : List FlatFun) (complete : (g : FunTree) → function_in (whole_of t).declared.functions main_name ≡ Some g → IsComplete (whole_of t) main_name funs) where
   pub equal : AreEqual (main_words t) (source t) (code.flat_meaning funs 0)

@@ -14,7 +14,8 @@ use Rattle.nv_ast.specs.Scope.{Context, inside, with_vars, bind, bind_value, nam
 use Rattle.nv_ast.specs.Typing.{type_at, vars_after, vars_behind}
 use Rattle.nv_ast.specs.Faults.{Fault, Expected, faults, statement_faults, statements_faults, node_faults, at_span, a_value, anything, of_type, expected_stored, variable_twice, not_fitting, can_move, wrong_access, wrong_scratch}
 use Rattle.nv_meaning.specs.Values.{Value, Scope, word_of, words_of, matched}
-use Rattle.nv_meaning.specs.Running.{Running, Result, Gives, Raises, Halts, Stated, GoesOn, StopsAt, and_further, then_stated, after_store, store}
+use Rattle.nv_meaning.specs.Running.{made_by, Running, Result, Gives, Raises, Halts, Stated, GoesOn, StopsAt, and_further, then_stated, after_store, store}
+use Rattle.nv_meaning.proofs.Grows.{plain-append}
 use Rattle.nv_meaning.specs.Meaning.{eval, run_one, run_all}
 use Rattle.flat_ir.specs.Running as flat
 use Rattle.flat_ir.specs.Meaning as code
@@ -74,21 +75,22 @@ module _ (w : Whole) (names : Names) (low high : ℕ) (scope : SymbolScope) (sp 
   }
 
 -- ---- a store that may be
-may-store : (m' : Scope) (m : Mem) (at : ℕ) (ws : List ℕ) (now : Running) → can_move m (length ws) ≡ true → store m' m at ws now ≡ after_store m' m at ws (stored m at ws now.packet) now
-may-store m' m at ws now e = ap (λ b. if b then after_store m' m at ws (stored m at ws now.packet) now else GoesOn m' now) e
+may-store : (sp : Span) (m' : Scope) (m : Mem) (at : ℕ) (ws : List ℕ) (now : Running) → can_move m (length ws) ≡ true → store sp m' m at ws now ≡ after_store sp m' m at ws (stored m at ws now.packet) now
+may-store sp m' m at ws now e = ap (λ b. if b then after_store sp m' m at ws (stored m at ws now.packet) now else GoesOn m' now) e
 
 -- the step of a store: the operands' words from an operand's address on
 abbrev pub StoresTo : Mem → Atom → List Atom → Step → Type 0
 StoresTo m a as' step = (call : code.Calls) (rest : Act) (env : Env) (now : flat.Running) → step_does call step rest env now ≡ flat.store m (atom_word env a) (atom_words env as') now (λ next. rest env next)
 
-module _ (low : ℕ) (scope : SymbolScope) (m : Mem) (at : ℕ) (ws : List ℕ) (env after : Env) (end : Running) (fit : Type 0) (m' : Scope) (rest : Act) (next : Scope → Running → flat.Result) (never : Value → Running → flat.Result) where
+module _ (sp : Span) (low : ℕ) (scope : SymbolScope) (m : Mem) (at : ℕ) (ws : List ℕ) (env after : Env) (end : Running) (fit : Type 0) (m' : Scope) (rest : Act) (next : Scope → Running → flat.Result) (never : Value → Running → flat.Result) where
   written-any : (o : Option Memories) → ((q : Memories) → o ≡ Some q → HasSizes q) → Done low env after fit end → ScopeFits after scope → scope_in after scope ≡ m'
       → ((new : Env) (last : Running) → Done low env new (ScopeFits new scope) last → rest new (flat_run last) ≡ next (scope_in new scope) last)
-      → flat.after_store m at ws o (flat_run end) (λ now. rest after now) ≡ onward_stated (after_store m' m at ws o end) next never
+      → flat.after_store m at ws o (flat_run end) (λ now. rest after now) ≡ onward_stated (after_store sp m' m at ws o end) next never
   written-any None sizes done fits is same = refl
   written-any (Some q) sizes done fits is same =
-      let last : Running = record { calls = end.calls; packet = q; writes = end.writes ++ record { mem = m; at = at; words = ws } ∷ [] } in
-      same after last (record { sizes = sizes q refl; keeps = done.keeps; fits = fits }) ∙ ap (λ z. next z last) is
+      let last : Running = record { calls = end.calls; packet = q; writes = end.writes ++ made_by sp end.chain m at ws ∷ []; chain = end.chain } in
+      ap (λ l. rest after (record { calls = end.calls; packet = q; writes = l })) (sym (plain-append end.writes (made_by sp end.chain m at ws ∷ [])))
+      ∙ same after last (record { sizes = sizes q refl; keeps = done.keeps; fits = fits }) ∙ ap (λ z. next z last) is
 
 -- ---- the address, the value, the store
 module _ (w : Whole) (names more : Names) (low mid high : ℕ) (scope : SymbolScope) (sp : Span) (m : Mem) (a e : Tree) (ss ts : List Step) (s u : Symbol) (step : Step) where
@@ -122,7 +124,7 @@ module _ (w : Whole) (names more : Names) (low mid high : ℕ) (scope : SymbolSc
     simulate = λ own p stands none o c env now begins rest next never same.
         let z = scope_in env scope in
         let last_step = step ∷ [] in
-        let right : Value → Value → Running → Stated = λ x y end. store z m (word_of x) (words_of y) end in
+        let right : Value → Value → Running → Stated = λ x y end. store sp z m (word_of x) (words_of y) end in
         let left : Value → Running → Stated = λ x last. then_stated (eval w.declared c.call e z last) (right x) in
         ap (λ l. steps_do c.fcall l rest env (flat_run now)) (append_assoc ss ts last_step)
         ∙ steps-then c.fcall ss (ts ++ last_step) rest env (flat_run now)
@@ -142,10 +144,10 @@ module _ (w : Whole) (names more : Names) (low mid high : ℕ) (scope : SymbolSc
         let moves : can_move m (length (words_of y)) ≡ true = ap (can_move m) count ∙ moves-words p t.0 none t.1 in
         stores c.fcall rest after (flat_run end)
         ∙ ap (λ l. flat.store m at l (flat_run end) (λ now'. rest after now')) (sym spelled)
-        ∙ written-any low scope m at (words_of y) env after end (Fits after u) z rest next never (stored m at (words_of y) end.packet)
+        ∙ written-any sp low scope m at (words_of y) env after end (Fits after u) z rest next never (stored m at (words_of y) end.packet)
         (λ q is. stored-sizes m at (words_of y) end.packet q done'.sizes (are-words after u done'.fits) is) both (keeps-scope_fits low env after scope both.keeps o begins.fits) (keeps-scope low env after scope both.keeps o) same
-        ∙ ap (λ r. onward_stated r next never) (sym (may-store z m at (words_of y) end moves))
-        ∙ ap (λ i. onward_stated (store z m i (words_of y) end) next never) (sym (word-of after s) ∙ ap word_of kept))
+        ∙ ap (λ r. onward_stated r next never) (sym (may-store sp z m at (words_of y) end moves))
+        ∙ ap (λ i. onward_stated (store sp z m i (words_of y) end) next never) (sym (word-of after s) ∙ ap word_of kept))
         ∙ sym (onward-then_stated (eval w.declared c.call e (scope_in new scope) last) (right x) next never)
         ∙ ap (λ y. onward_stated (then_stated (eval w.declared c.call e y last) (right x)) next never) (keeps-scope low env new scope done.keeps o))
         ∙ sym (onward-then_stated (eval w.declared c.call a z now) left next never)

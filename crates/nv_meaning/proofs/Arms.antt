@@ -1,6 +1,7 @@
 -- One lemma for each way out of a function of the interpreter's cycle, over plain variables.
 use Rattle.std.proofs.Common.{◌≡◌, ℕ, List, [], ◌∷◌, ◌++◌, refl, sym, ap, ◌∙◌, subst, Result as Answer, Ok, Err, Vec, Global, Bor}
 use Rattle.nv_base.specs.declared.term.Mem.{Mem}
+use Rattle.nv_ast.specs.declared.token.Span.{Span}
 use Rattle.nv_ast.specs.declared.tree.Expr.{Expr}
 use Rattle.nv_ast.specs.declared.tree.Stmt.{Stmt}
 use Rattle.nv_ast.specs.ExprView.{tree_of, list_trees, list_named_trees, list_statements, statement_tree}
@@ -173,18 +174,18 @@ module _ (d : Declared) (a b : At) (p : PatternTree) (t : Tree) (s : Scope) wher
   let-done s' v e h = stated-here d a b (λ call now. eval d call t s now) letting s' v (Ok tt) h (λ call grows now. ap (λ z. GoesOn z now) (sym e))
 
 -- a store: the address, the value, the write
-module _ (d : Declared) (a b : At) (m : Mem) (t u : Tree) (s : Scope) where
+module _ (d : Declared) (a b : At) (text : Span) (m : Mem) (t u : Tree) (s : Scope) where
   abbrev storing : Calls → Value → Running → Stated
-  storing call v next = then_stated (eval d call u s next) (λ w last. store s m (word_of v) (words_of w) last)
+  storing call v next = then_stated (eval d call u s next) (λ w last. store text s m (word_of v) (words_of w) last)
 
-  pub store-stop : (s' : Scope) (stop : Interruption) → RanValue d a b (Err stop) (λ call now. eval d call t s now) → RanScope d a b (Err stop) s' (λ call now. then_stated (eval d call t s now) (λ v next. then_stated (eval d call u s next) (λ w last. store s m (word_of v) (words_of w) last)))
-  store-stop s' stop h = stated-stop d a b (λ call now. eval d call t s now) storing s' stop (λ call grows v now. grown-statement now (eval d call u s now) (λ w last. store s m (word_of v) (words_of w) last) (eval-grows d call grows u s now) (λ w last. grown-store s m (word_of v) (words_of w) last)) h
+  pub store-stop : (s' : Scope) (stop : Interruption) → RanValue d a b (Err stop) (λ call now. eval d call t s now) → RanScope d a b (Err stop) s' (λ call now. then_stated (eval d call t s now) (λ v next. then_stated (eval d call u s next) (λ w last. store text s m (word_of v) (words_of w) last)))
+  store-stop s' stop h = stated-stop d a b (λ call now. eval d call t s now) storing s' stop (λ call grows v now. grown-statement now (eval d call u s now) (λ w last. store text s m (word_of v) (words_of w) last) (eval-grows d call grows u s now) (λ w last. grown-store text s m (word_of v) (words_of w) last)) h
 
-  pub store-stop_value : (e : At) (s' : Scope) (v : code.Value) (stop : Interruption) → RanValue d a b (Ok v) (λ call now. eval d call t s now) → RanValue d b e (Err stop) (λ call now. eval d call u s now) → RanScope d a e (Err stop) s' (λ call now. then_stated (eval d call t s now) (λ v next. then_stated (eval d call u s next) (λ w last. store s m (word_of v) (words_of w) last)))
-  store-stop_value e s' v stop h n = stated-next d a b (λ call now. eval d call t s now) storing e s' v (Err stop) h (stated-stop d b e (λ call now. eval d call u s now) (λ call w last. store s m (word_of (view v)) (words_of w) last) s' stop (λ call grows w now. grown-store s m (word_of (view v)) (words_of w) now) n)
+  pub store-stop_value : (e : At) (s' : Scope) (v : code.Value) (stop : Interruption) → RanValue d a b (Ok v) (λ call now. eval d call t s now) → RanValue d b e (Err stop) (λ call now. eval d call u s now) → RanScope d a e (Err stop) s' (λ call now. then_stated (eval d call t s now) (λ v next. then_stated (eval d call u s next) (λ w last. store text s m (word_of v) (words_of w) last)))
+  store-stop_value e s' v stop h n = stated-next d a b (λ call now. eval d call t s now) storing e s' v (Err stop) h (stated-stop d b e (λ call now. eval d call u s now) (λ call w last. store text s m (word_of (view v)) (words_of w) last) s' stop (λ call grows w now. grown-store text s m (word_of (view v)) (words_of w) now) n)
 
-  pub store-done : (e f : At) (s' : Scope) (v w : code.Value) (place : ℕ) (answer : Answer (Unit {0}) Interruption) → place ≡ word_of (view v) → RanValue d a b (Ok v) (λ call now. eval d call t s now) → RanValue d b e (Ok w) (λ call now. eval d call u s now) → RanScope d e f answer s' (λ call now. store s m place (words_of (view w)) now) → RanScope d a f answer s' (λ call now. then_stated (eval d call t s now) (λ v next. then_stated (eval d call u s next) (λ w last. store s m (word_of v) (words_of w) last)))
-  store-done e f s' v w place answer is h n o = stated-next d a b (λ call now. eval d call t s now) storing f s' v answer h (stated-next d b e (λ call now. eval d call u s now) (λ call w last. store s m (word_of (view v)) (words_of w) last) f s' w answer n (subst (λ k. RanScope d e f answer s' (λ call now. store s m k (words_of (view w)) now)) is o))
+  pub store-done : (e f : At) (s' : Scope) (v w : code.Value) (place : ℕ) (answer : Answer (Unit {0}) Interruption) → place ≡ word_of (view v) → RanValue d a b (Ok v) (λ call now. eval d call t s now) → RanValue d b e (Ok w) (λ call now. eval d call u s now) → RanScope d e f answer s' (λ call now. store text s m place (words_of (view w)) now) → RanScope d a f answer s' (λ call now. then_stated (eval d call t s now) (λ v next. then_stated (eval d call u s next) (λ w last. store text s m (word_of v) (words_of w) last)))
+  store-done e f s' v w place answer is h n o = stated-next d a b (λ call now. eval d call t s now) storing f s' v answer h (stated-next d b e (λ call now. eval d call u s now) (λ call w last. store text s m (word_of (view v)) (words_of w) last) f s' w answer n (subst (λ k. RanScope d e f answer s' (λ call now. store text s m k (words_of (view w)) now)) is o))
 
 -- ---- what follows the values of a list
 module _ (d : Declared) (a b : At) (es : Trees) (s : Scope) where

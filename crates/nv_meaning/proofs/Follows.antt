@@ -4,9 +4,9 @@ use Rattle.nv_base.specs.Memories.{Memories}
 use Rattle.nv_base.specs.Meanings.{left_by}
 use Rattle.nv_base.specs.Progress.{FollowsAll}
 use Rattle.nv_ast.specs.Tree.{ProgramTree, FunTree}
-use Rattle.nv_values.specs.Running.{Running, Result, Gives, Raises, Halts, closed}
+use Rattle.nv_values.specs.Running.{Chain, plain, Running, Result, Gives, Raises, Halts, closed}
 use Rattle.nv_meaning.specs.Meaning.{Declared, source, declared, function_in, run_main, calls_within}
-use Rattle.nv_meaning.specs.Laws.{Seeking}
+use Rattle.nv_meaning.specs.Laws.{Seeking, Tracing}
 use Rattle.nv_meaning.specs.inner.Ran.{Grown, now_of}
 use Rattle.nv_meaning.proofs.Grows.{grown-here, eval-grows, calls-grow}
 use Rattle.nv_meaning.proofs.Whole.{closed-writes}
@@ -21,11 +21,14 @@ main-grows d (Some f) args n now = eval-grows d (calls_within n d) (calls-grow n
 main-grows d None args n now = grown-here now _ refl
 
 -- a run from no writes
-closed-follows : (p : Memories) (n : ℕ) (r : Result) → Grown (record { calls = n; packet = p; writes = [] }) r → (closed r).packet ≡ left_by (closed r).writes p
-closed-follows p n r g = closed-packet r ∙ g.packet ∙ ap (λ ws. left_by ws p) (sym (closed-writes r ∙ g.writes))
+closed-follows : (p : Memories) (n : ℕ) (c : Chain) (r : Result) → Grown (record { calls = n; packet = p; writes = []; chain = c }) r → (closed r).packet ≡ left_by (plain (closed r).writes) p
+closed-follows p n c r g = closed-packet r ∙ g.packet ∙ ap (λ ms. left_by (plain ms) p) (sym (closed-writes r ∙ g.writes))
 
 pub source-follows : (t : ProgramTree) (args : List ℕ) (p : Memories) → FollowsAll p (source t args p)
-source-follows t args p = λ n. closed-follows p n _ (main-grows (declared t) (function_in (declared t).functions _) args n _)
+source-follows t args p = λ n. closed-follows p n _ _ (main-grows (declared t) (function_in (declared t).functions _) args n _)
 
 pub seeking-runs : Seeking
 seeking-runs = record { handled = λ scratch. refl; going = λ scratch. refl }
+
+pub chains-run : Tracing
+chains-run = record { joined = λ scratch. refl; replaced = λ scratch. refl }

@@ -1,6 +1,7 @@
 -- Writes are only added: those before a part of the text is evaluated are the first ones of those after it, and memories change by
 -- the further ones alone.
-use Rattle.std.proofs.Common.{◌≡◌, ℕ, zero, suc, ◌==◌, Bool, true, false, List, [], ◌∷◌, ◌++◌, refl, sym, ap, ◌∙◌, append_assoc, append-nil, if◌then◌else◌, Option, Some, None, unwrap_or, length}
+use Rattle.std.proofs.Common.{◌≡◌, ℕ, zero, suc, ◌==◌, Bool, true, false, List, [], ◌∷◌, ◌++◌, map, refl, sym, ap, ◌∙◌, append_assoc, append-nil, if◌then◌else◌, Option, Some, None, unwrap_or, length}
+use Rattle.std.proofs.lemmas.List.{map-append}
 use Rattle.nv_base.specs.declared.outcome.Write.{Write}
 use Rattle.nv_base.specs.declared.term.Mem.{Mem}
 use Rattle.nv_base.specs.Memories.{Memories, fetched, stored}
@@ -9,24 +10,28 @@ use Rattle.nv_base.proofs.MemoryLemmas.{left-append}
 use Rattle.nv_ast.specs.declared.tree.Op.{Op}
 use Rattle.nv_ast.specs.declared.tree.Op.TheVariants.{Add, Sub, And, Or, Xor, Eq, Ne, Lt, Le, Gt, Ge, Both, Either}
 use Rattle.nv_ast.specs.Faults.{can_move}
+use Rattle.nv_ast.specs.declared.token.Span.{Span}
 use Rattle.nv_ast.specs.Tree.{Tree, NumberTree, TruthTree, VarTree, ParenTree, TupleTree, FieldsTree, DotTree, InvertTree, NegateTree, BinaryTree, ShiftTree, CallTree, UnpackTree, PackTree, RaiseTree, IfTree, TryTree, FetchTree, BlockTree, Trees, no_trees, tree_and, NamedTrees, no_named_trees, named_tree_and, StatementTree, LetStatement, StoreStatement, StatementTrees, no_statements, statement_and, FunTree}
 use Rattle.nv_values.specs.Values.{Value, Tuple, Record, Values, NamedValues, Scope, word_of, truth_of, words_of, all_matched}
-use Rattle.nv_values.specs.Running.{Running, Result, Gives, Raises, Halts, Results, GiveAll, Breaks, NamedResults, GiveNamed, BreaksNamed, Stated, GoesOn, StopsAt, and_then, and_all, and_named, and_stated, and_further, then_more, then_named, then_stated, before_rest, before_named, handled, exception_number, fetch, after_fetch, store, after_store, taken}
-use Rattle.nv_meaning.specs.Meaning.{Declared, Calls, combined, binary, eval, eval_all, eval_named, run_one, run_all, enter, entered, function_in, calls_within}
+use Rattle.nv_values.specs.Running.{Chain, Made, plain, made_by, Running, Result, Gives, Raises, Halts, Results, GiveAll, Breaks, NamedResults, GiveNamed, BreaksNamed, Stated, GoesOn, StopsAt, and_then, and_all, and_named, and_stated, and_further, then_more, then_named, then_stated, before_rest, before_named, handled, exception_number, fetch, after_fetch, store, after_store, taken, calling, back_to}
+use Rattle.nv_meaning.specs.Meaning.{Declared, Calls, combined, binary, eval, eval_all, eval_named, run_one, run_all, enter, entered, function_in, group_in, calls_within}
 use Rattle.nv_meaning.specs.inner.Ran.{Grown, now_of, all_result, named_result, stated_result}
 
 -- a call only adds writes
 abbrev pub Growing : Calls → Type 0
 Growing call = (f : List ℕ) (vs : Values) (now : Running) → Grown now (call f vs now)
 
+pub plain-append : (xs ys : List Made) → plain (xs ++ ys) ≡ plain xs ++ plain ys
+plain-append xs ys = map-append (λ m. m.write) xs ys
+
 pub grown-here : (now : Running) (r : Result) → now_of r ≡ now → Grown now r
 grown-here now r e = record { rest = []; writes = ap (λ x. x.writes) e ∙ sym (append-nil now.writes); packet = ap (λ x. x.packet) e }
 
-grown-further : (a b : Running) (ws : List Write) (r : Result) → b.writes ≡ a.writes ++ ws → b.packet ≡ left_by ws a.packet → Grown b r → Grown a r
+grown-further : (a b : Running) (ws : List Made) (r : Result) → b.writes ≡ a.writes ++ ws → b.packet ≡ left_by (plain ws) a.packet → Grown b r → Grown a r
 grown-further a b ws r e p g = record {
   rest = ws ++ g.rest;
   writes = g.writes ∙ ap (λ l. l ++ g.rest) e ∙ append_assoc a.writes ws g.rest;
-  packet = g.packet ∙ ap (left_by g.rest) p ∙ sym (left-append ws g.rest a.packet);
+  packet = g.packet ∙ ap (left_by (plain g.rest)) p ∙ sym (left-append (plain ws) (plain g.rest) a.packet) ∙ ap (λ l. left_by l a.packet) (sym (plain-append ws g.rest));
 }
 
 pub grown-then : (now : Running) (q : Result) (next : Value → Running → Result) → Grown now q → ((v : Value) (last : Running) → Grown last (next v last)) → Grown now (and_then q next)
@@ -90,16 +95,16 @@ fetch-rests m at None now = refl
 pub grown-fetch : (m : Mem) (n at : ℕ) (now : Running) → Grown now (fetch m n at now)
 grown-fetch m n at now = grown-if (can_move m n) now _ _ (grown-here now _ (fetch-rests m at (fetched m at n now.packet) now)) (grown-here now _ refl)
 
-stored-grows : (s : Scope) (m : Mem) (at : ℕ) (ws : List ℕ) (found : Option Memories) (now : Running) → stored m at ws now.packet ≡ found → Grown now (stated_result (after_store s m at ws found now))
-stored-grows s m at ws (Some p) now e = record { rest = record { mem = m; at = at; words = ws } ∷ []; writes = refl; packet = sym (ap (λ o. unwrap_or o now.packet) e) }
-stored-grows s m at ws None now e = grown-here now _ refl
+stored-grows : (at_text : Span) (s : Scope) (m : Mem) (at : ℕ) (ws : List ℕ) (found : Option Memories) (now : Running) → stored m at ws now.packet ≡ found → Grown now (stated_result (after_store at_text s m at ws found now))
+stored-grows at_text s m at ws (Some p) now e = record { rest = made_by at_text now.chain m at ws ∷ []; writes = refl; packet = sym (ap (λ o. unwrap_or o now.packet) e) }
+stored-grows at_text s m at ws None now e = grown-here now _ refl
 
 store-if : (b : Bool) (now : Running) (q r : Stated) → Grown now (stated_result q) → Grown now (stated_result r) → Grown now (stated_result (if b then q else r))
 store-if true now q r g h = g
 store-if false now q r g h = h
 
-pub grown-store : (s : Scope) (m : Mem) (at : ℕ) (ws : List ℕ) (now : Running) → Grown now (stated_result (store s m at ws now))
-grown-store s m at ws now = store-if (can_move m (length ws)) now _ _ (stored-grows s m at ws (stored m at ws now.packet) now refl) (grown-here now _ refl)
+pub grown-store : (at_text : Span) (s : Scope) (m : Mem) (at : ℕ) (ws : List ℕ) (now : Running) → Grown now (stated_result (store at_text s m at ws now))
+grown-store at_text s m at ws now = store-if (can_move m (length ws)) now _ _ (stored-grows at_text s m at ws (stored m at ws now.packet) now refl) (grown-here now _ refl)
 
 -- ---- operators
 grown-strict : (op : Op) (now : Running) (q : Result) (right : Running → Result) → Grown now q → ((last : Running) → Grown last (right last)) → Grown now (and_then q (λ v last. and_then (right last) (λ w end'. Gives (combined op (word_of v) (word_of w)) end')))
@@ -153,7 +158,7 @@ mutual
 
   pub statement-grows : (d : Declared) (call : Calls) → Growing call → (st : StatementTree) (s : Scope) (now : Running) → Grown now (stated_result (run_one d call st s now))
   statement-grows d call g (LetStatement s' p e) s now = grown-statement now _ _ (eval-grows d call g e s now) (λ v last. grown-here last _ refl)
-  statement-grows d call g (StoreStatement s' m a e) s now = grown-statement now _ _ (eval-grows d call g a s now) (λ v last. grown-statement last _ _ (eval-grows d call g e s last) (λ w end'. grown-store s m (word_of v) (words_of w) end'))
+  statement-grows d call g (StoreStatement s' m a e) s now = grown-statement now _ _ (eval-grows d call g a s now) (λ v last. grown-statement last _ _ (eval-grows d call g e s last) (λ w end'. grown-store s' s m (word_of v) (words_of w) end'))
 
   pub statements-grow : (d : Declared) (call : Calls) → Growing call → (sts : StatementTrees) (s : Scope) (now : Running) → Grown now (stated_result (run_all d call sts s now))
   statements-grow d call g no_statements s now = grown-here now _ refl
@@ -167,8 +172,17 @@ enter-grows d call g None vs now = grown-here now _ refl
 taken-grows : (left : ℕ) (now : Running) (next : Running → Result) → ((last : Running) → Grown last (next last)) → Grown now (taken left now next)
 taken-grows zero now next h = grown-here now _ refl
 taken-grows (suc left) now next h =
-    let g = h (record { calls = left; packet = now.packet; writes = now.writes }) in record { rest = g.rest; writes = g.writes; packet = g.packet }
+    let g = h (record { calls = left; packet = now.packet; writes = now.writes; chain = now.chain }) in record { rest = g.rest; writes = g.writes; packet = g.packet }
+
+-- with other calls in progress
+pub back-grows : (c : Chain) (now : Running) (r : Result) → Grown now r → Grown now (back_to c r)
+back-grows c now (Gives v last) g = record { rest = g.rest; writes = g.writes; packet = g.packet }
+back-grows c now (Raises k vs last) g = record { rest = g.rest; writes = g.writes; packet = g.packet }
+back-grows c now (Halts how last) g = record { rest = g.rest; writes = g.writes; packet = g.packet }
+
+entered-grows : (d : Declared) (call : Calls) → Growing call → (f : List ℕ) (vs : Values) (now : Running) → Grown now (enter d call (function_in d.functions f) vs (calling (f, group_in d.functions now.chain.groups f) now))
+entered-grows d call g f vs now = let e = enter-grows d call g (function_in d.functions f) vs (calling (f, group_in d.functions now.chain.groups f) now) in record { rest = e.rest; writes = e.writes; packet = e.packet }
 
 pub calls-grow : (depth : ℕ) (d : Declared) → Growing (calls_within depth d)
 calls-grow zero d f vs now = grown-here now _ refl
-calls-grow (suc depth) d f vs now = taken-grows now.calls now _ (λ last. enter-grows d (calls_within depth d) (calls-grow depth d) (function_in d.functions f) vs last)
+calls-grow (suc depth) d f vs now = back-grows now.chain now _ (taken-grows now.calls now _ (λ last. entered-grows d (calls_within depth d) (calls-grow depth d) f vs last))

@@ -4,6 +4,7 @@ pub mod Moments
 pub mod Stops
 pub mod Arms
 pub mod Choices
+pub mod Jumps
 pub mod Falls
 pub mod Kept
 pub mod TreeKinds
@@ -20,3 +21,4 @@ pub mod Writing
 pub mod Parameters
 pub mod Records
 pub mod Follows
+pub mod Grouped

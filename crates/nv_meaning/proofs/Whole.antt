@@ -1,5 +1,5 @@
 -- Whole runs.
-use Rattle.std.proofs.Common.{◌≡◌, ◌∙◌, refl, ap, sym, subst, ℕ, List, [], take, Option, Result as Answer, Ok, Err, IfOk, OnOk, OnErr, inl, inr, lit≤, codes, Vec, Global, arith}
+use Rattle.std.proofs.Common.{◌≡◌, ◌∙◌, refl, ap, sym, subst, ℕ, List, [], ◌∷◌, ◌++◌, take, get_or, Option, Result as Answer, Ok, Err, IfOk, OnOk, OnErr, inl, inr, lit≤, codes, Vec, Global, arith}
 use Rattle.nv_base.specs.declared.outcome.Write.{Write}
 use Rattle.nv_base.specs.declared.outcome.Outcome.{Outcome}
 use Rattle.nv_base.specs.declared.outcome.Outcome.TheVariants as outcome
@@ -7,18 +7,20 @@ use Rattle.nv_base.specs.declared.term.Mem.{Mem}
 use Rattle.nv_base.specs.declared.error.NoMemory.{NoMemory}
 use Rattle.nv_base.specs.Log.{Log, noted_all}
 use Rattle.nv_base.specs.Memories.{Memories}
-use Rattle.nv_base.specs.Meanings.{FullOutcome, source_writes, left_by, IsPrefix}
+use Rattle.nv_base.specs.Meanings.{source_writes, left_by, IsPrefix}
+use Rattle.call_trace.specs.Notes.{Notes, Knows, traced_all, source_made}
+use Rattle.call_trace.specs.Chains.{Kept, trail_of}
 use Rattle.nv_ast.specs.Name.{IsName}
 use Rattle.nv_ast.specs.Tree.{ProgramTree, FunTree}
 use Rattle.nv_values.specs.Values.{Scope, words_of, all_words}
-use Rattle.nv_values.specs.Running.{Running, Result, Gives, Raises, Halts, closed, over}
-use Rattle.nv_meaning.specs.Meaning.{Declared, eval, run_main, source, declared, function_in, calls_within}
+use Rattle.nv_values.specs.Running.{InCall, Chain, Made, plain, Running, Result, Gives, Raises, Halts, TracedOutcome, closed, over}
+use Rattle.nv_meaning.specs.Meaning.{Declared, eval, run_main, traced, declared, function_in, group_in, groups_from, in_main, calls_within}
 use Rattle.nv_values.specs.declared.value.Value as code
 use Rattle.nv_values.specs.declared.stop.Interruption.{Interruption}
 use Rattle.nv_values.specs.declared.stop.Interruption.TheVariants as stops
 use Rattle.nv_values.specs.inner.View.{view, list_values}
-use Rattle.nv_meaning.specs.inner.Ran.{At, at, running, Wrote, RanValue, IsValue, Grown, now_of, Executes}
-use Rattle.nv_meaning.proofs.Grows.{grown-here}
+use Rattle.nv_meaning.specs.inner.Ran.{At, at, notes_of, running, Wrote, RanValue, IsValue, Grown, now_of, Noted, Executes}
+use Rattle.nv_meaning.proofs.Grows.{grown-here, plain-append}
 
 pub main_name : IsName (codes "main")
 main_name = ((inr (inl (lit≤ tt, lit≤ tt)), (inl (inr (inl (lit≤ tt, lit≤ tt))), (inl (inr (inl (lit≤ tt, lit≤ tt))), (inl (inr (inl (lit≤ tt, lit≤ tt))), tt)))), lit≤ tt)
@@ -29,18 +31,18 @@ closed-writes (Raises k vs now) = refl
 closed-writes (Halts how now) = refl
 
 -- the answer of a run whose main came to r after these writes
-executes : (a b : At) (r : Result) (wrote : List Write) (result : Answer Outcome NoMemory) → Wrote a b wrote → IfOk result (λ o. closed r ≡ over o (running b wrote)) → OnErr result (Grown (running b wrote) r) → Executes result a b (closed r)
-executes a b r wrote (Ok o) change done short = (ap (λ f. f.outcome) done, ap (λ f. f.packet) done, change.log ∙ ap (λ ws. noted_all a.log (source_writes ws)) (sym (ap (λ f. f.writes) done)))
-executes a b r wrote (Err e) change done short = (wrote, (short.rest, closed-writes r ∙ short.writes), change.packet, change.log)
+executes : (a b : At) (c : Chain) (r : Result) (wrote : List Made) (result : Answer Outcome NoMemory) → Wrote a b wrote → IfOk result (λ o. closed r ≡ over o (running b c wrote)) → OnErr result (Grown (running b c wrote) r) → Executes result a b (closed r)
+executes a b c r wrote (Ok o) change done short = (ap (λ f. f.outcome) done, ap (λ f. f.packet) done, subst (λ ms. Noted a b ms) (sym (ap (λ f. f.writes) done)) (record { log = change.log; trail = change.trail }))
+executes a b c r wrote (Err e) change done short = (wrote, (short.rest, closed-writes r ∙ short.writes), change.packet, (record { log = change.log; trail = change.trail }))
 
 -- nothing has happened yet
-pub executes-nothing : (a : At) (f : FullOutcome) (e : NoMemory) → Executes (Err e) a a f
-executes-nothing a f e = ([], (f.writes, refl), refl, refl)
+pub executes-nothing : (a : At) (f : TracedOutcome) (e : NoMemory) → Executes (Err e) a a f
+executes-nothing a f e = ([], (f.writes, refl), refl, record { log = refl; trail = refl })
 
 -- how many calls are left doesn't count
-pub executes-left : (a b : At) (n : ℕ) (f : FullOutcome) (result : Answer Outcome NoMemory) → Executes result a b f → Executes result a (at n b.packet b.log) f
-executes-left a b n f (Ok o) h = h
-executes-left a b n f (Err e) h = h
+pub executes-left : (a b : At) (n : ℕ) (f : TracedOutcome) (result : Answer Outcome NoMemory) → Executes result a b f → Executes result a (at n b.packet b.log) f
+executes-left a b n f (Ok o) h = (h.0, h.1, record { log = h.2.log; trail = h.2.trail })
+executes-left a b n f (Err e) h = (h.0, h.1, h.2, record { log = h.3.log; trail = h.3.trail })
 
 -- ---- the outcome that main's answer gives
 module _ (answer : Answer code.Value Interruption) (now : Running) (r : Result) (h : IsValue answer now r) where
@@ -70,36 +72,78 @@ module _ (answer : Answer code.Value Interruption) (now : Running) (r : Result) 
   short-stop is = subst (λ a. IsValue a now r) is h
 
 -- main's body has come to an answer
-pub main-executes : (d : Declared) (n : ℕ) (p : Memories) (log : Log) (b : At) (fun : FunTree) (args : List ℕ) (s : Scope) (answer : Answer code.Value Interruption) (result : Answer Outcome NoMemory)
+pub main-executes : (d : Declared) (n : ℕ) (p : Memories) (log : Notes) (b : At) (fun : FunTree) (s : Scope) (answer : Answer code.Value Interruption) (result : Answer Outcome NoMemory)
     → RanValue d (at n p log) b answer (λ call now. eval d call fun.body s now)
-    → (r : Result) → r ≡ eval d (calls_within n d) fun.body s (record { calls = n; packet = p; writes = [] })
+    → (c : Chain) → Knows log c → (r : Result) → r ≡ eval d (calls_within n d) fun.body s (record { calls = n; packet = p; writes = []; chain = c })
     → ((now : Running) (q : Result) → IsValue answer now q → IfOk result (λ o. closed q ≡ over o now))
     → ((now : Running) (q : Result) → IsValue answer now q → OnErr result (Grown now q))
     → Executes result (at n p log) b (closed r)
-main-executes d n p log b fun args s answer result h r e done short =
-    let v : IsValue answer (running b h.wrote) r = subst (λ q. IsValue answer (running b h.wrote) q) (sym e) (h.run n (omega arith) []) in
-    executes (at n p log) b r h.wrote result h.change (done (running b h.wrote) r v) (short (running b h.wrote) r v)
+main-executes d n p log b fun s answer result h c knows r e done short =
+    let m = h.run n (omega arith) c knows [] in
+    let v : IsValue answer (running b c m.wrote) r = subst (λ q. IsValue answer (running b c m.wrote) q) (sym e) m.comes in
+    executes (at n p log) b c r m.wrote result m.change (done (running b c m.wrote) r v) (short (running b c m.wrote) r v)
 
 -- ---- the meaning of the program, by the declarations and the function that were found
-pub source-is : (t : ProgramTree) (d : Declared) (x : List ℕ) (fun : Option FunTree) (args : List ℕ) (p : Memories) (n : ℕ) → d ≡ declared t → x ≡ codes "main" → function_in d.functions x ≡ fun → source t args p n ≡ closed (run_main d fun args n (record { calls = n; packet = p; writes = [] }))
-source-is t d x fun args p n e m f =
-    sym (ap (λ o. closed (run_main d o args n (record { calls = n; packet = p; writes = [] }))) (sym f)
-    ∙ ap (λ y. closed (run_main d (function_in d.functions y) args n (record { calls = n; packet = p; writes = [] }))) m
-    ∙ ap (λ k. closed (run_main k (function_in k.functions (codes "main")) args n (record { calls = n; packet = p; writes = [] }))) e)
+abbrev pub start : ProgramTree → Memories → ℕ → Running
+start t p n = record { calls = n; packet = p; writes = []; chain = in_main (declared t) (groups_from 0 t.decls) }
 
-module _ (a b : At) (f g : FullOutcome) (same : g ≡ f) where
-  pub gives-outcome : (result : Answer Outcome NoMemory) → Executes result a b f → IfOk result (λ o. o ≡ g.outcome)
-  gives-outcome (Ok o) h = sym (ap (λ x. x.outcome) same ∙ h.0)
+pub traced-is : (t : ProgramTree) (d : Declared) (x : List ℕ) (fun : Option FunTree) (args : List ℕ) (p : Memories) (n : ℕ) → d ≡ declared t → x ≡ codes "main" → function_in d.functions x ≡ fun → traced t args p n ≡ closed (run_main d fun args n (start t p n))
+traced-is t d x fun args p n e m f =
+    sym (ap (λ o. closed (run_main d o args n (start t p n))) (sym f)
+    ∙ ap (λ y. closed (run_main d (function_in d.functions y) args n (start t p n))) m
+    ∙ ap (λ k. closed (run_main k (function_in k.functions (codes "main")) args n (start t p n))) e)
+
+-- main alone is in progress at its start
+pub main-alone : (t : ProgramTree) (d : Declared) (x name groups : List ℕ) (place : ℕ) (calls : List InCall) → d ≡ declared t → x ≡ codes "main" → name ≡ x → groups ≡ groups_from 0 t.decls
+    → ((gs : List ℕ) → group_in d.functions gs x ≡ get_or gs place 0) → calls ≡ (name, get_or groups place 0) ∷ [] → record { groups = groups; calls = calls } ≡ in_main (declared t) (groups_from 0 t.decls)
+main-alone t d x name groups place calls e m named g found is =
+    ap (λ cs. record { groups = groups; calls = cs }) is
+    ∙ ap (λ k. record { groups = groups; calls = (name, k) ∷ [] }) (sym (found groups))
+    ∙ ap (λ y. record { groups = groups; calls = (y, group_in d.functions groups x) ∷ [] }) named
+    ∙ ap (λ y. record { groups = groups; calls = (y, group_in d.functions groups y) ∷ [] }) m
+    ∙ ap (λ k. record { groups = groups; calls = (codes "main", group_in k.functions groups (codes "main")) ∷ [] }) e
+    ∙ ap (λ gs. in_main (declared t) gs) g
+
+-- a run without main is going for ever
+pub executes-none : (a : At) (f : TracedOutcome) → f ≡ record { outcome = outcome.Going; packet = a.packet; writes = [] } → Executes (Ok outcome.Going) a a f
+executes-none a f e = (ap (λ g. g.outcome) e, ap (λ g. g.packet) e, subst (λ ms. Noted a a ms) (sym (ap (λ g. g.writes) e)) (record { log = refl; trail = refl }))
+
+-- the same between moments with the same log and trace
+module _ (n : ℕ) (p q : Memories) (before after : Notes) (log log' : Log) (trace trace' : Kept) (is_log : before.log ≡ log) (is_trail : before.trail ≡ trail_of trace) (is_log' : after.log ≡ log') (is_trail' : after.trail ≡ trail_of trace') where
+  noted-alike : (ms : List Made) → Noted (at n p before) (at n q after) ms → Noted (at n p (notes_of log trace)) (at n q (notes_of log' trace')) ms
+  noted-alike ms h = record {
+    log = sym is_log' ∙ h.log ∙ ap (λ l. noted_all l (source_writes (plain ms))) is_log;
+    trail = sym is_trail' ∙ h.trail ∙ ap (λ t. traced_all t (source_made ms)) is_trail;
+  }
+
+  pub executes-alike : (f g : TracedOutcome) (result : Answer Outcome NoMemory) → g ≡ f → Executes result (at n p before) (at n q after) f → Executes result (at n p (notes_of log trace)) (at n q (notes_of log' trace')) g
+  executes-alike f g (Ok o) same h = (ap (λ x. x.outcome) same ∙ h.0, ap (λ x. x.packet) same ∙ h.1, noted-alike g.writes (subst (λ x. Noted (at n p before) (at n q after) x.writes) (sym same) h.2))
+  executes-alike f g (Err e) same h = (h.0, (h.1.0, ap (λ x. x.writes) same ∙ h.1.1), h.2, noted-alike h.0 h.3)
+
+-- ---- what that says of the outcome, the memories, the log and the trace
+module _ (a b : At) (f : TracedOutcome) where
+  pub gives-outcome : (result : Answer Outcome NoMemory) → Executes result a b f → IfOk result (λ o. o ≡ f.outcome)
+  gives-outcome (Ok o) h = sym h.0
   gives-outcome (Err e) h = tt
 
-  pub gives-packet : (result : Answer Outcome NoMemory) → Executes result a b f → OnOk result (b.packet ≡ g.packet)
-  gives-packet (Ok o) h = sym (ap (λ x. x.packet) same ∙ h.1)
+  pub gives-packet : (result : Answer Outcome NoMemory) → Executes result a b f → OnOk result (b.packet ≡ f.packet)
+  gives-packet (Ok o) h = sym h.1
   gives-packet (Err e) h = tt
 
-  pub gives-log : (result : Answer Outcome NoMemory) → Executes result a b f → OnOk result (b.log ≡ noted_all a.log (source_writes g.writes))
-  gives-log (Ok o) h = h.2 ∙ ap (λ x. noted_all a.log (source_writes x.writes)) (sym same)
+  pub gives-log : (result : Answer Outcome NoMemory) → Executes result a b f → OnOk result (b.log.log ≡ noted_all a.log.log (source_writes (plain f.writes)))
+  gives-log (Ok o) h = h.2.log
   gives-log (Err e) h = tt
 
-  pub gives-front : (result : Answer Outcome NoMemory) → Executes result a b f → OnErr result ((made : List Write) × IsPrefix made g.writes × (b.packet ≡ left_by made a.packet) × (b.log ≡ noted_all a.log (source_writes made)))
+  pub gives-trail : (result : Answer Outcome NoMemory) → Executes result a b f → OnOk result (b.log.trail ≡ traced_all a.log.trail (source_made f.writes))
+  gives-trail (Ok o) h = h.2.trail
+  gives-trail (Err e) h = tt
+
+  pub gives-front : (result : Answer Outcome NoMemory) → Executes result a b f
+      → OnErr result ((made : List Write) × IsPrefix made (plain f.writes) × (b.packet ≡ left_by made a.packet) × (b.log.log ≡ noted_all a.log.log (source_writes made)))
   gives-front (Ok o) h = tt
-  gives-front (Err e) h = (h.0, subst (λ x. IsPrefix h.0 x.writes) (sym same) h.1, h.2, h.3)
+  gives-front (Err e) h = (plain h.0, (plain h.1.0, ap plain h.1.1 ∙ plain-append h.0 h.1.0), h.2, h.3.log)
+
+  pub gives-traced_front : (result : Answer Outcome NoMemory) → Executes result a b f
+      → OnErr result ((made : List Made) × (rest : List Made) × (f.writes ≡ made ++ rest) × (b.packet ≡ left_by (plain made) a.packet) × (b.log.trail ≡ traced_all a.log.trail (source_made made)))
+  gives-traced_front (Ok o) h = tt
+  gives-traced_front (Err e) h = (h.0, h.1.0, h.1.1, h.2, h.3.trail)

@@ -7,7 +7,8 @@ use Rattle.nv_base.specs.Memories.{Memories}
 use Rattle.nv_ast.specs.declared.token.Span.{Span}
 use Rattle.nv_ast.specs.declared.tree.Op.TheVariants.{Add, Lt}
 use Rattle.nv_ast.specs.Tree.{ProgramTree, DeclTree, ExceptionDecl, GroupDecl, no_named_types, named_type_and, WordType, no_types, type_and, pattern_and, no_patterns, NamePattern, Tree, NumberTree, VarTree, BinaryTree, CallTree, RaiseTree, IfTree, TryTree, BlockTree, Trees, no_trees, tree_and, StoreStatement, no_statements, statement_and}
-use Rattle.nv_meaning.specs.Meaning.{source}
+use Rattle.nv_values.specs.Running.{Made, TracedOutcome}
+use Rattle.nv_meaning.specs.Meaning.{source, traced}
 
 -- meanings don't ask where a tree stands in the text
 abbrev pub nowhere : Span
@@ -54,3 +55,23 @@ stored_there at w = record { mem = Sram; at = at; words = w ∷ [] }
 pub record Seeking : Type 0 where
   pub handled : (scratch : List ℕ) → source seeking (0 ∷ []) (two_words 0 0 scratch) 3 ≡ record { outcome = Ended (42 ∷ []); packet = two_words 7 8 scratch; writes = stored_there 0 7 ∷ stored_there 1 8 ∷ [] }
   pub going : (scratch : List ℕ) → source seeking (0 ∷ []) (two_words 0 0 scratch) 2 ≡ record { outcome = Going; packet = two_words 7 8 scratch; writes = stored_there 0 7 ∷ stored_there 1 8 ∷ [] }
+
+-- fun put[x: word]: word { sram(x) <- 7; x }
+-- fun main[]: word { put[1] }
+abbrev pub putting : ProgramTree
+putting = record {
+  decls =
+      fun_of (codes "put") (codes "x") (BlockTree nowhere (statement_and (StoreStatement nowhere Sram (variable (codes "x")) (number 7)) no_statements) (variable (codes "x")))
+      ∷ GroupDecl (record { name = codes "main"; params = no_named_types; result = WordType 1; body = CallTree nowhere (codes "put") (one (number 1)); span = nowhere } ∷ [])
+      ∷ [];
+  length = 0;
+}
+
+-- a write in a function that main calls
+abbrev pub written_in : List ℕ → Write → Made
+written_in f w = record { write = w; span = nowhere; chain = codes "main" ∷ f ∷ [] }
+
+-- a call of another group joins the calls in progress, also as main's last act; one of the own group takes its caller's place
+pub record Tracing : Type 0 where
+  pub joined : (scratch : List ℕ) → traced putting [] (two_words 0 0 scratch) 1 ≡ record { outcome = Ended (1 ∷ []); packet = two_words 0 7 scratch; writes = written_in (codes "put") (stored_there 1 7) ∷ [] }
+  pub replaced : (scratch : List ℕ) → (traced seeking (0 ∷ []) (two_words 0 0 scratch) 2).writes ≡ written_in (codes "seek") (stored_there 0 7) ∷ written_in (codes "seek") (stored_there 1 8) ∷ []

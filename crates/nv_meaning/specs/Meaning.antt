@@ -1,6 +1,6 @@
 -- What a program means: by recursion on its text and on the number of calls, over words, truths, tuples and records.
 -- Evaluation is strict and from left to right. Where a program is not typed, what it asks for has a harmless answer.
-use Rattle.std.specs.Prelude.{ℕ, zero, suc, true, false, not, if◌then◌else◌, List, [], ◌∷◌, ◌++◌, Option, Some, None, bytes_eq, codes}
+use Rattle.std.specs.Prelude.{ℕ, zero, suc, true, false, not, if◌then◌else◌, List, [], ◌∷◌, ◌++◌, length, replicate, Option, Some, None, bytes_eq, codes}
 use Rattle.nv_base.specs.declared.outcome.Outcome.TheVariants as outcome
 use Rattle.nv_base.specs.Words.{word, word_not}
 use Rattle.nv_base.specs.Memories.{Memories}
@@ -14,7 +14,7 @@ use Rattle.nv_ast.specs.Types.{named_types_of}
 use Rattle.nv_values.specs.Values.{Word, Truth, Tuple, Record, Values, no_values, value_and, NamedValues, no_named_values, named_value_and, named_values_from, Scope, variable_in, word_of, truth_of, fields_of, field_named, words_of, all_matched, matched}
 pub use Rattle.nv_values.specs.Operators.{combined, shifted}
 use Rattle.nv_meaning.specs.Packing.{unpacked_value, packed_value}
-use Rattle.nv_values.specs.Running.{Running, Result, Gives, Raises, Halts, Results, GiveAll, NamedResults, GiveNamed, Stated, GoesOn, and_then, and_all, and_named, and_stated, and_further, then_more, then_named, then_stated, before_rest, before_named, handled, exception_number, fetch, store, taken, closed}
+use Rattle.nv_values.specs.Running.{Chain, Running, Result, Gives, Raises, Halts, Results, GiveAll, NamedResults, GiveNamed, Stated, GoesOn, and_then, and_all, and_named, and_stated, and_further, then_more, then_named, then_stated, before_rest, before_named, handled, exception_number, fetch, store, taken, calling, back_to, TracedOutcome, closed, untraced}
 
 -- ---- operators: the left operand first; && and || evaluate the right one only where it decides
 abbrev pub binary : Op → Result → (Running → Result) → Result
@@ -87,7 +87,7 @@ abbrev mutual
   -- a let gives names to the parts of a value; a store evaluates the address, then the value
   pub run_one : Declared → Calls → StatementTree → Scope → Running → Stated
   run_one d call (LetStatement s p e) scope now = then_stated (eval d call e scope now) (λ v next. GoesOn (matched p v scope) next)
-  run_one d call (StoreStatement s m a e) scope now = then_stated (eval d call a scope now) (λ v next. then_stated (eval d call e scope next) (λ w last. store scope m (word_of v) (words_of w) last))
+  run_one d call (StoreStatement s m a e) scope now = then_stated (eval d call a scope now) (λ v next. then_stated (eval d call e scope next) (λ w last. store s scope m (word_of v) (words_of w) last))
 
   pub run_all : Declared → Calls → StatementTrees → Scope → Running → Stated
   run_all d call no_statements scope now = GoesOn scope now
@@ -105,11 +105,22 @@ abbrev pub enter : Declared → Calls → Option FunTree → Values → Running 
 enter d call (Some f) vs now = eval d call f.body (entered f.params vs []) now
 enter d call None vs now = Halts outcome.Going now
 
+-- the number of a function's group, where groups are numbered in order and each function has its group's number
+abbrev pub groups_from : ℕ → List DeclTree → List ℕ
+groups_from n [] = []
+groups_from n (LayoutDecl x l s ∷ ds) = groups_from n ds
+groups_from n (ExceptionDecl x ts s ∷ ds) = groups_from n ds
+groups_from n (GroupDecl fs ∷ ds) = replicate (length fs) n ++ groups_from (suc n) ds
+
+abbrev pub group_in : List FunTree → List ℕ → List ℕ → ℕ
+group_in (g ∷ gs) (n ∷ ns) f = if bytes_eq f g.name then n else group_in gs ns f
+group_in _ _ f = 0
+
 -- calls that lie at most so deep in one another. The n calls of a run are counted in the run itself, wherever they stand,
--- and n calls never lie deeper than n.
+-- and n calls never lie deeper than n. While a body runs, its function is among the calls in progress.
 abbrev pub calls_within : ℕ → Declared → Calls
 calls_within zero d f vs now = Halts outcome.Going now
-calls_within (suc depth) d f vs now = taken now.calls now (λ next. enter d (calls_within depth d) (function_in d.functions f) vs next)
+calls_within (suc depth) d f vs now = back_to now.chain (taken now.calls now (λ next. enter d (calls_within depth d) (function_in d.functions f) vs (calling (f, group_in d.functions next.chain.groups f) next)))
 
 -- ---- programs
 
@@ -123,6 +134,14 @@ abbrev pub run_main : Declared → Option FunTree → List ℕ → ℕ → Runni
 run_main d (Some f) args n now = eval d (calls_within n d) f.body (named_scope (named_values_from (named_types_of d.layouts f.params) args) []) now
 run_main d None args n now = Halts outcome.Going now
 
--- the meaning of a program on these arguments and memories: its full outcome for each number of calls
+-- main alone is in progress
+abbrev pub in_main : Declared → List ℕ → Chain
+in_main d groups = record { groups = groups; calls = (codes "main", group_in d.functions groups (codes "main")) ∷ [] }
+
+-- the meaning of a program on these arguments and memories, with where each write is made: its full outcome for each number of calls
+abbrev pub traced : ProgramTree → List ℕ → Memories → ℕ → TracedOutcome
+traced t args p n = closed (run_main (declared t) (function_in (declared t).functions (codes "main")) args n (record { calls = n; packet = p; writes = []; chain = in_main (declared t) (groups_from 0 t.decls) }))
+
+-- the same without where
 abbrev pub source : ProgramTree → List ℕ → Memories → Meaning
-source t args p n = closed (run_main (declared t) (function_in (declared t).functions (codes "main")) args n (record { calls = n; packet = p; writes = [] }))
+source t args p n = untraced (traced t args p n)

@@ -2,6 +2,7 @@
 #![tactic(auto)]
 
 mod arguments;
+mod grouping;
 pub mod laws;
 mod memory;
 mod pack;
@@ -14,5 +15,6 @@ mod step;
 mod table;
 mod unpack;
 
-pub use program::exec;
+pub use grouping::groups;
+pub use program::{exec, traced};
 pub use table::Table;

@@ -9,7 +9,7 @@ ghost use Rattle.nv_meaning.specs.Meaning.{Calls, eval as evaluated, eval_all, e
 ghost use Rattle.nv_meaning.specs.inner.Operand.{made_of as made, decided_by, joined_by};
 ghost use Rattle.nv_values.specs.inner.View.{view, list_values, scope_of, Extends};
 ghost use Rattle.nv_meaning.specs.inner.TableView.{declared_in};
-ghost use Rattle.nv_meaning.specs.inner.Ran.{at, RanStep, RanValue, RanValues, RanFields, RanScope, IsStep, IsValue};
+ghost use Rattle.nv_meaning.specs.inner.Ran.{at, RanStep, RanValue, RanValues, RanFields, RanScope, RanCall, IsStep, IsValue};
 
 use crate::memory::stored;
 use crate::pack::packed;
@@ -18,8 +18,9 @@ use crate::scope::{Scope, bind, bind_all, enter, variable};
 use crate::step::Step;
 use crate::table::Table;
 use crate::unpack::unpacked;
-use nv_ast::{Expr, Kind, Name, Op, Pat, Stmt};
-use nv_base::{Mem, Packet, WriteLog, word};
+use call_trace::Notes;
+use nv_ast::{Expr, Kind, Name, Op, Pat, Span, Stmt};
+use nv_base::{Mem, Packet, word};
 use nv_values::{
     Field, Interruption, Value, combined, fetched, is_true, shifted, truth_in, word_in,
 };
@@ -33,7 +34,7 @@ pub fn eval<'a>(
     e: &'a Expr,
     scope: &mut Scope<'a>,
     p: &mut Packet,
-    log: &mut WriteLog,
+    log: &mut Notes<'a>,
     left: &mut u64,
 ) -> Result<Step<'a>, Interruption<'a>>
     ensures ran { RanStep (declared_in t.now) (at left.old p.old log.old) (at left.new p.new log.new) result (λ call now. evaluated (declared_in t.now) call (tree_of e.now) (scope_of scope.old.items []) now) }
@@ -72,7 +73,7 @@ pub fn settled<'a>(
     e: &'a Expr,
     scope: &mut Scope<'a>,
     p: &mut Packet,
-    log: &mut WriteLog,
+    log: &mut Notes<'a>,
     left: &mut u64,
 ) -> Result<Value<'a>, Interruption<'a>>
     ensures ran { RanValue (declared_in t.now) (at left.old p.old log.old) (at left.new p.new log.new) result (λ call now. evaluated (declared_in t.now) call (tree_of e.now) (scope_of scope.old.items []) now) }
@@ -82,7 +83,12 @@ pub fn settled<'a>(
 {
     match eval(alloc, t, e, scope, p, log, left)? {
         Step::Done(v) => Ok(v),
-        Step::Again(f, vs) => call(alloc, t, f, vs, p, log, left),
+        Step::Again(f, vs) => {
+            let before = log.mark();
+            let answer = call(alloc, t, f, vs, p, log, left);
+            log.back(before);
+            answer
+        }
     }
 }
 
@@ -95,10 +101,10 @@ fn call<'a>(
     f: &'a Name,
     vs: Vec<Value<'a>>,
     p: &mut Packet,
-    log: &mut WriteLog,
+    log: &mut Notes<'a>,
     left: &mut u64,
 ) -> Result<Value<'a>, Interruption<'a>>
-    ensures ran { RanValue (declared_in t.now) (at left.old p.old log.old) (at left.new p.new log.new) result (λ call now. call f.now (list_values vs.entry.items) now) }
+    ensures ran { RanCall (declared_in t.now) (at left.old p.old log.old) (at left.new p.new log.new) result f.now (list_values vs.entry.items) }
     ensures left { left.new ≤ left.old }
 {
     let mut callee = f;
@@ -109,9 +115,10 @@ fn call<'a>(
             return Err(Interruption::Going);
         }
         *left -= 1;
-        match t.function(callee) {
+        match t.found(callee) {
             None => return Err(Interruption::Going),
-            Some(function) => {
+            Some((place, function)) => {
+                log.follow(callee, place)?;
                 scope.clear();
                 enter(&function.params, args, &mut scope)?;
                 match eval(alloc, t, &function.body, &mut scope, p, log, left)? {
@@ -137,7 +144,7 @@ fn each<'a>(
     es: &'a [Expr],
     scope: &mut Scope<'a>,
     p: &mut Packet,
-    log: &mut WriteLog,
+    log: &mut Notes<'a>,
     left: &mut u64,
 ) -> Result<Vec<Value<'a>>, Interruption<'a>>
     ensures ran { RanValues (declared_in t.now) (at left.old p.old log.old) (at left.new p.new log.new) result (λ call now. eval_all (declared_in t.now) call (list_trees es.now) (scope_of scope.old.items []) now) }
@@ -161,7 +168,7 @@ fn each_named<'a>(
     es: &'a [(Name, Expr)],
     scope: &mut Scope<'a>,
     p: &mut Packet,
-    log: &mut WriteLog,
+    log: &mut Notes<'a>,
     left: &mut u64,
 ) -> Result<Vec<Field<'a>>, Interruption<'a>>
     ensures ran { RanFields (declared_in t.now) (at left.old p.old log.old) (at left.new p.new log.new) result (λ call now. eval_named (declared_in t.now) call (list_named_trees es.now) (scope_of scope.old.items []) now) }
@@ -186,7 +193,7 @@ fn statements<'a>(
     sts: &'a [Stmt],
     scope: &mut Scope<'a>,
     p: &mut Packet,
-    log: &mut WriteLog,
+    log: &mut Notes<'a>,
     left: &mut u64,
 ) -> Result<(), Interruption<'a>>
     ensures ran { RanScope (declared_in t.now) (at left.old p.old log.old) (at left.new p.new log.new) result (scope_of scope.new.items []) (λ call now. run_all (declared_in t.now) call (list_statements sts.now) (scope_of scope.old.items []) now) }
@@ -207,7 +214,7 @@ fn statement<'a>(
     st: &'a Stmt,
     scope: &mut Scope<'a>,
     p: &mut Packet,
-    log: &mut WriteLog,
+    log: &mut Notes<'a>,
     left: &mut u64,
 ) -> Result<(), Interruption<'a>>
     ensures ran { RanScope (declared_in t.now) (at left.old p.old log.old) (at left.new p.new log.new) result (scope_of scope.new.items []) (λ call now. run_one (declared_in t.now) call (statement_tree st.now) (scope_of scope.old.items []) now) }
@@ -219,7 +226,7 @@ fn statement<'a>(
             let v = settled(alloc, t, e, scope, p, log, left)?;
             Ok(bind(pattern, v, scope)?)
         }
-        Stmt::Store(m, a, e, _) => store(alloc, t, *m, a, e, scope, p, log, left),
+        Stmt::Store(m, a, e, span) => store(alloc, t, *span, *m, a, e, scope, p, log, left),
     }
 }
 
@@ -229,21 +236,22 @@ fn statement<'a>(
 fn store<'a>(
     alloc: Global,
     t: &Table<'a>,
+    span: Span,
     m: Mem,
     a: &'a Expr,
     e: &'a Expr,
     scope: &mut Scope<'a>,
     p: &mut Packet,
-    log: &mut WriteLog,
+    log: &mut Notes<'a>,
     left: &mut u64,
 ) -> Result<(), Interruption<'a>>
-    ensures ran { RanScope (declared_in t.now) (at left.old p.old log.old) (at left.new p.new log.new) result (scope_of scope.new.items []) (λ call now. then_stated (evaluated (declared_in t.now) call (tree_of a.now) (scope_of scope.old.items []) now) (λ v next. then_stated (evaluated (declared_in t.now) call (tree_of e.now) (scope_of scope.old.items []) next) (λ w last. store_of (scope_of scope.old.items []) m (word_of v) (words_of w) last))) }
+    ensures ran { RanScope (declared_in t.now) (at left.old p.old log.old) (at left.new p.new log.new) result (scope_of scope.new.items []) (λ call now. then_stated (evaluated (declared_in t.now) call (tree_of a.now) (scope_of scope.old.items []) now) (λ v next. then_stated (evaluated (declared_in t.now) call (tree_of e.now) (scope_of scope.old.items []) next) (λ w last. store_of span (scope_of scope.old.items []) m (word_of v) (words_of w) last))) }
     ensures left { left.new ≤ left.old }
     ensures extends { Extends scope.old.items scope.new.items }
 {
     let at = settled(alloc, t, a, scope, p, log, left)?;
     let v = settled(alloc, t, e, scope, p, log, left)?;
-    stored(alloc, p, log, m, word_in(at), v)
+    stored(alloc, p, log, span, m, word_in(at), v)
 }
 
 // ---- kinds of expression
@@ -268,7 +276,7 @@ fn tuple<'a>(
     es: &'a [Expr],
     scope: &mut Scope<'a>,
     p: &mut Packet,
-    log: &mut WriteLog,
+    log: &mut Notes<'a>,
     left: &mut u64,
 ) -> Result<Step<'a>, Interruption<'a>>
     ensures ran { RanStep (declared_in t.now) (at left.old p.old log.old) (at left.new p.new log.new) result (λ call now. and_all (eval_all (declared_in t.now) call (list_trees es.now) (scope_of scope.old.items []) now) (λ vs last. Gives (TupleOf vs) last)) }
@@ -288,7 +296,7 @@ fn record<'a>(
     es: &'a [(Name, Expr)],
     scope: &mut Scope<'a>,
     p: &mut Packet,
-    log: &mut WriteLog,
+    log: &mut Notes<'a>,
     left: &mut u64,
 ) -> Result<Step<'a>, Interruption<'a>>
     ensures ran { RanStep (declared_in t.now) (at left.old p.old log.old) (at left.new p.new log.new) result (λ call now. and_named (eval_named (declared_in t.now) call (list_named_trees es.now) (scope_of scope.old.items []) now) (λ vs last. Gives (RecordOf vs) last)) }
@@ -310,7 +318,7 @@ fn again<'a>(
     es: &'a [Expr],
     scope: &mut Scope<'a>,
     p: &mut Packet,
-    log: &mut WriteLog,
+    log: &mut Notes<'a>,
     left: &mut u64,
 ) -> Result<Step<'a>, Interruption<'a>>
     ensures ran { RanStep (declared_in t.now) (at left.old p.old log.old) (at left.new p.new log.new) result (λ call now. and_all (eval_all (declared_in t.now) call (list_trees es.now) (scope_of scope.old.items []) now) (λ vs next. call f.now vs next)) }
@@ -331,7 +339,7 @@ fn raise<'a>(
     es: &'a [Expr],
     scope: &mut Scope<'a>,
     p: &mut Packet,
-    log: &mut WriteLog,
+    log: &mut Notes<'a>,
     left: &mut u64,
 ) -> Result<Step<'a>, Interruption<'a>>
     ensures ran { RanStep (declared_in t.now) (at left.old p.old log.old) (at left.new p.new log.new) result (λ call now. and_all (eval_all (declared_in t.now) call (list_trees es.now) (scope_of scope.old.items []) now) (λ vs last. Raises (exception_number (declared_in t.now).exceptions x.now) vs last)) }
@@ -353,7 +361,7 @@ fn binary<'a>(
     b: &'a Expr,
     scope: &mut Scope<'a>,
     p: &mut Packet,
-    log: &mut WriteLog,
+    log: &mut Notes<'a>,
     left: &mut u64,
 ) -> Result<Step<'a>, Interruption<'a>>
     ensures ran { RanStep (declared_in t.now) (at left.old p.old log.old) (at left.new p.new log.new) result (λ call now. binary_of op (evaluated (declared_in t.now) call (tree_of a.now) (scope_of scope.old.items []) now) (λ next. evaluated (declared_in t.now) call (tree_of b.now) (scope_of scope.old.items []) next)) }
@@ -402,7 +410,7 @@ fn choose<'a>(
     b: &'a Expr,
     scope: &mut Scope<'a>,
     p: &mut Packet,
-    log: &mut WriteLog,
+    log: &mut Notes<'a>,
     left: &mut u64,
 ) -> Result<Step<'a>, Interruption<'a>>
     ensures ran { RanStep (declared_in t.now) (at left.old p.old log.old) (at left.new p.new log.new) result (λ call now. and_then (evaluated (declared_in t.now) call (tree_of c.now) (scope_of scope.old.items []) now) (λ v next. if truth_of v then evaluated (declared_in t.now) call (tree_of a.now) (scope_of scope.old.items []) next else evaluated (declared_in t.now) call (tree_of b.now) (scope_of scope.old.items []) next)) }
@@ -429,7 +437,7 @@ fn try_<'a>(
     h: &'a Expr,
     scope: &mut Scope<'a>,
     p: &mut Packet,
-    log: &mut WriteLog,
+    log: &mut Notes<'a>,
     left: &mut u64,
 ) -> Result<Step<'a>, Interruption<'a>>
     ensures ran { RanStep (declared_in t.now) (at left.old p.old log.old) (at left.new p.new log.new) result (λ call now. handled (exception_number (declared_in t.now).exceptions x.now) (λ vs next. evaluated (declared_in t.now) call (tree_of h.now) (all_matched (list_patterns ps.now) vs (scope_of scope.old.items [])) next) (evaluated (declared_in t.now) call (tree_of a.now) (scope_of scope.old.items []) now)) }
@@ -467,7 +475,7 @@ fn handle<'a>(
     h: &'a Expr,
     scope: &mut Scope<'a>,
     p: &mut Packet,
-    log: &mut WriteLog,
+    log: &mut Notes<'a>,
     left: &mut u64,
 ) -> Result<Step<'a>, Interruption<'a>>
     ensures ran { RanStep (declared_in t.now) (at left.old p.old log.old) (at left.new p.new log.new) result (λ call now. evaluated (declared_in t.now) call (tree_of h.now) (all_matched (list_patterns ps.now) (list_values vs.entry.items) (scope_of scope.old.items [])) now) }
@@ -491,7 +499,7 @@ fn block<'a>(
     tail: &'a Expr,
     scope: &mut Scope<'a>,
     p: &mut Packet,
-    log: &mut WriteLog,
+    log: &mut Notes<'a>,
     left: &mut u64,
 ) -> Result<Step<'a>, Interruption<'a>>
     ensures ran { RanStep (declared_in t.now) (at left.old p.old log.old) (at left.new p.new log.new) result (λ call now. and_stated (run_all (declared_in t.now) call (list_statements sts.now) (scope_of scope.old.items []) now) (λ inner next. evaluated (declared_in t.now) call (tree_of tail.now) inner next)) }
@@ -516,7 +524,7 @@ fn of_operand<'a>(
     a: &'a Expr,
     scope: &mut Scope<'a>,
     p: &mut Packet,
-    log: &mut WriteLog,
+    log: &mut Notes<'a>,
     left: &mut u64,
 ) -> Result<Step<'a>, Interruption<'a>>
     ensures ran { RanStep (declared_in t.now) (at left.old p.old log.old) (at left.new p.new log.new) result (λ call now. and_then (evaluated (declared_in t.now) call (tree_of a.now) (scope_of scope.old.items []) now) (λ v last. made (declared_in t.now) (tree_of e.now) v last)) }

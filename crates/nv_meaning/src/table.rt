@@ -178,12 +178,12 @@ fn alias(l: &LayoutText) -> Option<&Name>
 }
 
 impl<'a> Table<'a> {
-    ghost use Rattle.std.specs.Prelude.{◌≡◌, ◌<◌, ◌≤◌, false, min, [], map, take, length, IfOk, MatchOption, None, Some};
+    ghost use Rattle.std.specs.Prelude.{◌≡◌, ◌<◌, ◌≤◌, ℕ, List, false, min, [], map, take, length, get_or, IfOk, IfSome, MatchOption, None, Some};
     ghost use Rattle.nv_ast.specs.LayoutView.{layout_tree};
     ghost use Rattle.nv_ast.specs.Outline.{outline, size as bit_size, PartsOutline, no_named_outlines};
     ghost use Rattle.nv_ast.specs.ProgramView.{program_of, fun_tree};
     ghost use Rattle.nv_ast.specs.Tree.{NamedLayout};
-    ghost use Rattle.nv_meaning.specs.Meaning.{declared, function_in};
+    ghost use Rattle.nv_meaning.specs.Meaning.{declared, function_in, group_in};
     ghost use Rattle.nv_values.specs.Running.{exception_number};
     ghost use Rattle.nv_meaning.specs.inner.Tables.{is_alias, laid, layout_pairs};
     ghost use Rattle.nv_meaning.specs.inner.TableView.{declared_in};
@@ -221,6 +221,16 @@ impl<'a> Table<'a> {
             exception_places,
             sizes,
         })
+    }
+
+    /// The place of the first function of a name, and the function.
+    pub fn found(&self, x: &Name) -> Option<(usize, &'a Fun)>
+        ensures function { MatchOption result (function_in (declared_in self.now).functions x.now ≡ None) (λ f. function_in (declared_in self.now).functions x.now ≡ Some (fun_tree f.1.now)) }
+        ensures name { IfSome result (λ f. f.1.now.name ≡ x.now) }
+        ensures place { IfSome result (λ f. (groups : List ℕ) → group_in (declared_in self.now).functions groups x.now ≡ get_or groups f.0 0) }
+    {
+        let place = *self.function_places.get(&x)?;
+        Some((place, self.functions[place]))
     }
 
     /// The first function of a name.

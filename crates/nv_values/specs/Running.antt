@@ -1,5 +1,5 @@
 -- A run in progress, and what a part of the text comes to in it.
-use Rattle.std.specs.Prelude.{ℕ, zero, suc, ◌==◌, ◌+◌, List, [], ◌∷◌, ◌++◌, Option, Some, None, length, take, if◌then◌else◌, bytes_eq}
+use Rattle.std.specs.Prelude.{ℕ, zero, suc, ◌==◌, ◌+◌, ◌-◌, List, [], ◌∷◌, ◌++◌, Bool, false, Option, Some, None, length, map, slice_get, take, if◌then◌else◌, bytes_eq}
 use Rattle.nv_base.specs.declared.term.Mem.{Mem}
 use Rattle.nv_base.specs.declared.outcome.Write.{Write}
 use Rattle.nv_base.specs.declared.outcome.Outcome.{Outcome}
@@ -7,13 +7,37 @@ use Rattle.nv_base.specs.declared.outcome.Outcome.TheVariants as outcome
 use Rattle.nv_base.specs.Memories.{Memories, fetched, stored}
 use Rattle.nv_base.specs.Meanings.{FullOutcome}
 use Rattle.nv_ast.specs.Faults.{can_move}
+use Rattle.nv_ast.specs.declared.token.Span.{Span}
 use Rattle.nv_values.specs.Values.{Value, Word, Values, value_and, NamedValues, named_value_and, Scope, words_of, all_words, words_value}
 
--- how many calls are left in the whole run, the memories, and the writes so far, the first one first
+-- a call in progress: the function's name, and the number of its group
+abbrev pub InCall : Type 0
+InCall = List ℕ × ℕ
+
+-- where a part of the text runs: the calls in progress, main's first, and the number of the group of each function
+pub record Chain : Type 0 where
+  pub groups : List ℕ
+  pub calls : List InCall
+
+-- a write, the place of its store statement in the text, and the names of the functions in progress, the outermost first
+pub record Made : Type 0 where
+  pub write : Write
+  pub span : Span
+  pub chain : List (List ℕ)
+
+abbrev pub names_in : Chain → List (List ℕ)
+names_in c = map (λ f. f.0) c.calls
+
+-- the writes alone
+abbrev pub plain : List Made → List Write
+plain ms = map (λ m. m.write) ms
+
+-- how many calls are left in the whole run, the memories, the writes so far, the first one first, and the calls in progress
 pub record Running : Type 0 where
   pub calls : ℕ
   pub packet : Memories
-  pub writes : List Write
+  pub writes : List Made
+  pub chain : Chain
 
 -- what an expression comes to: a value, an exception with its number on the way to a handler, or the end of the run
 pub data Result : Type 0 where
@@ -105,23 +129,58 @@ after_fetch m at None now = Halts (outcome.Fault m at) now
 abbrev pub fetch : Mem → ℕ → ℕ → Running → Result
 fetch m n at now = if can_move m n then after_fetch m at (fetched m at n now.packet) now else Gives (Word 0) now
 
-abbrev pub after_store : Scope → Mem → ℕ → List ℕ → Option Memories → Running → Stated
-after_store scope m at ws (Some p) now = GoesOn scope (record { calls = now.calls; packet = p; writes = now.writes ++ record { mem = m; at = at; words = ws } ∷ [] })
-after_store scope m at ws None now = StopsAt (Halts (outcome.Fault m at) now)
+abbrev pub made_by : Span → Chain → Mem → ℕ → List ℕ → Made
+made_by s c m at ws = record { write = record { mem = m; at = at; words = ws }; span = s; chain = names_in c }
 
-abbrev pub store : Scope → Mem → ℕ → List ℕ → Running → Stated
-store scope m at ws now = if can_move m (length ws) then after_store scope m at ws (stored m at ws now.packet) now else GoesOn scope now
+abbrev pub after_store : Span → Scope → Mem → ℕ → List ℕ → Option Memories → Running → Stated
+after_store s scope m at ws (Some p) now = GoesOn scope (record { calls = now.calls; packet = p; writes = now.writes ++ made_by s now.chain m at ws ∷ []; chain = now.chain })
+after_store s scope m at ws None now = StopsAt (Halts (outcome.Fault m at) now)
+
+abbrev pub store : Span → Scope → Mem → ℕ → List ℕ → Running → Stated
+store s scope m at ws now = if can_move m (length ws) then after_store s scope m at ws (stored m at ws now.packet) now else GoesOn scope now
 
 -- ---- a call takes one of those left in the run; where none is left the run is still going, with its writes so far
 abbrev pub taken : ℕ → Running → (Running → Result) → Result
 taken zero now next = Halts outcome.Going now
-taken (suc left) now next = next (record { calls = left; packet = now.packet; writes = now.writes })
+taken (suc left) now next = next (record { calls = left; packet = now.packet; writes = now.writes; chain = now.chain })
+
+-- ---- the calls in progress
+
+abbrev pub innermost : List InCall → Option InCall
+innermost fs = slice_get fs (length fs - 1)
+
+-- whether it is of a function of this group
+abbrev pub is_own : Option InCall → ℕ → Bool
+is_own None n = false
+is_own (Some f) n = f.1 == n
+
+-- a call of the own group, which is the caller's last act, takes the caller's place; any other call comes after it
+abbrev pub called : List InCall → InCall → List InCall
+called fs f = (if is_own (innermost fs) f.1 then take (length fs - 1) fs else fs) ++ f ∷ []
+
+abbrev pub calling : InCall → Running → Running
+calling f now = record { calls = now.calls; packet = now.packet; writes = now.writes; chain = record { groups = now.chain.groups; calls = called now.chain.calls f } }
+
+-- after a call the same calls are in progress as before it
+abbrev pub back_to : Chain → Result → Result
+back_to c (Gives v now) = Gives v (record { calls = now.calls; packet = now.packet; writes = now.writes; chain = c })
+back_to c (Raises k vs now) = Raises k vs (record { calls = now.calls; packet = now.packet; writes = now.writes; chain = c })
+back_to c (Halts how now) = Halts how (record { calls = now.calls; packet = now.packet; writes = now.writes; chain = c })
 
 -- ---- the full outcome of a run whose main came to this; of a typed program it has at most eight words
-abbrev pub over : Outcome → Running → FullOutcome
+pub record TracedOutcome : Type 0 where
+  pub outcome : Outcome
+  pub packet : Memories
+  pub writes : List Made
+
+abbrev pub over : Outcome → Running → TracedOutcome
 over how now = record { outcome = how; packet = now.packet; writes = now.writes }
 
-abbrev pub closed : Result → FullOutcome
+abbrev pub closed : Result → TracedOutcome
 closed (Gives v now) = over (outcome.Ended (take 8 (words_of v))) now
 closed (Raises k vs now) = over (outcome.Raised k (take 8 (all_words vs))) now
 closed (Halts how now) = over how now
+
+-- the same without statements and chains
+abbrev pub untraced : TracedOutcome → FullOutcome
+untraced t = record { outcome = t.outcome; packet = t.packet; writes = plain t.writes }

@@ -8,7 +8,7 @@ mod stop;
 mod value;
 
 pub use exceptions::exception_at;
-pub use memory::{can_move, fetched, note};
+pub use memory::{can_move, fetched};
 pub use operators::{combined, shifted};
 pub use stop::Interruption;
 pub use value::{Field, Value, first_words, is_true, truth_in, value_of_words, word_in};

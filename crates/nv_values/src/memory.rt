@@ -1,15 +1,13 @@
 // Accesses to a packet.
 
-ghost use Rattle.std.specs.Prelude.{◌≡◌, ◌<◌, ◌^◌, ℕ, [], ◌∷◌};
-ghost use Rattle.nv_base.specs.Log.{noted_all};
-ghost use Rattle.nv_base.specs.Meanings.{source_writes};
+ghost use Rattle.std.specs.Prelude.{◌≡◌};
 ghost use Rattle.nv_ast.specs.Faults.{can_move as may_move};
 ghost use Rattle.nv_values.specs.Running.{Running, fetch};
 ghost use Rattle.nv_values.specs.inner.Interrupting.{IsValue};
 
 use crate::stop::Interruption;
 use crate::value::{Value, value_of_words};
-use nv_base::{Access, Mem, Packet, SOURCE_SCRATCH, Write, WriteLog};
+use nv_base::{Access, Mem, Packet};
 use std::alloc::Global;
 
 /// Whether an access may have N words.
@@ -40,15 +38,5 @@ pub fn fetched<'a>(
     match p.read(m, at as u64, into) {
         Access::Done => Ok(value_of_words(alloc, into)?),
         Access::Bad => Err(Interruption::Fault(m, at)),
-    }
-}
-
-/// Notes a write of the source's; one of the compiler's scratch words isn't noted.
-pub fn note(log: &mut WriteLog, w: Write)
-    requires { log.old.count < 2 ^ 63 }
-    ensures { log.new ≡ noted_all log.old (source_writes (w ∷ [])) }
-{
-    if w.mem != Mem::Scratch || w.at < SOURCE_SCRATCH {
-        log.note(w);
     }
 }

@@ -5,7 +5,7 @@ use Rattle.nv_base.specs.declared.outcome.Outcome.TheVariants.{Ended}
 use Rattle.nv_base.specs.declared.term.Bin.TheVariants as bin
 use Rattle.nv_base.specs.Memories.{Memories}
 use Rattle.nv_base.specs.Words.{bin_word}
-use Rattle.nv_meaning.specs.Meaning.{combined, binary, Declared, Calls, declared, calls_within, run_all, source}
+use Rattle.nv_meaning.specs.Meaning.{combined, binary, Declared, Calls, declared, groups_from, in_main, calls_within, run_all, source}
 use Rattle.nv_meaning.specs.Running.{Running, Gives, GoesOn}
 use Rattle.nv_meaning.specs.Values.{Value, Word, Scope, variable_in, word_of}
 use Rattle.source_generator.specs.Made.{name_of}
@@ -84,6 +84,6 @@ one-word lines name bytes a b =
     ends : (w : ℕ) → variable_in (scope_behind 0 lines (first_scope a b)) (name_of name) ≡ Word w → (p : Memories) (n : ℕ) → source (program_of lines name bytes) (a ∷ b ∷ []) p n ≡ record { outcome = Ended (w ∷ []); packet = p; writes = [] }
     ends w is p n =
         let d = declared (program_of lines name bytes) in
-        let now : Running = record { calls = n; packet = p; writes = [] } in
+        let now : Running = record { calls = n; packet = p; writes = []; chain = in_main d (groups_from 0 (program_of lines name bytes).decls) } in
         let run = lines-run d (calls_within n d) 0 35 lines (first_scope a b) now in
         rw (run, is) refl

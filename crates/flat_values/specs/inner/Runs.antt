@@ -1,11 +1,11 @@
 -- A run of a program and the run of its flat code side by side.
 use Rattle.nv_meaning.specs.Values.{Value, words_of, all_words}
-use Rattle.nv_meaning.specs.Running.{Running, Result, Gives, Raises, Halts}
+use Rattle.nv_meaning.specs.Running.{plain, Running, Result, Gives, Raises, Halts}
 use Rattle.flat_ir.specs.Running as flat
 
 -- a moment of a run, for the flat code: as many calls left, the same memories and writes
 abbrev pub flat_run : Running → flat.Running
-flat_run now = record { calls = now.calls; packet = now.packet; writes = now.writes }
+flat_run now = record { calls = now.calls; packet = now.packet; writes = plain now.writes }
 
 -- what follows a value in the flat code; an exception has the words of its values
 abbrev pub onward : Result → (Value → Running → flat.Result) → flat.Result

@@ -5,6 +5,7 @@ use Rattle.nv_ast.specs.Tree.{NamedLayout, FunTree, DeclTree, LayoutDecl, Except
 use Rattle.nv_ast.specs.Types.{Ty, Tys, no_tys, type_of, types_of}
 use Rattle.nv_ast.specs.Tests.{look_up, is_among, names_of}
 use Rattle.nv_ast.specs.Scope.{Signature, signature, Known, callable, Context}
+pub use Rattle.nv_meaning.specs.Meaning.{groups_from}
 use Rattle.nv_meaning.specs.Meaning.{Declared, declared, function_in}
 use Rattle.nv_meaning.specs.Running.{exception_number}
 use Rattle.nv_meaning.specs.inner.Tables.{place_from}
@@ -38,18 +39,12 @@ group_of w f = group_at w (place_from 0 f (map (λ g. g.name) w.declared.functio
 
 -- ---- of a program's text
 
--- the types of the exceptions' values in the text, and the number of the group of each function
+-- the types of the exceptions' values in the text
 abbrev pub raised_in : List DeclTree → List TypeTrees
 raised_in [] = []
 raised_in (LayoutDecl x l s ∷ ds) = raised_in ds
 raised_in (ExceptionDecl x ts s ∷ ds) = ts ∷ raised_in ds
 raised_in (GroupDecl fs ∷ ds) = raised_in ds
-
-abbrev pub groups_from : ℕ → List DeclTree → List ℕ
-groups_from n [] = []
-groups_from n (LayoutDecl x l s ∷ ds) = groups_from n ds
-groups_from n (ExceptionDecl x ts s ∷ ds) = groups_from n ds
-groups_from n (GroupDecl fs ∷ ds) = replicate (length fs) n ++ groups_from (suc n) ds
 
 abbrev pub whole_of : ProgramTree → Whole
 whole_of t = record {

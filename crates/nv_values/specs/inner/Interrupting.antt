@@ -1,9 +1,8 @@
 -- How a value or a stop of the interpreter stands to the meaning.
 use Rattle.std.specs.Prelude.{◌≡◌, List, ◌++◌, Result as Answer, Ok, Err}
-use Rattle.nv_base.specs.declared.outcome.Write.{Write}
 use Rattle.nv_base.specs.declared.outcome.Outcome.TheVariants as outcome
 use Rattle.nv_base.specs.Meanings.{left_by}
-use Rattle.nv_values.specs.Running.{Running, Result, Gives, Raises, Halts}
+use Rattle.nv_values.specs.Running.{Made, plain, Running, Result, Gives, Raises, Halts}
 use Rattle.nv_values.specs.inner.View.{view, list_values}
 use Rattle.nv_values.specs.declared.value.Value.{Value}
 use Rattle.nv_values.specs.declared.stop.Interruption.{Interruption}
@@ -17,9 +16,9 @@ now_of (Halts how now) = now
 
 -- the writes so far are the first ones of a result's, and the further ones made its memories of those so far
 pub record Grown (now : Running) (r : Result) : Type 0 where
-  pub rest : List Write
+  pub rest : List Made
   pub writes : (now_of r).writes ≡ now.writes ++ rest
-  pub packet : (now_of r).packet ≡ left_by rest now.packet
+  pub packet : (now_of r).packet ≡ left_by (plain rest) now.packet
 
 -- a stop is what the run came to; after memory exhaustion its writes so far are the first ones of the result's
 abbrev pub Interrupted : Interruption → Running → Result → Type 0

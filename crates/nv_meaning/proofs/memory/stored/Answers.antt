@@ -10,7 +10,7 @@ use Rattle.nv_meaning.proofs.memory.stored.Goals as goal
 pub returns-in_err-words : goal.returns-in_err-words
 returns-in_err-words c =
     let p = err_from_is_err_and c.from_residual.result c.from_residual.ensures.1 in
-    rw (p.1, p.2) (λ d left scope. store-short d (at left c.args.p.now c.args.log.now) scope c.args.m c.args.at (words_of (view c.args.v)))
+    rw (p.1, p.2) (λ d left scope. store-short d (at left c.args.p.now c.args.log.now) c.args.span scope c.args.m c.args.at (words_of (view c.args.v)))
 
 pub returns : goal.returns
-returns c = λ d left scope. subst (λ ws. RanScope d (at left c.args.p.now c.args.log.now) (at left c.write.new.p c.write.new.log) c.write.result scope (λ call now. store scope c.args.m c.args.at ws now)) (c.deref.ensures.value ∙ c.in_ok-words.ensures) (c.write.ensures d left scope)
+returns c = λ d left scope. subst (λ ws. RanScope d (at left c.args.p.now c.args.log.now) (at left c.write.new.p c.write.new.log) c.write.result scope (λ call now. store c.args.span scope c.args.m c.args.at ws now)) (c.deref.ensures.value ∙ c.in_ok-words.ensures) (c.write.ensures d left scope)

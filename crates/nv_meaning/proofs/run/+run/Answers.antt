@@ -12,14 +12,16 @@ use Rattle.nv_values.specs.Running.{Gives, exception_number, store, then_stated}
 use Rattle.nv_meaning.specs.Meaning.{eval as evaluated, run_one, entered}
 use Rattle.nv_meaning.specs.inner.TableView.{declared_in}
 use Rattle.nv_values.specs.inner.View.{view, list_values, scope_of}
-use Rattle.nv_meaning.specs.inner.Ran.{at, IsStep, RanScope}
+use Rattle.nv_meaning.specs.inner.Ran.{at, IsStep, RanScope, RanCall}
+use Rattle.call_trace.specs.Callers.{IsMark, LieAbove}
 use Rattle.nv_values.specs.declared.value.Value as code
 use Rattle.nv_meaning.specs.declared.step.Step.TheVariants.{Done, Again}
 use Rattle.nv_values.specs.declared.stop.Interruption.TheVariants.{NoMemory, Raised, Fault, Going}
 use Rattle.nv_meaning.proofs.Bindings.{extends-more}
 use Rattle.nv_meaning.proofs.Moments.{ran-here}
 use Rattle.nv_meaning.proofs.Arms.{Front, FrontNamed, in-scope, in-scope_value, of-tree, of-step, of-stop, settled-again, front-none, front-more, front-all, front-stop, front-short, named-none, named-more, named-all, named-stop, named-short, led-none, led-more, led-all, led-stop, let-stop, let-short, let-done, store-stop, store-stop_value, store-done, tuple-stop, tuple-done, again-stop, again-done, raise-stop, raise-done, record-stop, record-done}
-use Rattle.nv_meaning.proofs.Choices.{looked-up, restored, binary-stop, binary-decided, binary-stop_right, binary-done, choose-stop, choose-yes, choose-no, try-done, try-short, try-fault, try-going, try-other, try-handled, short-before, in-matched, block-stop, block-tail, store-scope, operand-stop, operand-made, jump-none, jump-more, jump-end, jump-none_left, jump-no_function, jump-short, entered-as}
+use Rattle.nv_meaning.proofs.Choices.{looked-up, restored, binary-stop, binary-decided, binary-stop_right, binary-done, choose-stop, choose-yes, choose-no, try-done, try-short, try-fault, try-going, try-other, try-handled, short-before, in-matched, block-stop, block-tail, store-scope, operand-stop, operand-made, entered-as}
+use Rattle.nv_meaning.proofs.Jumps.{Alike, turned, jump-none, jump-more, jump-end, jump-none_left, jump-no_function, jump-short, jump-short_inside, call-behind}
 use Rattle.nv_ast.proofs.TreeKinds.{number-is, truth-is, variable-is, paren-is, binary-is, if-is, try-is, tuple-is, record-is, call-is, raise-is, block-is, let-is, store-is}
 use Rattle.nv_meaning.proofs.TreeKinds.{of-operand, OverOperand, over-operand}
 use Rattle.nv_meaning.specs.inner.Weight.{weight, weight_all, weight_named, weight_statement, weight_statements, span}
@@ -192,18 +194,25 @@ settled-returns-in-Done t c = record {
 
 pub settled-returns-in-Again : goal.settled-returns-in-Again
 settled-returns-in-Again t c = record {
-  ran = settled-again (declared_in c.args.t.now) (at c.args.left.now c.args.p.now c.args.log.now) (at c.eval.new.left c.eval.new.p c.eval.new.log) (at c.call.new.left c.call.new.p c.call.new.log) (λ call now. evaluated (declared_in c.args.t.now) call (tree_of c.args.e.now) (scope_of c.args.scope.now.items []) now) c.in-Again.f c.in-Again.vs c.call.result (of-step (declared_in c.args.t.now) (at c.args.left.now c.args.p.now c.args.log.now) (at c.eval.new.left c.eval.new.p c.eval.new.log) _ _ (λ call now. evaluated (declared_in c.args.t.now) call (tree_of c.args.e.now) (scope_of c.args.scope.now.items []) now) c.in-Again.is c.in_ok-v.ensures.ran) c.call.ensures.ran;
-  left = fewer c.call.new.left c.eval.new.left c.args.left.now c.call.ensures.left c.in_ok-v.ensures.left;
+  ran = settled-again (declared_in c.args.t.now) (at c.args.left.now c.args.p.now c.args.log.now) (at c.eval.new.left c.eval.new.p c.eval.new.log) (at c.call-answer.new.left c.call-answer.new.p c.back.new.self) (λ call now. evaluated (declared_in c.args.t.now) call (tree_of c.args.e.now) (scope_of c.args.scope.now.items []) now) c.in-Again.f c.in-Again.vs c.call-answer.result (of-step (declared_in c.args.t.now) (at c.args.left.now c.args.p.now c.args.log.now) (at c.eval.new.left c.eval.new.p c.eval.new.log) _ _ (λ call now. evaluated (declared_in c.args.t.now) call (tree_of c.args.e.now) (scope_of c.args.scope.now.items []) now) c.in-Again.is c.in_ok-v.ensures.ran)
+      (call-behind (declared_in c.args.t.now) (at c.eval.new.left c.eval.new.p c.eval.new.log) (at c.call-answer.new.left c.call-answer.new.p c.call-answer.new.log) c.back.new.self c.call-answer.result c.in-Again.f.now (list_values c.in-Again.vs.items) c.call-answer.ensures.ran
+      (record { log = c.back.ensures.log; trail = c.back.ensures.trail })
+      (λ k later knows later_knows above room there. c.back.ensures.calls k
+      (subst (λ x. IsMark c.mark-before.result x.calls) (knows room) c.mark-before.ensures)
+      (sym (ap (λ x. x.groups) (later_knows there) ∙ above.0))
+      (subst (λ x. LieAbove k.calls x.calls) (sym (later_knows there)) (above.1, above.2))
+      there));
+  left = fewer c.call-answer.new.left c.eval.new.left c.args.left.now c.call-answer.ensures.left c.in_ok-v.ensures.left;
   extends = c.in_ok-v.ensures.extends;
-  same = kept-given c.call.result _ c.in_ok-v.ensures.same;
+  same = kept-given c.call-answer.result _ c.in_ok-v.ensures.same;
 }
 
 pub settled-eval-requires : goal.settled-eval-requires
 settled-eval-requires t c =
     (omega (arith, c.decreases), tt)
 
-pub settled-call-requires : goal.settled-call-requires
-settled-call-requires t c =
+pub settled-call-answer-requires : goal.settled-call-answer-requires
+settled-call-answer-requires t c =
     (let f = falls_all c.eval.new.left c.args.left.now (span (declared_in c.args.t.now).functions) (8 * weight (tree_of c.args.e.now) + 1) c.in_ok-v.ensures.left (omega arith) in omega (arith, f, c.decreases), tt)
 
 pub call-loop-left-init : goal.call-loop-left-init
@@ -218,35 +227,42 @@ call-returns-then-left-eq0 t c = record {
 
 pub call-returns-in-None : goal.call-returns-in-None
 call-returns-in-None t c = record {
-  ran = jump-no_function (declared_in c.args.t.now) (at c.args.left.now c.args.p.now c.args.log.now) (at c.loop-left.left c.loop-left.p c.loop-left.log) c.args.f.now (list_values c.args.vs.items) c.loop-left.callee.now (list_values c.loop-left.args.items) (omega arith) c.in-None.ensures c.loop-left.invariant.ran;
+  ran = jump-no_function (declared_in c.args.t.now) (at c.args.left.now c.args.p.now c.args.log.now) (at c.loop-left.left c.loop-left.p c.loop-left.log) c.args.f.now (list_values c.args.vs.items) c.loop-left.callee.now (list_values c.loop-left.args.items) (omega arith) c.in-None.ensures.function c.loop-left.invariant.ran;
+  left = (let b : c.loop-left.left ≤ c.args.left.now = c.loop-left.invariant.left in omega arith);
+}
+
+pub call-returns-in_err-follow-in-Some : goal.call-returns-in_err-follow-in-Some
+call-returns-in_err-follow-in-Some t c = record {
+  ran = (let p = err_from_is_err_and c.from_residual.result c.from_residual.ensures.1 in rw (p.1, p.2) (subst (λ n. RanCall (declared_in c.args.t.now) (at c.args.left.now c.args.p.now c.args.log.now) (at (c.loop-left.left - 1) c.loop-left.p n) (Err NoMemory) c.args.f.now (list_values c.args.vs.items)) (sym c.in_err-follow-in-Some.ensures.same)
+      (jump-short (declared_in c.args.t.now) (at c.args.left.now c.args.p.now c.args.log.now) (at c.loop-left.left c.loop-left.p c.loop-left.log) c.args.f.now (list_values c.args.vs.items) c.loop-left.callee.now (list_values c.loop-left.args.items) (omega arith) c.loop-left.invariant.ran)));
   left = (let b : c.loop-left.left ≤ c.args.left.now = c.loop-left.invariant.left in omega arith);
 }
 
 pub call-returns-in_err-enter-in-Some : goal.call-returns-in_err-enter-in-Some
 call-returns-in_err-enter-in-Some t c = record {
-  ran = (let p = err_from_is_err_and c.from_residual.result c.from_residual.ensures.1 in rw (p.1, p.2) (jump-short (declared_in c.args.t.now) (at c.args.left.now c.args.p.now c.args.log.now) (at c.loop-left.left c.loop-left.p c.loop-left.log) c.args.f.now (list_values c.args.vs.items) c.loop-left.callee.now (list_values c.loop-left.args.items) (omega arith) c.loop-left.invariant.ran));
+  ran = (let p = err_from_is_err_and c.from_residual-in_err-enter-in-Some.result c.from_residual-in_err-enter-in-Some.ensures.1 in rw (p.1, p.2) (jump-short_inside (declared_in c.args.t.now) (at c.args.left.now c.args.p.now c.args.log.now) (at c.loop-left.left c.loop-left.p c.loop-left.log) c.args.f.now (list_values c.args.vs.items) c.loop-left.callee.now (list_values c.loop-left.args.items) c.follow.new.self (record { log = c.in_ok-follow-in-Some.ensures.log; trail = c.in_ok-follow-in-Some.ensures.trail }) (turned (declared_in c.args.t.now) c.loop-left.log c.follow.new.self c.loop-left.callee.now c.in-Some.place (record { log = c.in_ok-follow-in-Some.ensures.log; trail = c.in_ok-follow-in-Some.ensures.trail }) c.in_ok-follow-in-Some.ensures.called c.in-Some.ensures.place) (omega arith) c.loop-left.invariant.ran));
   left = (let b : c.loop-left.left ≤ c.args.left.now = c.loop-left.invariant.left in omega arith);
 }
 
 pub call-returns-in_err-v-in-Some : goal.call-returns-in_err-v-in-Some
 call-returns-in_err-v-in-Some t c = record {
-  ran = (let p = err_from_is_err_and c.from_residual-in_err-v-in-Some.result c.from_residual-in_err-v-in-Some.ensures.1 in rw (p.1, p.2) (jump-end (declared_in c.args.t.now) (at c.args.left.now c.args.p.now c.args.log.now) (at c.loop-left.left c.loop-left.p c.loop-left.log) c.args.f.now (list_values c.args.vs.items) c.loop-left.callee.now (list_values c.loop-left.args.items) (at c.eval.new.left c.eval.new.p c.eval.new.log) (Err _) (omega arith) c.loop-left.invariant.ran (entered-as (declared_in c.args.t.now) (at (c.loop-left.left - 1) c.loop-left.p c.loop-left.log) (at c.eval.new.left c.eval.new.p c.eval.new.log) (Err c.in_err-v-in-Some.field-0.0) c.loop-left.callee.now (list_values c.loop-left.args.items) (fun_tree c.in-Some.function.now) (scope_of c.enter.new.scope.items []) c.in-Some.ensures (c.in_ok-enter-in-Some.ensures ∙ ap (λ l. entered (list_named_types l) (list_values c.loop-left.args.items) (scope_of c.clear.new.self.items [])) c.deref.ensures.value ∙ ap (λ l. entered (list_named_types c.in-Some.function.now.params.items) (list_values c.loop-left.args.items) (scope_of l [])) c.clear.ensures.items) c.in_err-v-in-Some.ensures.ran)));
+  ran = (let p = err_from_is_err_and c.from_residual-in_err-v-in-Some.result c.from_residual-in_err-v-in-Some.ensures.1 in rw (p.1, p.2) (jump-end (declared_in c.args.t.now) (at c.args.left.now c.args.p.now c.args.log.now) (at c.loop-left.left c.loop-left.p c.loop-left.log) c.args.f.now (list_values c.args.vs.items) c.loop-left.callee.now (list_values c.loop-left.args.items) c.follow.new.self (record { log = c.in_ok-follow-in-Some.ensures.log; trail = c.in_ok-follow-in-Some.ensures.trail }) (turned (declared_in c.args.t.now) c.loop-left.log c.follow.new.self c.loop-left.callee.now c.in-Some.place (record { log = c.in_ok-follow-in-Some.ensures.log; trail = c.in_ok-follow-in-Some.ensures.trail }) c.in_ok-follow-in-Some.ensures.called c.in-Some.ensures.place) (omega arith) c.loop-left.invariant.ran (at c.eval.new.left c.eval.new.p c.eval.new.log) (Err _) (entered-as (declared_in c.args.t.now) (at (c.loop-left.left - 1) c.loop-left.p c.follow.new.self) (at c.eval.new.left c.eval.new.p c.eval.new.log) (Err c.in_err-v-in-Some.field-0.0) c.loop-left.callee.now (list_values c.loop-left.args.items) (fun_tree c.in-Some.function.now) (scope_of c.enter.new.scope.items []) c.in-Some.ensures.function (c.in_ok-enter-in-Some.ensures ∙ ap (λ l. entered (list_named_types l) (list_values c.loop-left.args.items) (scope_of c.clear.new.self.items [])) c.deref.ensures.value ∙ ap (λ l. entered (list_named_types c.in-Some.function.now.params.items) (list_values c.loop-left.args.items) (scope_of l [])) c.clear.ensures.items) c.in_err-v-in-Some.ensures.ran)));
   left = (let a : c.eval.new.left ≤ c.loop-left.left - 1 = c.in_err-v-in-Some.ensures.left in let b : c.loop-left.left ≤ c.args.left.now = c.loop-left.invariant.left in omega arith);
 }
 
 pub call-returns-in-Done : goal.call-returns-in-Done
 call-returns-in-Done t c = record {
-  ran = jump-end (declared_in c.args.t.now) (at c.args.left.now c.args.p.now c.args.log.now) (at c.loop-left.left c.loop-left.p c.loop-left.log) c.args.f.now (list_values c.args.vs.items) c.loop-left.callee.now (list_values c.loop-left.args.items) (at c.eval.new.left c.eval.new.p c.eval.new.log) (Ok c.in-Done.v) (omega arith) c.loop-left.invariant.ran (entered-as (declared_in c.args.t.now) (at (c.loop-left.left - 1) c.loop-left.p c.loop-left.log) (at c.eval.new.left c.eval.new.p c.eval.new.log) (Ok (Done c.in-Done.v)) c.loop-left.callee.now (list_values c.loop-left.args.items) (fun_tree c.in-Some.function.now) (scope_of c.enter.new.scope.items []) c.in-Some.ensures (c.in_ok-enter-in-Some.ensures ∙ ap (λ l. entered (list_named_types l) (list_values c.loop-left.args.items) (scope_of c.clear.new.self.items [])) c.deref.ensures.value ∙ ap (λ l. entered (list_named_types c.in-Some.function.now.params.items) (list_values c.loop-left.args.items) (scope_of l [])) c.clear.ensures.items) (of-step (declared_in c.args.t.now) (at (c.loop-left.left - 1) c.loop-left.p c.loop-left.log) (at c.eval.new.left c.eval.new.p c.eval.new.log) _ (Done c.in-Done.v) (λ call now. evaluated (declared_in c.args.t.now) call (tree_of c.in-Some.function.now.body) (scope_of c.enter.new.scope.items []) now) c.in-Done.is c.in_ok-v-in-Some.ensures.ran));
+  ran = jump-end (declared_in c.args.t.now) (at c.args.left.now c.args.p.now c.args.log.now) (at c.loop-left.left c.loop-left.p c.loop-left.log) c.args.f.now (list_values c.args.vs.items) c.loop-left.callee.now (list_values c.loop-left.args.items) c.follow.new.self (record { log = c.in_ok-follow-in-Some.ensures.log; trail = c.in_ok-follow-in-Some.ensures.trail }) (turned (declared_in c.args.t.now) c.loop-left.log c.follow.new.self c.loop-left.callee.now c.in-Some.place (record { log = c.in_ok-follow-in-Some.ensures.log; trail = c.in_ok-follow-in-Some.ensures.trail }) c.in_ok-follow-in-Some.ensures.called c.in-Some.ensures.place) (omega arith) c.loop-left.invariant.ran (at c.eval.new.left c.eval.new.p c.eval.new.log) (Ok c.in-Done.v) (entered-as (declared_in c.args.t.now) (at (c.loop-left.left - 1) c.loop-left.p c.follow.new.self) (at c.eval.new.left c.eval.new.p c.eval.new.log) (Ok (Done c.in-Done.v)) c.loop-left.callee.now (list_values c.loop-left.args.items) (fun_tree c.in-Some.function.now) (scope_of c.enter.new.scope.items []) c.in-Some.ensures.function (c.in_ok-enter-in-Some.ensures ∙ ap (λ l. entered (list_named_types l) (list_values c.loop-left.args.items) (scope_of c.clear.new.self.items [])) c.deref.ensures.value ∙ ap (λ l. entered (list_named_types c.in-Some.function.now.params.items) (list_values c.loop-left.args.items) (scope_of l [])) c.clear.ensures.items) (of-step (declared_in c.args.t.now) (at (c.loop-left.left - 1) c.loop-left.p c.follow.new.self) (at c.eval.new.left c.eval.new.p c.eval.new.log) _ (Done c.in-Done.v) (λ call now. evaluated (declared_in c.args.t.now) call (tree_of c.in-Some.function.now.body) (scope_of c.enter.new.scope.items []) now) c.in-Done.is c.in_ok-v-in-Some.ensures.ran));
   left = (let a : c.eval.new.left ≤ c.loop-left.left - 1 = c.in_ok-v-in-Some.ensures.left in let b : c.loop-left.left ≤ c.args.left.now = c.loop-left.invariant.left in omega arith);
 }
 
 pub call-loop-left-preserved : goal.call-loop-left-preserved
 call-loop-left-preserved t c =
-    record { ran = jump-more (declared_in c.args.t.now) (at c.args.left.now c.args.p.now c.args.log.now) (at c.loop-left.left c.loop-left.p c.loop-left.log) c.args.f.now (list_values c.args.vs.items) c.loop-left.callee.now (list_values c.loop-left.args.items) (at c.eval.new.left c.eval.new.p c.eval.new.log) c.in-Again.next c.in-Again.values (omega arith) c.loop-left.invariant.ran (entered-as (declared_in c.args.t.now) (at (c.loop-left.left - 1) c.loop-left.p c.loop-left.log) (at c.eval.new.left c.eval.new.p c.eval.new.log) (Ok (Again c.in-Again.next c.in-Again.values)) c.loop-left.callee.now (list_values c.loop-left.args.items) (fun_tree c.in-Some.function.now) (scope_of c.enter.new.scope.items []) c.in-Some.ensures (c.in_ok-enter-in-Some.ensures ∙ ap (λ l. entered (list_named_types l) (list_values c.loop-left.args.items) (scope_of c.clear.new.self.items [])) c.deref.ensures.value ∙ ap (λ l. entered (list_named_types c.in-Some.function.now.params.items) (list_values c.loop-left.args.items) (scope_of l [])) c.clear.ensures.items) (of-step (declared_in c.args.t.now) (at (c.loop-left.left - 1) c.loop-left.p c.loop-left.log) (at c.eval.new.left c.eval.new.p c.eval.new.log) _ (Again c.in-Again.next c.in-Again.values) (λ call now. evaluated (declared_in c.args.t.now) call (tree_of c.in-Some.function.now.body) (scope_of c.enter.new.scope.items []) now) c.in-Again.is c.in_ok-v-in-Some.ensures.ran)); left = (let a : c.eval.new.left ≤ c.loop-left.left - 1 = c.in_ok-v-in-Some.ensures.left in let b : c.loop-left.left ≤ c.args.left.now = c.loop-left.invariant.left in omega arith) }
+    record { ran = jump-more (declared_in c.args.t.now) (at c.args.left.now c.args.p.now c.args.log.now) (at c.loop-left.left c.loop-left.p c.loop-left.log) c.args.f.now (list_values c.args.vs.items) c.loop-left.callee.now (list_values c.loop-left.args.items) c.follow.new.self (record { log = c.in_ok-follow-in-Some.ensures.log; trail = c.in_ok-follow-in-Some.ensures.trail }) (turned (declared_in c.args.t.now) c.loop-left.log c.follow.new.self c.loop-left.callee.now c.in-Some.place (record { log = c.in_ok-follow-in-Some.ensures.log; trail = c.in_ok-follow-in-Some.ensures.trail }) c.in_ok-follow-in-Some.ensures.called c.in-Some.ensures.place) (omega arith) c.loop-left.invariant.ran (at c.eval.new.left c.eval.new.p c.eval.new.log) c.in-Again.next c.in-Again.values (entered-as (declared_in c.args.t.now) (at (c.loop-left.left - 1) c.loop-left.p c.follow.new.self) (at c.eval.new.left c.eval.new.p c.eval.new.log) (Ok (Again c.in-Again.next c.in-Again.values)) c.loop-left.callee.now (list_values c.loop-left.args.items) (fun_tree c.in-Some.function.now) (scope_of c.enter.new.scope.items []) c.in-Some.ensures.function (c.in_ok-enter-in-Some.ensures ∙ ap (λ l. entered (list_named_types l) (list_values c.loop-left.args.items) (scope_of c.clear.new.self.items [])) c.deref.ensures.value ∙ ap (λ l. entered (list_named_types c.in-Some.function.now.params.items) (list_values c.loop-left.args.items) (scope_of l [])) c.clear.ensures.items) (of-step (declared_in c.args.t.now) (at (c.loop-left.left - 1) c.loop-left.p c.follow.new.self) (at c.eval.new.left c.eval.new.p c.eval.new.log) _ (Again c.in-Again.next c.in-Again.values) (λ call now. evaluated (declared_in c.args.t.now) call (tree_of c.in-Some.function.now.body) (scope_of c.enter.new.scope.items []) now) c.in-Again.is c.in_ok-v-in-Some.ensures.ran)); left = (let a : c.eval.new.left ≤ c.loop-left.left - 1 = c.in_ok-v-in-Some.ensures.left in let b : c.loop-left.left ≤ c.args.left.now = c.loop-left.invariant.left in omega arith) }
 
 pub call-eval-requires : goal.call-eval-requires
 call-eval-requires t c =
-    (let f = falls_call c.loop-left.left c.args.left.now (span (declared_in c.args.t.now).functions) (8 * weight (tree_of c.in-Some.function.now.body)) (omega arith) c.loop-left.invariant.left (body-below (declared_in c.args.t.now).functions c.loop-left.callee.now (fun_tree c.in-Some.function.now) c.in-Some.ensures) in omega (arith, f, c.decreases), tt)
+    (let f = falls_call c.loop-left.left c.args.left.now (span (declared_in c.args.t.now).functions) (8 * weight (tree_of c.in-Some.function.now.body)) (omega arith) c.loop-left.invariant.left (body-below (declared_in c.args.t.now).functions c.loop-left.callee.now (fun_tree c.in-Some.function.now) c.in-Some.ensures.function) in omega (arith, f, c.decreases), tt)
 
 pub each-returns-in_err-vs : goal.each-returns-in_err-vs
 each-returns-in_err-vs t c = record {
@@ -385,7 +401,7 @@ statement-returns-in_ok-bind-in-Let t c = record {
 
 pub statement-returns-in-Store : goal.statement-returns-in-Store
 statement-returns-in-Store t c = record {
-  ran = subst (λ st. RanScope (declared_in c.args.t.now) (at c.args.left.now c.args.p.now c.args.log.now) (at c.store.new.left c.store.new.p c.store.new.log) c.store.result (scope_of c.store.new.scope.items []) (λ call now. run_one (declared_in c.args.t.now) call st (scope_of c.args.scope.now.items []) now)) (sym (store-is c.args.st.now c.in-Store.m c.in-Store.a c.in-Store.e c.in-Store.field-3 c.in-Store.is)) (c.store.ensures.ran);
+  ran = subst (λ st. RanScope (declared_in c.args.t.now) (at c.args.left.now c.args.p.now c.args.log.now) (at c.store.new.left c.store.new.p c.store.new.log) c.store.result (scope_of c.store.new.scope.items []) (λ call now. run_one (declared_in c.args.t.now) call st (scope_of c.args.scope.now.items []) now)) (sym (store-is c.args.st.now c.in-Store.m c.in-Store.a c.in-Store.e c.in-Store.span c.in-Store.is)) (c.store.ensures.ran);
   left = c.store.ensures.left;
   extends = c.store.ensures.extends;
 }
@@ -396,25 +412,25 @@ statement-settled-requires t c =
 
 pub statement-store-requires : goal.statement-store-requires
 statement-store-requires t c =
-    (let w : weight_statement (statement_tree c.args.st.now) ≡ 1 + (weight (tree_of c.in-Store.a) + weight (tree_of c.in-Store.e)) = ap weight_statement (store-is c.args.st.now c.in-Store.m c.in-Store.a c.in-Store.e c.in-Store.field-3 c.in-Store.is) in omega (arith, w, c.decreases), tt)
+    (let w : weight_statement (statement_tree c.args.st.now) ≡ 1 + (weight (tree_of c.in-Store.a) + weight (tree_of c.in-Store.e)) = ap weight_statement (store-is c.args.st.now c.in-Store.m c.in-Store.a c.in-Store.e c.in-Store.span c.in-Store.is) in omega (arith, w, c.decreases), tt)
 
 pub store-returns-in_err-at : goal.store-returns-in_err-at
 store-returns-in_err-at t c = record {
-  ran = (let p = err_from_is_err_and c.from_residual.result c.from_residual.ensures.1 in rw (p.1, p.2) (store-stop (declared_in c.args.t.now) (at c.args.left.now c.args.p.now c.args.log.now) (at c.settled.new.left c.settled.new.p c.settled.new.log) c.args.m (tree_of c.args.a.now) (tree_of c.args.e.now) (scope_of c.args.scope.now.items []) (scope_of c.settled.new.scope.items []) _ c.in_err-at.ensures.ran));
+  ran = (let p = err_from_is_err_and c.from_residual.result c.from_residual.ensures.1 in rw (p.1, p.2) (store-stop (declared_in c.args.t.now) (at c.args.left.now c.args.p.now c.args.log.now) (at c.settled.new.left c.settled.new.p c.settled.new.log) c.args.span c.args.m (tree_of c.args.a.now) (tree_of c.args.e.now) (scope_of c.args.scope.now.items []) (scope_of c.settled.new.scope.items []) _ c.in_err-at.ensures.ran));
   left = c.in_err-at.ensures.left;
   extends = c.in_err-at.ensures.extends;
 }
 
 pub store-returns-in_err-v : goal.store-returns-in_err-v
 store-returns-in_err-v t c = record {
-  ran = (let p = err_from_is_err_and c.from_residual-in_err-v.result c.from_residual-in_err-v.ensures.1 in rw (p.1, p.2) (store-stop_value (declared_in c.args.t.now) (at c.args.left.now c.args.p.now c.args.log.now) (at c.settled.new.left c.settled.new.p c.settled.new.log) c.args.m (tree_of c.args.a.now) (tree_of c.args.e.now) (scope_of c.args.scope.now.items []) (at c.settled-2.new.left c.settled-2.new.p c.settled-2.new.log) (scope_of c.settled-2.new.scope.items []) c.in_ok-at.at _ c.in_ok-at.ensures.ran (in-scope_value (declared_in c.args.t.now) (at c.settled.new.left c.settled.new.p c.settled.new.log) (at c.settled-2.new.left c.settled-2.new.p c.settled-2.new.log) (Err c.in_err-v.field-0.0) (tree_of c.args.e.now) _ _ c.in_ok-at.ensures.same c.in_err-v.ensures.ran)));
+  ran = (let p = err_from_is_err_and c.from_residual-in_err-v.result c.from_residual-in_err-v.ensures.1 in rw (p.1, p.2) (store-stop_value (declared_in c.args.t.now) (at c.args.left.now c.args.p.now c.args.log.now) (at c.settled.new.left c.settled.new.p c.settled.new.log) c.args.span c.args.m (tree_of c.args.a.now) (tree_of c.args.e.now) (scope_of c.args.scope.now.items []) (at c.settled-2.new.left c.settled-2.new.p c.settled-2.new.log) (scope_of c.settled-2.new.scope.items []) c.in_ok-at.at _ c.in_ok-at.ensures.ran (in-scope_value (declared_in c.args.t.now) (at c.settled.new.left c.settled.new.p c.settled.new.log) (at c.settled-2.new.left c.settled-2.new.p c.settled-2.new.log) (Err c.in_err-v.field-0.0) (tree_of c.args.e.now) _ _ c.in_ok-at.ensures.same c.in_err-v.ensures.ran)));
   left = fewer c.settled-2.new.left c.settled.new.left c.args.left.now c.in_err-v.ensures.left c.in_ok-at.ensures.left;
   extends = extends-from c.args.scope.now.items c.settled.new.scope.items c.settled-2.new.scope.items c.in_ok-at.ensures.same c.in_err-v.ensures.extends;
 }
 
 pub store-returns : goal.store-returns
 store-returns t c = record {
-  ran = store-scope (declared_in c.args.t.now) (at c.args.left.now c.args.p.now c.args.log.now) (at c.settled-2.new.left c.stored.new.p c.stored.new.log) c.stored.result (λ call now. then_stated (evaluated (declared_in c.args.t.now) call (tree_of c.args.a.now) (scope_of c.args.scope.now.items []) now) (λ v next. then_stated (evaluated (declared_in c.args.t.now) call (tree_of c.args.e.now) (scope_of c.args.scope.now.items []) next) (λ w last. store (scope_of c.args.scope.now.items []) c.args.m (word_of v) (words_of w) last))) _ _ (c.in_ok-v.ensures.same ∙ c.in_ok-at.ensures.same) (store-done (declared_in c.args.t.now) (at c.args.left.now c.args.p.now c.args.log.now) (at c.settled.new.left c.settled.new.p c.settled.new.log) c.args.m (tree_of c.args.a.now) (tree_of c.args.e.now) (scope_of c.args.scope.now.items []) (at c.settled-2.new.left c.settled-2.new.p c.settled-2.new.log) (at c.settled-2.new.left c.stored.new.p c.stored.new.log) (scope_of c.args.scope.now.items []) c.in_ok-at.at c.in_ok-v.v c.word_in.result c.stored.result c.word_in.ensures c.in_ok-at.ensures.ran (in-scope_value (declared_in c.args.t.now) (at c.settled.new.left c.settled.new.p c.settled.new.log) (at c.settled-2.new.left c.settled-2.new.p c.settled-2.new.log) (Ok c.in_ok-v.v) (tree_of c.args.e.now) _ _ c.in_ok-at.ensures.same c.in_ok-v.ensures.ran) (c.stored.ensures (declared_in c.args.t.now) c.settled-2.new.left (scope_of c.args.scope.now.items [])));
+  ran = store-scope (declared_in c.args.t.now) (at c.args.left.now c.args.p.now c.args.log.now) (at c.settled-2.new.left c.stored.new.p c.stored.new.log) c.stored.result (λ call now. then_stated (evaluated (declared_in c.args.t.now) call (tree_of c.args.a.now) (scope_of c.args.scope.now.items []) now) (λ v next. then_stated (evaluated (declared_in c.args.t.now) call (tree_of c.args.e.now) (scope_of c.args.scope.now.items []) next) (λ w last. store c.args.span (scope_of c.args.scope.now.items []) c.args.m (word_of v) (words_of w) last))) _ _ (c.in_ok-v.ensures.same ∙ c.in_ok-at.ensures.same) (store-done (declared_in c.args.t.now) (at c.args.left.now c.args.p.now c.args.log.now) (at c.settled.new.left c.settled.new.p c.settled.new.log) c.args.span c.args.m (tree_of c.args.a.now) (tree_of c.args.e.now) (scope_of c.args.scope.now.items []) (at c.settled-2.new.left c.settled-2.new.p c.settled-2.new.log) (at c.settled-2.new.left c.stored.new.p c.stored.new.log) (scope_of c.args.scope.now.items []) c.in_ok-at.at c.in_ok-v.v c.word_in.result c.stored.result c.word_in.ensures c.in_ok-at.ensures.ran (in-scope_value (declared_in c.args.t.now) (at c.settled.new.left c.settled.new.p c.settled.new.log) (at c.settled-2.new.left c.settled-2.new.p c.settled-2.new.log) (Ok c.in_ok-v.v) (tree_of c.args.e.now) _ _ c.in_ok-at.ensures.same c.in_ok-v.ensures.ran) (c.stored.ensures (declared_in c.args.t.now) c.settled-2.new.left (scope_of c.args.scope.now.items [])));
   left = fewer c.settled-2.new.left c.settled.new.left c.args.left.now c.in_ok-v.ensures.left c.in_ok-at.ensures.left;
   extends = extends-same c.args.scope.now.items c.settled-2.new.scope.items (c.in_ok-v.ensures.same ∙ c.in_ok-at.ensures.same);
 }

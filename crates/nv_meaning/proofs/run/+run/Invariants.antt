@@ -5,7 +5,7 @@ use Rattle.nv_values.specs.inner.View.{list_values, scope_of, Extends}
 use Rattle.nv_meaning.specs.inner.Ran.{at}
 use Rattle.nv_meaning.specs.inner.Weight.{weight, weight_all, weight_named, weight_statement, weight_statements, span}
 use Rattle.nv_meaning.proofs.Arms.{Front, FrontNamed, Led}
-use Rattle.nv_meaning.proofs.Choices.{Jumped}
+use Rattle.nv_meaning.proofs.Jumps.{Jumped}
 use Rattle.nv_meaning.proofs.run.+run.Given as goal
 
 -- the call that was made is the call that is made now

@@ -1,5 +1,5 @@
-use Rattle.flat_declarations.proofs.Sources.{numbers-more}
-use Rattle.flat_declarations.proofs.source.add_numbers.Goals as goal
+use Rattle.nv_meaning.proofs.Grouped.{numbers-more}
+use Rattle.nv_meaning.proofs.grouping.add_numbers.Goals as goal
 
 pub loop-preserved : goal.loop-preserved
 loop-preserved c =

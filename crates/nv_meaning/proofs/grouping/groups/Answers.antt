@@ -1,6 +1,6 @@
 use Rattle.std.proofs.Common.{arith}
-use Rattle.flat_declarations.proofs.Sources.{groups-turn, groups-done}
-use Rattle.flat_declarations.proofs.source.groups.Goals as goal
+use Rattle.nv_meaning.proofs.Grouped.{groups-turn, groups-done}
+use Rattle.nv_meaning.proofs.grouping.groups.Goals as goal
 
 pub loop-decl-preserved : goal.loop-decl-preserved
 loop-decl-preserved c =
