@@ -11,7 +11,7 @@ pub mod Loads
 pub mod Saves
 pub mod Named
 pub mod Begun
-pub mod CompileOutcome
+pub mod CompileResults
 pub mod Complete
 pub mod Asked
 pub mod Weighed

@@ -196,8 +196,8 @@ pub fn outcome_evenly<'a>(
     outcome_of_report(alloc, text, options, &ones)
 }
 
-// The same where the labels of the source's form have these weights.
-fn outcome_of_report<'a>(
+/// The code of a source and the report on its banks, or the report alone, where the labels of its form have these weights.
+pub fn outcome_of_report<'a>(
     alloc: Global,
     text: &[u8],
     options: Options,
@@ -258,8 +258,8 @@ fn code_made<'a>(
     made
 }
 
-// The object of the code of a source, with the names of its exceptions, and where its labels start.
-fn object_of(
+/// The object of the code of a source, with the names of its exceptions, and where its labels start.
+pub fn object_of(
     alloc: Global,
     text: &[u8],
     program: &Program,

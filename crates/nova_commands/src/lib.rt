@@ -16,6 +16,8 @@ mod source;
 mod top;
 
 pub use build::{CompileError, Compiled, compile_text};
+pub use compile::{CompileOutcome, object_of, outcome_of_report};
+pub use execute::exec_bytes;
 pub use label_weights::Weights;
 pub use load::load_inputs;
 pub use perform::work;

@@ -1,4 +1,4 @@
-use Rattle.nova_commands.proofs.CompileOutcome.{two-files, told-by}
+use Rattle.nova_commands.proofs.CompileResults.{two-files, told-by}
 use Rattle.nova_commands.proofs.compile.both_made.Goals as goal
 
 pub returns-clause-saves : goal.returns-clause-saves

@@ -1,4 +1,4 @@
-use Rattle.nova_commands.proofs.CompileOutcome.{found-savable}
+use Rattle.nova_commands.proofs.CompileResults.{found-savable}
 use Rattle.nova_commands.proofs.compile.compile_under.Goals as goal
 
 pub outcome_made-requires-clause-found : goal.outcome_made-requires-clause-found

@@ -1,6 +1,6 @@
 use Rattle.zo_cert.specs.Contents.{report_contents}
 use Rattle.zo_cert.specs.ReportText.{report_text}
-use Rattle.nova_commands.proofs.CompileOutcome.{infeasible-found}
+use Rattle.nova_commands.proofs.CompileResults.{infeasible-found}
 use Rattle.nova_commands.proofs.compile.infeasible_made.Goals as goal
 
 pub returns-clause-made : goal.returns-clause-made

@@ -1,7 +1,7 @@
 use Rattle.std.proofs.Common.{◌∙◌, ap, subst, IfOk}
 use Rattle.uc_object.specs.Object.{IsTaggedObject}
 use Rattle.uc_object.specs.Tagged.{TaggedView}
-use Rattle.nova_commands.proofs.CompileOutcome.{with_exceptions}
+use Rattle.nova_commands.proofs.CompileResults.{with_exceptions}
 use Rattle.nova_commands.proofs.compile.object_of.Goals as goal
 
 pub returns : goal.returns

@@ -1,6 +1,6 @@
 use Rattle.zo_cert.specs.Contents.{report_contents}
 use Rattle.zo_cert.specs.ReportText.{report_text}
-use Rattle.nova_commands.proofs.CompileOutcome.{spent-found}
+use Rattle.nova_commands.proofs.CompileResults.{spent-found}
 use Rattle.nova_commands.proofs.compile.spent_made.Goals as goal
 
 pub returns-clause-made : goal.returns-clause-made
