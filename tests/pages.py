@@ -8,6 +8,13 @@ TOP = os.path.dirname(os.path.dirname(os.path.realpath(__file__)))
 PAGE = '            Page {{\n                name: "{}",\n                text: r#"{}"#,\n            }},\n'
 # How many pages a function has: a function with many is dear to prove.
 MOST = 8
+# Each file's word, what its pages are of, and the chapters that have them.
+FILES = {
+    "type": ("the kinds of type faults", ["Types"]),
+    "source": ("the text faults, the sizes, the store and the banks", ["Text", "Sizes", "Store", "Banks"]),
+    "input": ("the texts that aren't sources", ["Other texts"]),
+    "status": ("the other statuses", ["Statuses"]),
+}
 HEAD = """//! Pages of docs/FAULTS.md, written by tests/pages.py.
 
 use crate::pages::{{Page, page_among}};
@@ -29,11 +36,12 @@ fn {}_page_{}(name: &[u8]) -> Option<&'static str> {{
 
 
 def sections(document):
-    """The heading and the text of each section of the third level."""
-    for part in re.split(r"^### ", document, flags=re.M)[1:]:
-        part = re.split(r"^## ", part, flags=re.M)[0]
-        heading, _, text = part.partition("\n")
-        yield heading, text.strip("\n")
+    """The chapter, the heading and the text of each section of the third level."""
+    for chapter in re.split(r"^## ", document, flags=re.M)[1:]:
+        title, _, text = chapter.partition("\n")
+        for part in re.split(r"^### ", text, flags=re.M)[1:]:
+            heading, _, body = part.partition("\n")
+            yield title, heading, body.strip("\n")
 
 
 def plain(text):
@@ -49,23 +57,19 @@ def plain(text):
     return re.sub(r"\n\n+", "\n\n", "\n".join(lines))
 
 
-def pages(document):
-    """The name and the text of each page. A section whose heading has several names is the page of each."""
-    for heading, text in sections(document):
-        for name in heading.split(":")[0].split(", "):
-            yield name, f"{heading}\n\n{plain(text)}\n"
+def pages(document, chapters):
+    """The name and the text of each page of some chapters. A section whose heading has several names is the page of each."""
+    for title, heading, text in sections(document):
+        if title in chapters:
+            for name in heading.split(":")[0].split(", "):
+                yield name, f"{heading}\n\n{plain(text)}\n"
 
 
 def files(top=TOP):
     """The text of each file that is made."""
     with open(os.path.join(top, "docs", "FAULTS.md"), encoding="utf-8") as it:
-        found = list(pages(it.read()))
-    types = [it for it in found if it[0].startswith("type ")]
-    others = [it for it in found if it not in types]
-    return {
-        "type_pages.rt": made("the kinds of type faults", "type", types),
-        "other_pages.rt": made("the text faults, the statuses and the other lines", "other", others),
-    }
+        document = it.read()
+    return {f"{word}_pages.rt": made(what, word, list(pages(document, chapters))) for word, (what, chapters) in FILES.items()}
 
 
 def made(what, word, found):

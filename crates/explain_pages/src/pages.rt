@@ -1,6 +1,8 @@
 //! Pages of docs/FAULTS.md by their names.
 
-use crate::other_pages::other_page;
+use crate::input_pages::input_page;
+use crate::source_pages::source_page;
+use crate::status_pages::status_page;
 use crate::type_pages::type_page;
 
 /// A page: its name, and its text.
@@ -12,7 +14,10 @@ pub struct Page {
 
 /// The text of the page of a name.
 pub fn page_of(name: &[u8]) -> Option<&'static str> {
-    type_page(name).or(other_page(name))
+    type_page(name)
+        .or(source_page(name))
+        .or(input_page(name))
+        .or(status_page(name))
 }
 
 /// The text of the page of a name among some pages.
