@@ -5,7 +5,7 @@ use Rattle.std.proofs.lemmas.Bool.{cases_eq, cases_lt, lt-leb}
 use Rattle.std.specs.Int.{bit_at, bit_not, w128}
 use Rattle.std.proofs.Math.Nat.{mod-eq_of_lt}
 use Rattle.std.proofs.Math.Pow.{pow-lt}
-use Rattle.std.proofs.lemmas.Nat.Bits.{bit_at_or, bit_at_and, bit_at_not, bit_at-lt, bit_at-pow_same, bit_at-pow_other}
+use Rattle.std.proofs.lemmas.Nat.Bits.{bit_at_or, bit_at_and, bit_at_not, bit_at-lt, bit_at-pow_same, bit_at-pow_other, bit_at_mask_below, bit_at_mask_inside, bit_at_mask_above}
 use Rattle.uc_isa.specs.Registers.{IsRegister, Register}
 use Rattle.uc_isa.specs.Registers.Register.{InA, InB, InL, InLD, InS, InSD}
 use Rattle.uc_peep.specs.Sets.{has}
@@ -228,20 +228,15 @@ run-sd r c (In (InSD k)) fits h = sym (within-shifted 56 r c k)
 run-sd r c Zero fits h = sym (within-above (56 + r) c _ (omega arith))
 run-sd r c Carry fits h = sym (within-above (56 + r) c _ (omega arith))
 
-pub within_none : (r k : ℕ) → is_within r 0 k ≡ false
-within_none r k = ⊎_elim (λ (lt : k < r). within-below r 0 k lt) (λ (le : r ≤ k). within-above r 0 k (omega arith)) (cases_lt k r)
-
-pub within_more : (r c k : ℕ) → is_within r (c + 1) k ≡ (is_within r c k || nat_eq k (r + c))
-within_more r c k = ⊎_elim
-    (λ (lt : k < r). within-below r (c + 1) k lt ∙ sym (ap (λ t. t || nat_eq k (r + c)) (within-below r c k lt) ∙ ne_eqb k (r + c) (λ e. omega arith)))
-    (λ (le : r ≤ k). ⊎_elim
-    (λ (lt : k < r + c). inside (c + 1) le (omega arith) ∙ sym (ap (λ t. t || nat_eq k (r + c)) (inside c le lt)))
-    (λ (far : r + c ≤ k). ⊎_elim
-    (λ (e : k ≡ r + c). inside (c + 1) le (omega arith) ∙ sym (ap (λ t. t || nat_eq k (r + c)) (within-above r c k far) ∙ eq-eqb k (r + c) e))
-    (λ (other : ¬ (k ≡ r + c)). within-above r (c + 1) k (omega arith) ∙ sym (ap (λ t. t || nat_eq k (r + c)) (within-above r c k far) ∙ ne_eqb k (r + c) other))
-    (cases_eq k (r + c)))
-    (cases_lt k (r + c)))
-    (cases_lt k r)
+-- the bits from r on, of which there are c
+pub has-run : (r c : ℕ) (s : Resource) → has (2 ^ (r + c) - 2 ^ r) s ≡ is_within r c (number s)
+has-run r c s = ⊎_elim
+    (λ (lt : number s < r). ap (λ n. nat_eq n 1) (bit_at_mask_below r (r + c) (number s) lt) ∙ sym (within-below r c (number s) lt))
+    (λ (le : r ≤ number s). ⊎_elim
+    (λ (lt : number s < r + c). ap (λ n. nat_eq n 1) (bit_at_mask_inside r (r + c) (number s) le lt) ∙ sym (inside le lt))
+    (λ (far : r + c ≤ number s). ap (λ n. nat_eq n 1) (bit_at_mask_above r (r + c) (number s) far) ∙ sym (within-above r c (number s) far))
+    (cases_lt (number s) (r + c)))
+    (cases_lt (number s) r)
   where
-    inside : (c : ℕ) → r ≤ k → k < r + c → is_within r c k ≡ true
-    inside c le lt = ap (λ t. t && nat_lt k (r + c)) (le-leb r k le) ∙ lt-ltb k (r + c) lt
+    inside : r ≤ number s → number s < r + c → is_within r c (number s) ≡ true
+    inside le lt = ap (λ t. t && nat_lt (number s) (r + c)) (le-leb r (number s) le) ∙ lt-ltb (number s) (r + c) lt

@@ -64,11 +64,9 @@ impl LiveSet {
         requires { first + n ≤ 64 }
         ensures { (s : Resource) → IsResource s → has result s ≡ is_within first n (number s) }
     {
-        let mut set = LiveSet::none();
-        for k in 0..n {
-            set = set.with(LiveSet::one(first + k));
-        }
-        set
+        let end: u128 = 1 << (first + n);
+        let start: u128 = 1 << first;
+        LiveSet { bits: end - start }
     }
 
     pub(crate) fn source(x: &Src) -> LiveSet
