@@ -1,8 +1,14 @@
 //! The values, uses and accesses of a form in tables.
 
-ghost use Rattle.std.specs.Prelude.{◌≡◌, true, map, IfOk};
+ghost use Rattle.std.specs.Prelude.{◌≡◌, ℕ, nat_eq, true, map, IfOk};
+ghost use Rattle.std.specs.HashMap.{get};
+ghost use Rattle.ssu_ir.specs.Points.{points};
 ghost use Rattle.ssu_ir.specs.Single.{single};
-ghost use Rattle.ssu_ir.specs.View.{labels_view};
+ghost use Rattle.ssu_ir.specs.Slots.{bare_all};
+ghost use Rattle.ssu_ir.specs.View.{labels_view, placed_of};
+ghost use Rattle.ssu_liveness.specs.LiveRows.{items_of};
+ghost use Rattle.ssu_liveness.specs.inner.Live.{source_among, value_by, labels_rows};
+ghost use Rattle.ssu_liveness.specs.inner.PointIds.{kind_of_point};
 ghost use Rattle.placement.specs.Uses.{uses_of, is_used};
 ghost use Rattle.placement.specs.Fits.{parameter};
 ghost use Rattle.bank_form.specs.Columns.{origin_of, is_fetched};
@@ -11,6 +17,7 @@ ghost use Rattle.bank_form.specs.inner.Form.{AreTables, origin_view, use_view};
 use crate::tables::tables_of;
 use nv_base::{Mem, NoMemory};
 use ssu_ir::Ssu;
+use ssu_liveness::{Copies, PointId, all_rows, copies_of, point_ids_of};
 use std::alloc::Global;
 use std::collections::HashMap;
 
@@ -99,11 +106,17 @@ pub struct Tables {
     pub users: HashMap<u32, Vec<Use>>,
 }
 
-/// A form with its tables.
+/// A form with its tables: its points, of each name that is a clone the value, the live values at each point, and the rest.
 #[derive(Drop)]
 pub struct Form<'a> {
     pub ssu: &'a Ssu,
+    pub point_ids: Vec<PointId>,
+    pub copies: Copies,
+    pub live: Vec<Vec<u32>>,
     pub tables: Tables,
+    ghost in_order: { map (kind_of_point ssu.now) point_ids.items ≡ map (λ p. p.place) (points (labels_view ssu.now)) },
+    ghost sources: { (z : ℕ) → get nat_eq copies z ≡ source_among (bare_all (placed_of ssu.now)) z },
+    ghost rows: { items_of live.items ≡ labels_rows (value_by (get nat_eq copies)) (labels_view ssu.now) },
     ghost right: { AreTables (labels_view ssu.now) tables },
 }
 
@@ -112,8 +125,17 @@ pub fn form_of(alloc: Global, s: &Ssu) -> Result<Form<'_>, NoMemory>
     requires { single (labels_view s.now) ≡ true }
     ensures { IfOk result (λ f. f.ssu.now ≡ s.now) }
 {
-    let tables = tables_of(alloc, s)?;
-    Ok(Form { ssu: s, tables })
+    let point_ids = point_ids_of(alloc, s)?;
+    let copies = copies_of(alloc, s)?;
+    let live = all_rows(alloc, s, &copies)?;
+    let tables = tables_of(alloc, s, &copies, &point_ids)?;
+    Ok(Form {
+        ssu: s,
+        point_ids,
+        copies,
+        live,
+        tables,
+    })
 }
 
 impl Form<'_> {

@@ -3,12 +3,13 @@
 ghost use Rattle.std.specs.Prelude.{◌≡◌, ◌++◌, ℕ, nat_eq, nat_le, length, map, true, IfOk, OnOk};
 ghost use Rattle.std.specs.HashMap.{get};
 ghost use Rattle.std.specs.List.{flat_map};
+ghost use Rattle.ssu_ir.specs.Points.{points};
 ghost use Rattle.ssu_ir.specs.Single.{single};
-ghost use Rattle.ssu_ir.specs.Slots.{node_of};
+ghost use Rattle.ssu_ir.specs.Slots.{node_of, bare_all};
 ghost use Rattle.ssu_ir.specs.Tree.{node_uses};
-ghost use Rattle.ssu_ir.specs.View.{labels_view};
+ghost use Rattle.ssu_ir.specs.View.{labels_view, placed_of};
 ghost use Rattle.placement.specs.Uses as pure;
-ghost use Rattle.ssu_liveness.specs.inner.Live.{value_by};
+ghost use Rattle.ssu_liveness.specs.inner.Live.{source_among, value_by};
 ghost use Rattle.placement.specs.inner.Parts.{gather};
 ghost use Rattle.ssu_liveness.specs.inner.PointIds.{kind_of_point};
 ghost use Rattle.bank_form.specs.Columns.{origin_in};
@@ -19,7 +20,7 @@ ghost use Rattle.bank_form.specs.inner.Form.{AreTables, value_view, use_view, ac
 use crate::form::{Access, Origin, PointSummary, Role, Tables, Use, Value};
 use nv_base::{Mem, NoMemory};
 use ssu_ir::{Ssu, SsuNode};
-use ssu_liveness::{Copies, PointId, copies_of, point_ids_of, value_of};
+use ssu_liveness::{Copies, PointId, value_of};
 use std::alloc::Global;
 use std::collections::HashMap;
 
@@ -455,14 +456,19 @@ fn all_users(alloc: Global, uses: &[Use]) -> Result<HashMap<u32, Vec<Use>>, NoMe
     Ok(users)
 }
 
-/// The tables of a form.
-pub fn tables_of(alloc: Global, s: &Ssu) -> Result<Tables, NoMemory>
-    requires { single (labels_view s.now) ≡ true }
+/// The tables of a form, by its clones and its points.
+pub fn tables_of(
+    alloc: Global,
+    s: &Ssu,
+    copies: &Copies,
+    point_ids: &[PointId],
+) -> Result<Tables, NoMemory>
+    requires single { single (labels_view s.now) ≡ true }
+    requires copies { (z : ℕ) → get nat_eq copies.now z ≡ source_among (bare_all (placed_of s.now)) z }
+    requires point_ids { map (kind_of_point s.now) point_ids.now ≡ map (λ p. p.place) (points (labels_view s.now)) }
     ensures { IfOk result (AreTables (labels_view s.now)) }
 {
-    let point_ids = point_ids_of(alloc, s)?;
-    let copies = copies_of(alloc, s)?;
-    let summaries = summaries_of(alloc, s, &copies, &point_ids)?;
+    let summaries = summaries_of(alloc, s, copies, point_ids)?;
     let values = all_values(alloc, &summaries)?;
     let uses = all_uses(alloc, &summaries)?;
     let accesses = all_accesses(alloc, &summaries)?;
