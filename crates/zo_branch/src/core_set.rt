@@ -5,10 +5,10 @@
 //! column breaks it.
 
 use crate::tree::Tree;
-use std::alloc::{AllocError, Global};
+use std::alloc::Global;
 use std::mem;
 use zo_model::ZeroOne;
-use zo_relaxation::ONE;
+use zo_relaxation::{ONE, put};
 
 /// Moves of the columns are at least this.
 const TOLERANCE: i64 = ONE >> 12;
@@ -33,7 +33,7 @@ struct Cut {
 
 impl Tree {
     /// The columns fixed behind so many whose reduced costs made the bound, the dearest first.
-    fn members(&self, alloc: Global, from: usize) -> Result<Vec<Member>, AllocError> {
+    fn members(&self, alloc: Global, from: usize) -> Vec<Member> {
         let mut core = Vec::new(alloc);
         for k in from..self.rounds.trail.len() {
             let column = self.rounds.trail.get(k).copied().unwrap_or(u32::MAX);
@@ -42,43 +42,42 @@ impl Tree {
                 let value = it.place == Some(true);
                 let dearness = if value { over.wrapping_neg() } else { over };
                 if dearness < 0 {
-                    core.push((dearness, column, value))?;
+                    put(&mut core, (dearness, column, value));
                 }
             }
         }
         core.sort_unstable();
-        Ok(core)
+        core
     }
 
     /// Fixes one column more as a dive does. Whether the dive goes on.
-    fn dive_on(&mut self, z: &ZeroOne, need: i128) -> Result<bool, AllocError> {
+    fn dive_on(&mut self, z: &ZeroOne, need: i128) -> bool {
         if self.rounds.bound > need || self.rounds.work >= self.rounds.limit {
-            return Ok(false);
+            return false;
         }
         let Some(row) = self.rounds.first_unmet() else {
-            self.rounds.run(z, LAST)?;
-            return Ok(false);
+            self.rounds.run(z, LAST);
+            return false;
         };
         let Some(column) = self.rounds.likeliest(z, row) else {
-            return Ok(false);
+            return false;
         };
-        self.rounds.fix(column, true)?;
-        if !self.rounds.propagate(z)? {
-            self.rounds.run(z, 2 * NEXT)?;
-            return Ok(false);
+        self.rounds.fix(column, true);
+        if !self.rounds.propagate(z) {
+            self.rounds.run(z, 2 * NEXT);
+            return false;
         }
-        self.rounds.run(z, NEXT)?;
-        Ok(true)
+        self.rounds.run(z, NEXT);
+        true
     }
 
     /// A dive until the bound is above `need`.
-    fn dive_closed(&mut self, z: &ZeroOne, need: i128) -> Result<(), AllocError> {
+    fn dive_closed(&mut self, z: &ZeroOne, need: i128) {
         for _ in 0..z.costs.len() {
-            if !self.dive_on(z, need)? {
-                return Ok(());
+            if !self.dive_on(z, need) {
+                return;
             }
         }
-        Ok(())
     }
 
     /// Whether the bound gets above `need` with these columns fixed alone.
@@ -89,20 +88,20 @@ impl Tree {
         trail: usize,
         mark: usize,
         need: i128,
-    ) -> Result<bool, AllocError> {
-        self.rounds.undo(trail)?;
-        self.rounds.roll_back(z, mark)?;
+    ) -> bool {
+        self.rounds.undo(trail);
+        self.rounds.roll_back(z, mark);
         for (_, column, value) in core {
-            self.rounds.fix(*column, *value)?;
+            self.rounds.fix(*column, *value);
         }
         self.rounds.clear_queue();
         for _ in 0..TEST_ROUNDS {
             if self.rounds.is_still() || self.rounds.bound > need {
                 break;
             }
-            self.rounds.round(z)?;
+            self.rounds.round(z);
         }
-        Ok(self.rounds.bound > need)
+        self.rounds.bound > need
     }
 
     /// Tests the core without its last columns, and keeps what closes; else these go to the front.
@@ -114,11 +113,11 @@ impl Tree {
         trail: usize,
         mark: usize,
         need: i128,
-    ) -> Result<(), AllocError> {
+    ) {
         let keep = cut.core.len().saturating_sub(cut.chunk).max(1);
         let kept = cut.core.get(..keep).unwrap_or(&[]);
-        if self.test(z, kept, trail, mark, need)? {
-            let smaller = self.members(alloc, trail)?;
+        if self.test(z, kept, trail, mark, need) {
+            let smaller = self.members(alloc, trail);
             if smaller.is_empty() {
                 cut.core.truncate(keep);
             } else {
@@ -126,12 +125,9 @@ impl Tree {
             }
             cut.chunk = cut.chunk.min(cut.core.len() / 2);
         } else {
-            let mut turned = Vec::from_slice(alloc, cut.core.get(keep..).unwrap_or(&[]))?;
-            turned.extend_from_slice(cut.core.get(..keep).unwrap_or(&[]))?;
-            cut.core = turned;
+            cut.core.rotate_left(keep.min(cut.core.len()));
             cut.chunk /= 2;
         }
-        Ok(())
     }
 
     /// A core of a dive from here.
@@ -142,44 +138,39 @@ impl Tree {
         trail: usize,
         mark: usize,
         need: i128,
-    ) -> Result<Vec<Member>, AllocError> {
-        self.dive_closed(z, need)?;
-        let core = self.members(alloc, trail)?;
+    ) -> Vec<Member> {
+        self.dive_closed(z, need);
+        let core = self.members(alloc, trail);
         let chunk = core.len() / 2;
         let mut cut = Cut { core, chunk };
         for _ in 0..TESTS {
             if cut.core.len() <= 1 || cut.chunk == 0 {
                 break;
             }
-            self.cut_once(alloc, z, &mut cut, trail, mark, need)?;
+            self.cut_once(alloc, z, &mut cut, trail, mark, need);
         }
         let Cut { core, .. } = cut;
-        Ok(core)
+        core
     }
 
     /// The dearest column of a core, if there is one.
-    pub fn core_column(
-        &mut self,
-        alloc: Global,
-        z: &ZeroOne,
-        need: i128,
-    ) -> Result<Option<u32>, AllocError> {
+    pub fn core_column(&mut self, alloc: Global, z: &ZeroOne, need: i128) -> Option<u32> {
         self.rounds.set_aside();
         let tolerance = mem::replace(&mut self.rounds.tolerance, TOLERANCE);
         let mark = self.rounds.log_mark();
         let trail = self.rounds.trail.len();
         let first = self.rounds.first;
         self.rounds.clear_queue();
-        let core = self.cut(alloc, z, trail, mark, need)?;
-        self.rounds.undo(trail)?;
-        self.rounds.roll_back(z, mark)?;
+        let core = self.cut(alloc, z, trail, mark, need);
+        self.rounds.undo(trail);
+        self.rounds.roll_back(z, mark);
         self.rounds.first = first;
         self.rounds.tolerance = tolerance;
         self.rounds.take_aside();
         self.rounds.log_mark();
         match core.first() {
-            Some((_, column, _)) => Ok(Some(*column)),
-            None => Ok(None),
+            Some((_, column, _)) => Some(*column),
+            None => None,
         }
     }
 }

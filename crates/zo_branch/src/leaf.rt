@@ -105,7 +105,7 @@ impl Tree {
         if !self.rounds.has_prices {
             return Ok(None);
         }
-        self.go_to_root(z)?;
+        self.go_to_root(z);
         self.candidate(alloc, &Claim::Least(0), 0)
     }
 }
@@ -178,7 +178,7 @@ pub fn leaf_of(
     ensures closes { IfOk result (λ leaf. IfSome leaf (λ n. ClosesLeaf z.now claim.now (current path.now.fixings) n)) }
     ensures within { IfOk result (λ leaf. IfSome leaf IsNode) }
 {
-    if order.shows(z, claim, &path.fixed().at)? {
+    if order.shows(z, claim, &path.fixed().at) {
         if let Some(leaf) = closing(alloc, z, claim, path, weights, order)? {
             order.note_leaf(&leaf);
             return Ok(Some(leaf));

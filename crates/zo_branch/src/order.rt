@@ -51,10 +51,7 @@ impl Order {
         let Ok(mut tree) = self.tree.try_borrow_mut() else {
             return None;
         };
-        match tree.choice(self.alloc, z, fixed) {
-            Ok(column) => column,
-            Err(_) => None,
-        }
+        tree.choice(self.alloc, z, fixed)
     }
 
     /// An unfixed column on which a branch gains much; where the rounds tell none, the least unfixed column.
@@ -67,15 +64,10 @@ impl Order {
     }
 
     /// Whether the rounds' multipliers show the claim with these columns fixed.
-    pub(crate) fn shows(
-        &self,
-        z: &ZeroOne,
-        claim: &Claim,
-        fixed: &[Option<bool>],
-    ) -> Result<bool, AllocError> {
+    pub(crate) fn shows(&self, z: &ZeroOne, claim: &Claim, fixed: &[Option<bool>]) -> bool {
         match self.tree.try_borrow_mut() {
             Ok(mut tree) => tree.shows(z, claim, fixed),
-            Err(_) => Ok(false),
+            Err(_) => false,
         }
     }
 
@@ -155,7 +147,7 @@ impl Order {
                 if tree.is_later() {
                     tree.open = tree.open.saturating_add(1);
                     let lower = tree.lower;
-                    improve_again(alloc, z, best, &tree.rounds, lower)?;
+                    improve_again(alloc, z, best, &mut tree.rounds, lower)?;
                 }
                 Ok(())
             }

@@ -5,9 +5,9 @@
 //! kept while its score holds. Where no probe gains, a core names the column.
 
 use crate::tree::{FRACTION_LIMIT, Hint, Tree};
-use std::alloc::{AllocError, Global};
+use std::alloc::Global;
 use zo_model::ZeroOne;
-use zo_relaxation::{ONE, quotient};
+use zo_relaxation::{ONE, put, quotient};
 
 /// The probes at the first branch visit so much.
 const WORK: u64 = 60_000_000;
@@ -22,59 +22,49 @@ const LITTLE: i64 = (ONE / 32) * (ONE / 32) / 1_024;
 
 impl Tree {
     /// Puts the columns in doubt of a row after the others.
-    fn add_fractional(
-        &mut self,
-        terms: &[(u32, i32)],
-        columns: &mut Vec<u32>,
-    ) -> Result<(), AllocError> {
+    fn add_fractional(&mut self, terms: &[(u32, i32)], columns: &mut Vec<u32>) {
         for (j, _) in terms {
             if let Some(seen) = self.seen.get_mut(*j as usize) {
                 if *seen != self.stamp && self.rounds.is_free(*j) {
                     *seen = self.stamp;
                     if self.rounds.fractionality(*j) >= FRACTION_LIMIT {
-                        columns.push(*j)?;
+                        put(columns, *j);
                     }
                 }
             }
         }
-        Ok(())
     }
 
     /// The columns in doubt that stand in rows that aren't met.
-    fn fractional(&mut self, alloc: Global, z: &ZeroOne) -> Result<Vec<u32>, AllocError> {
+    fn fractional(&mut self, alloc: Global, z: &ZeroOne) -> Vec<u32> {
         self.stamp = self.stamp.wrapping_add(1);
         let mut columns = Vec::new(alloc);
         for (i, row) in z.rows.iter().enumerate() {
             if !self.rounds.is_row_met(i) {
-                self.add_fractional(&row.terms, &mut columns)?;
+                self.add_fractional(&row.terms, &mut columns);
             }
         }
         self.rounds.spend(z.rows.len());
-        Ok(columns)
+        columns
     }
 
     /// The column that the last node of this depth branched on, where its score holds.
-    fn hinted(&mut self, z: &ZeroOne, need: i128) -> Result<Option<u32>, AllocError> {
+    fn hinted(&mut self, z: &ZeroOne, need: i128) -> Option<u32> {
         let Some(hint) = self.hints.get(self.depth()).copied() else {
-            return Ok(None);
+            return None;
         };
         if !self.rounds.is_free(hint.column) || self.rounds.fractionality(hint.column) < MIDDLE {
-            return Ok(None);
+            return None;
         }
-        let score = self.probe(z, hint.column, need)?;
+        let score = self.probe(z, hint.column, need);
         if score >= quotient(hint.score, 4).wrapping_mul(3) {
-            return Ok(Some(hint.column));
+            return Some(hint.column);
         }
-        Ok(None)
+        None
     }
 
     /// The columns by these keys, the least first.
-    fn ordered(
-        &self,
-        alloc: Global,
-        columns: &[u32],
-        by_score: bool,
-    ) -> Result<Vec<u32>, AllocError> {
+    fn ordered(&self, alloc: Global, columns: &[u32], by_score: bool) -> Vec<u32> {
         let mut keys: Vec<(i64, usize, u32)> = Vec::new(alloc);
         for (k, j) in columns.iter().enumerate() {
             let key = if by_score {
@@ -82,25 +72,19 @@ impl Tree {
             } else {
                 self.rounds.fractionality(*j)
             };
-            keys.push((key.wrapping_neg(), k, *j))?;
+            put(&mut keys, (key.wrapping_neg(), k, *j));
         }
         keys.sort_unstable();
         let mut columns = Vec::new(alloc);
         for key in &keys {
-            columns.push(key.2)?;
+            put(&mut columns, key.2);
         }
-        Ok(columns)
+        columns
     }
 
     /// Probes the columns for the first time, the most doubtful first, or evenly as many as the work allows.
-    fn probe_first(
-        &mut self,
-        alloc: Global,
-        z: &ZeroOne,
-        columns: &[u32],
-        need: i128,
-    ) -> Result<(), AllocError> {
-        let columns = self.ordered(alloc, columns, false)?;
+    fn probe_first(&mut self, alloc: Global, z: &ZeroOne, columns: &[u32], need: i128) {
+        let columns = self.ordered(alloc, columns, false);
         let begun = self.rounds.work;
         let end = begun.saturating_add(WORK);
         let mut step: usize = 1;
@@ -112,10 +96,10 @@ impl Tree {
                 step = usize::try_from(all).unwrap_or(1).max(1);
             }
             if self.rounds.work > end {
-                return Ok(());
+                return;
             }
             if wait == 0 {
-                let score = self.probe(z, *column, need)?;
+                let score = self.probe(z, *column, need);
                 if let Some(it) = self.scores.get_mut(*column as usize) {
                     *it = score;
                 }
@@ -123,16 +107,10 @@ impl Tree {
             }
             wait = wait.saturating_sub(1);
         }
-        Ok(())
     }
 
     /// The column whose probe gains most, probed in the order of old scores.
-    fn best_probed(
-        &mut self,
-        z: &ZeroOne,
-        columns: &[u32],
-        need: i128,
-    ) -> Result<Option<Hint>, AllocError> {
+    fn best_probed(&mut self, z: &ZeroOne, columns: &[u32], need: i128) -> Option<Hint> {
         let mut best: Option<Hint> = None;
         let mut left = PROBES;
         for column in columns {
@@ -143,8 +121,8 @@ impl Tree {
                 }
             }
             left = left.saturating_sub(1);
-            let score = self.probe(z, *column, need)?;
-            self.score(*column, score)?;
+            let score = self.probe(z, *column, need);
+            self.score(*column, score);
             let is_best = match &best {
                 Some(hint) => score > hint.score,
                 None => true,
@@ -156,22 +134,24 @@ impl Tree {
                 });
             }
         }
-        Ok(best)
+        best
     }
 
     /// Notes the column that a node of this depth branched on.
-    fn note(&mut self, hint: Hint) -> Result<(), AllocError> {
+    fn note(&mut self, hint: Hint) {
         let depth = self.depth();
         for _ in self.hints.len()..depth.saturating_add(1) {
-            self.hints.push(Hint {
-                column: u32::MAX,
-                score: 0,
-            })?;
+            put(
+                &mut self.hints,
+                Hint {
+                    column: u32::MAX,
+                    score: 0,
+                },
+            );
         }
         if let Some(it) = self.hints.get_mut(depth) {
             *it = hint;
         }
-        Ok(())
     }
 
     /// Some unfixed column of the first row that isn't met, if there is one.
@@ -186,36 +166,31 @@ impl Tree {
     }
 
     /// The column to branch on where the rounds stand; none where they don't tell.
-    pub fn pick(
-        &mut self,
-        alloc: Global,
-        z: &ZeroOne,
-        need: i128,
-    ) -> Result<Option<u32>, AllocError> {
+    pub fn pick(&mut self, alloc: Global, z: &ZeroOne, need: i128) -> Option<u32> {
         if !self.may_go_on() {
-            return Ok(self.wanted(z));
+            return self.wanted(z);
         }
-        let columns = self.fractional(alloc, z)?;
+        let columns = self.fractional(alloc, z);
         if columns.is_empty() {
-            return Ok(self.wanted(z));
+            return self.wanted(z);
         }
-        if let Some(column) = self.hinted(z, need)? {
-            return Ok(Some(column));
+        if let Some(column) = self.hinted(z, need) {
+            return Some(column);
         }
         if !self.has_scores {
             self.has_scores = true;
-            self.probe_first(alloc, z, &columns, need)?;
+            self.probe_first(alloc, z, &columns, need);
         }
-        let columns = self.ordered(alloc, &columns, true)?;
-        let Some(mut best) = self.best_probed(z, &columns, need)? else {
-            return Ok(self.wanted(z));
+        let columns = self.ordered(alloc, &columns, true);
+        let Some(mut best) = self.best_probed(z, &columns, need) else {
+            return self.wanted(z);
         };
         if best.score < LITTLE {
-            if let Some(column) = self.core_column(alloc, z, need)? {
+            if let Some(column) = self.core_column(alloc, z, need) {
                 best.column = column;
             }
         }
-        self.note(best)?;
-        Ok(Some(best.column))
+        self.note(best);
+        Some(best.column)
     }
 }

@@ -4,7 +4,7 @@ use std::alloc::{AllocError, Global};
 use zo_dive::needed;
 use zo_model::ZeroOne;
 use zo_proof::{CertNode, Claim};
-use zo_relaxation::{ONE, Rounds};
+use zo_relaxation::{ONE, Rounds, put};
 
 /// The rounds of the tree visit N columns, rows and terms; after that nodes are closed without multipliers.
 const WORK: u64 = 1_000_000_000;
@@ -133,18 +133,13 @@ impl Tree {
     }
 
     /// The column to branch on with these columns fixed, if the rounds tell one.
-    pub fn choice(
-        &mut self,
-        alloc: Global,
-        z: &ZeroOne,
-        fixed: &[Option<bool>],
-    ) -> Result<Option<u32>, AllocError> {
+    pub fn choice(&mut self, alloc: Global, z: &ZeroOne, fixed: &[Option<bool>]) -> Option<u32> {
         if !self.has_begun {
             self.begin(0);
         }
         let need = self.need;
-        if self.follow(z, fixed)? {
-            self.runs(z, need)?;
+        if self.follow(z, fixed) {
+            self.runs(z, need);
         }
         self.pick(alloc, z, need)
     }
@@ -170,13 +165,12 @@ impl Tree {
     }
 
     /// Notes a score.
-    pub fn score(&mut self, column: u32, score: i64) -> Result<(), AllocError> {
+    pub fn score(&mut self, column: u32, score: i64) {
         if let Some(it) = self.scores.get_mut(column as usize) {
             let was = *it;
             *it = score;
-            self.changes.push(Scored { column, was })?;
+            put(&mut self.changes, Scored { column, was });
         }
-        Ok(())
     }
 
     /// The score of a column.
@@ -196,63 +190,63 @@ impl Tree {
     }
 
     /// Goes back above the last branch.
-    fn leave(&mut self, z: &ZeroOne) -> Result<(), AllocError> {
+    fn leave(&mut self, z: &ZeroOne) {
         if let Some(arm) = self.arms.pop() {
-            self.rounds.place(arm.column, None)?;
+            self.rounds.place(arm.column, None);
             self.rounds.clear_queue();
-            self.rounds.roll_back(z, arm.log)?;
+            self.rounds.roll_back(z, arm.log);
             self.unscore(arm.scores);
         }
-        Ok(())
     }
 
     /// Goes below one branch more.
-    fn enter(&mut self, column: u32, value: bool) -> Result<(), AllocError> {
+    fn enter(&mut self, column: u32, value: bool) {
         let log = self.rounds.log_mark();
-        self.arms.push(Arm {
-            column,
-            value,
-            log,
-            scores: self.changes.len(),
-        })?;
-        self.rounds.place(column, Some(value))?;
+        put(
+            &mut self.arms,
+            Arm {
+                column,
+                value,
+                log,
+                scores: self.changes.len(),
+            },
+        );
+        self.rounds.place(column, Some(value));
         self.rounds.clear_queue();
-        Ok(())
     }
 
     /// Goes to the node with these columns fixed. Whether it was elsewhere.
-    pub fn follow(&mut self, z: &ZeroOne, fixed: &[Option<bool>]) -> Result<bool, AllocError> {
+    pub fn follow(&mut self, z: &ZeroOne, fixed: &[Option<bool>]) -> bool {
         let standing = self.standing(fixed);
         let mut is_moved = false;
         for _ in standing..self.arms.len() {
-            self.leave(z)?;
+            self.leave(z);
             is_moved = true;
         }
         for (j, place) in fixed.iter().enumerate() {
             if let (Some(value), Ok(j)) = (place, u32::try_from(j)) {
                 if self.rounds.is_free(j) {
-                    self.enter(j, *value)?;
+                    self.enter(j, *value);
                     is_moved = true;
                 }
             }
         }
-        Ok(is_moved)
+        is_moved
     }
 
     /// Goes back above all branches. Where the rounds haven't begun, they do.
-    pub fn go_to_root(&mut self, z: &ZeroOne) -> Result<(), AllocError> {
+    pub fn go_to_root(&mut self, z: &ZeroOne) {
         for _ in 0..self.arms.len() {
-            self.leave(z)?;
+            self.leave(z);
         }
         if !self.has_begun {
             self.begin(0);
-            self.runs(z, FAR)?;
+            self.runs(z, FAR);
         }
-        Ok(())
     }
 
     /// Some rounds, until the bound is above `need` or a window gains too little. Whether it is.
-    pub fn runs(&mut self, z: &ZeroOne, need: i128) -> Result<bool, AllocError> {
+    pub fn runs(&mut self, z: &ZeroOne, need: i128) -> bool {
         let rounds = if self.arms.is_empty() {
             ROOT_ROUNDS
         } else {
@@ -264,12 +258,12 @@ impl Tree {
             if self.rounds.is_still() {
                 break;
             }
-            self.rounds.round(z)?;
+            self.rounds.round(z);
             if self.rounds.bound > need {
                 break;
             }
             if k % WINDOW == 0 {
-                self.rounds.end_window(z, false)?;
+                self.rounds.end_window(z, false);
                 let gain = self.rounds.bound.wrapping_sub(was);
                 was = self.rounds.bound;
                 if gain.wrapping_mul(PACE) < need.wrapping_sub(was) {
@@ -278,27 +272,22 @@ impl Tree {
             }
         }
         self.rounds.has_means = false;
-        Ok(self.rounds.bound > need)
+        self.rounds.bound > need
     }
 
     /// Whether the rounds' multipliers show the claim at the node with these columns fixed.
-    pub fn shows(
-        &mut self,
-        z: &ZeroOne,
-        claim: &Claim,
-        fixed: &[Option<bool>],
-    ) -> Result<bool, AllocError> {
-        self.follow(z, fixed)?;
+    pub fn shows(&mut self, z: &ZeroOne, claim: &Claim, fixed: &[Option<bool>]) -> bool {
+        self.follow(z, fixed);
         if let (Claim::Least(_), false) = (claim, self.rounds.has_prices) {
-            self.rounds.restart(z, true)?;
+            self.rounds.restart(z, true);
         }
         let need = needed(&self.rounds, claim);
         self.need = need;
         if !self.may_go_on() {
-            return Ok(false);
+            return false;
         }
         if self.rounds.bound > need {
-            return Ok(true);
+            return true;
         }
         self.runs(z, need)
     }

@@ -40,49 +40,31 @@ fn limit(way: Way) -> i128 {
 }
 
 /// Fixes a column at 1 with what that forces, and lets the rounds go on where it was doubtful. Whether it may stay.
-fn try_one(
-    z: &ZeroOne,
-    rounds: &mut Rounds,
-    column: u32,
-    way: Way,
-    is_watched: bool,
-) -> Result<bool, AllocError> {
+fn try_one(z: &ZeroOne, rounds: &mut Rounds, column: u32, way: Way, is_watched: bool) -> bool {
     let is_doubtful = rounds.value(column) < SURE;
-    rounds.fix(column, true)?;
-    if !rounds.propagate(z)? {
-        return Ok(false);
+    rounds.fix(column, true);
+    if !rounds.propagate(z) {
+        return false;
     }
     if is_doubtful {
-        rounds.run(z, way.next)?;
-        return Ok(!is_watched || rounds.bound <= limit(way));
+        rounds.run(z, way.next);
+        return !is_watched || rounds.bound <= limit(way);
     }
-    Ok(true)
+    true
 }
 
 /// Fixes a column at 0 with what that forces, and lets the rounds go on. Whether there may be a way on.
-fn turn_back(
-    z: &ZeroOne,
-    rounds: &mut Rounds,
-    column: u32,
-    way: Way,
-    is_watched: bool,
-) -> Result<bool, AllocError> {
-    rounds.fix(column, false)?;
-    if !rounds.propagate(z)? {
-        return Ok(false);
+fn turn_back(z: &ZeroOne, rounds: &mut Rounds, column: u32, way: Way, is_watched: bool) -> bool {
+    rounds.fix(column, false);
+    if !rounds.propagate(z) {
+        return false;
     }
-    rounds.run(z, way.next)?;
-    Ok(!is_watched || rounds.bound <= limit(way))
+    rounds.run(z, way.next);
+    !is_watched || rounds.bound <= limit(way)
 }
 
 /// Fixes a column at 1, or at 0 where that fails. Whether there may be a way on.
-fn decide(
-    z: &ZeroOne,
-    rounds: &mut Rounds,
-    column: u32,
-    way: Way,
-    turns: &mut Turns,
-) -> Result<bool, AllocError> {
+fn decide(z: &ZeroOne, rounds: &mut Rounds, column: u32, way: Way, turns: &mut Turns) -> bool {
     let is_watched = turns.repairs > 0 && rounds.value(column) < SURE;
     let before = rounds.trail.len();
     let mark = if is_watched {
@@ -91,28 +73,28 @@ fn decide(
     } else {
         0
     };
-    if try_one(z, rounds, column, way, is_watched)? {
+    if try_one(z, rounds, column, way, is_watched) {
         rounds.forget();
         rounds.set_log(false);
-        return Ok(true);
+        return true;
     }
-    rounds.undo(before)?;
+    rounds.undo(before);
     turns.wrong = turns.wrong.saturating_add(1);
     if is_watched {
-        rounds.roll_back(z, mark)?;
+        rounds.roll_back(z, mark);
         turns.repairs = turns.repairs.saturating_sub(1);
     }
     rounds.set_log(false);
     if turns.wrong > WRONG_LIMIT {
-        return Ok(false);
+        return false;
     }
     turn_back(z, rounds, column, way, is_watched)
 }
 
 /// Goes on from what is fixed until every row is met, or there is no way on. Whether every row is met below the cutoff.
-pub fn run_dive(z: &ZeroOne, rounds: &mut Rounds, way: Way) -> Result<bool, AllocError> {
-    if !rounds.propagate(z)? {
-        return Ok(false);
+pub fn run_dive(z: &ZeroOne, rounds: &mut Rounds, way: Way) -> bool {
+    if !rounds.propagate(z) {
+        return false;
     }
     let mut turns = Turns {
         wrong: 0,
@@ -120,20 +102,20 @@ pub fn run_dive(z: &ZeroOne, rounds: &mut Rounds, way: Way) -> Result<bool, Allo
     };
     for _ in 0..z.costs.len() {
         if rounds.spent >= way.cutoff {
-            return Ok(false);
+            return false;
         }
         let Some(row) = rounds.first_unmet() else {
-            return Ok(true);
+            return true;
         };
         let Some(column) = rounds.likeliest(z, row) else {
-            return Ok(false);
+            return false;
         };
-        if !decide(z, rounds, column, way, &mut turns)? {
+        if !decide(z, rounds, column, way, &mut turns) {
             rounds.set_log(false);
-            return Ok(false);
+            return false;
         }
     }
-    Ok(rounds.unmet == 0 && rounds.spent < way.cutoff)
+    rounds.unmet == 0 && rounds.spent < way.cutoff
 }
 
 /// Whether a column is fixed at 1.

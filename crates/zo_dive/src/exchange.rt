@@ -39,12 +39,11 @@ impl Exchange {
     }
 
     /// Frees the columns of a region.
-    fn free(&self, rounds: &mut Rounds, columns: &[u32]) -> Result<(), AllocError> {
+    fn free(&self, rounds: &mut Rounds, columns: &[u32]) {
         for column in columns {
-            rounds.place(*column, None)?;
+            rounds.place(*column, None);
         }
         rounds.clear_queue();
-        Ok(())
     }
 
     /// Takes the columns of a region as they are fixed.
@@ -62,26 +61,24 @@ impl Exchange {
     }
 
     /// Fixes the columns of a region again as the vector has them.
-    fn fix_again(&self, rounds: &mut Rounds, columns: &[u32]) -> Result<(), AllocError> {
-        rounds.undo(0)?;
+    fn fix_again(&self, rounds: &mut Rounds, columns: &[u32]) {
+        rounds.undo(0);
         for column in columns {
             let one = self.on.get(*column as usize).copied();
-            rounds.place(*column, Some(one == Some(true)))?;
+            rounds.place(*column, Some(one == Some(true)));
         }
         rounds.clear_queue();
-        Ok(())
     }
 
     /// Puts the columns into the region whose kept fractions are far from the vector.
-    fn add_far(&self, rounds: &Rounds, region: &mut Region) -> Result<(), AllocError> {
+    fn add_far(&self, rounds: &Rounds, region: &mut Region) {
         region.clear();
         for (j, on) in self.on.iter().enumerate() {
             let whole = if *on { ONE } else { 0 };
             if rounds.kept(j).wrapping_sub(whole).wrapping_abs() >= FAR {
-                region.add(u32::try_from(j).unwrap_or(u32::MAX))?;
+                region.add(u32::try_from(j).unwrap_or(u32::MAX));
             }
         }
-        Ok(())
     }
 
     /// A dive in which the columns far from the vector are free. Whether it was made cheaper.
@@ -91,38 +88,32 @@ impl Exchange {
         rounds: &mut Rounds,
         region: &mut Region,
         first: u32,
-    ) -> Result<bool, AllocError> {
-        self.add_far(rounds, region)?;
-        self.free(rounds, &region.columns)?;
-        rounds.run(z, first)?;
+    ) -> bool {
+        self.add_far(rounds, region);
+        self.free(rounds, &region.columns);
+        rounds.run(z, first);
         let way = Way {
             next: 40,
             cutoff: self.cost,
             repairs: REPAIRS,
         };
-        let is_found = run_dive(z, rounds, way)?;
+        let is_found = run_dive(z, rounds, way);
         if is_found {
             self.take(rounds, &region.columns);
         }
-        self.fix_again(rounds, &region.columns)?;
-        Ok(is_found)
+        self.fix_again(rounds, &region.columns);
+        is_found
     }
 
     /// A dive without this column in which the region is free. Whether every row is met, for no more.
-    fn dive_without(
-        &self,
-        z: &ZeroOne,
-        rounds: &mut Rounds,
-        column: u32,
-        size: usize,
-    ) -> Result<bool, AllocError> {
-        rounds.fix(column, false)?;
-        if !rounds.propagate(z)? {
-            return Ok(false);
+    fn dive_without(&self, z: &ZeroOne, rounds: &mut Rounds, column: u32, size: usize) -> bool {
+        rounds.fix(column, false);
+        if !rounds.propagate(z) {
+            return false;
         }
-        rounds.run(z, u32::try_from(40 + size / 20).unwrap_or(40))?;
+        rounds.run(z, u32::try_from(40 + size / 20).unwrap_or(40));
         if rounds.bound > i128::from(self.cost).wrapping_mul(i128::from(ONE)) {
-            return Ok(false);
+            return false;
         }
         let way = Way {
             next: u32::try_from(10 + size / 240).unwrap_or(10),
@@ -141,15 +132,15 @@ impl Exchange {
         column: u32,
         size: usize,
         pass: usize,
-    ) -> Result<bool, AllocError> {
-        region.grow(z, rounds, column, &self.on, size, pass)?;
-        self.free(rounds, &region.columns)?;
+    ) -> bool {
+        region.grow(z, rounds, column, &self.on, size, pass);
+        self.free(rounds, &region.columns);
         let was = self.cost;
-        if self.dive_without(z, rounds, column, size)? {
+        if self.dive_without(z, rounds, column, size) {
             self.take(rounds, &region.columns);
         }
-        self.fix_again(rounds, &region.columns)?;
-        Ok(self.cost < was)
+        self.fix_again(rounds, &region.columns);
+        self.cost < was
     }
 
     /// An exchange round each costly column. Whether the vector was made cheaper.
@@ -169,7 +160,7 @@ impl Exchange {
                 return Ok((is_better, false));
             }
             if self.on.get(*column as usize).copied() == Some(true) {
-                is_better |= self.exchange_one(z, rounds, region, *column, size, pass)?;
+                is_better |= self.exchange_one(z, rounds, region, *column, size, pass);
             }
         }
         Ok((is_better, !dear.is_empty()))
@@ -182,15 +173,15 @@ impl Exchange {
         rounds: &mut Rounds,
         region: &mut Region,
         first: u32,
-    ) -> Result<bool, AllocError> {
+    ) -> bool {
         let mut is_better = false;
         for _ in 0..PASS_LIMIT {
-            if !self.exchange_far(z, rounds, region, first)? {
-                return Ok(is_better);
+            if !self.exchange_far(z, rounds, region, first) {
+                return is_better;
             }
             is_better = true;
         }
-        Ok(is_better)
+        is_better
     }
 
     /// Passes over the vector, from this one on, until so many in a row don't gain.
@@ -208,7 +199,7 @@ impl Exchange {
             let mut is_better = false;
             if pass % 5 == 0 {
                 let first = if pass == 0 { 300 } else { 1_000 };
-                is_better = self.pass_far(z, rounds, &mut region, first)?;
+                is_better = self.pass_far(z, rounds, &mut region, first);
             }
             if self.is_done(rounds) {
                 return Ok(());
@@ -238,11 +229,12 @@ impl Exchange {
         from: usize,
         still: u32,
     ) -> Result<(), AllocError> {
-        rounds.undo(0)?;
-        rounds.set_all_activities(&self.on)?;
+        rounds.undo(0);
+        rounds.set_all_activities(&self.on);
         self.cost = rounds.spent;
-        rounds.run(z, 20)?;
+        rounds.run(z, 20);
         self.passes(alloc, z, rounds, from, still)?;
-        rounds.set_all_activities(&[])
+        rounds.set_all_activities(&[]);
+        Ok(())
     }
 }

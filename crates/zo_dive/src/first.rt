@@ -9,9 +9,11 @@ use crate::dive::{Way, run_dive, vector};
 use crate::exchange::Exchange;
 use crate::needless::drop_needless;
 use std::alloc::{AllocError, Global};
+use std::mem;
 use zo_model::{Assignment, ZeroOne, feasible};
 use zo_proof::Claim;
 use zo_relaxation::long::Length;
+use zo_relaxation::matrix::Matrix;
 use zo_relaxation::{ONE, Rounds, quotient};
 use zo_state::Best;
 
@@ -39,13 +41,19 @@ const CLASH: Length = Length {
     most: 0,
     stalls: false,
 };
-/// The dive has nothing to beat.
+/// The dives have nothing to beat. The second one has more rounds after each doubtful choice.
 const WAY: Way = Way {
     next: 40,
     cutoff: i64::MAX,
     repairs: 0,
 };
-/// The work of the first run, of the dive, and of the second run.
+
+const SECOND_WAY: Way = Way {
+    next: 150,
+    cutoff: i64::MAX,
+    repairs: 0,
+};
+/// The work of the first run, of each dive, and of the second run.
 const FIRST_WORK: u64 = 250_000_000;
 
 const DIVE_WORK: u64 = 250_000_000;
@@ -104,18 +112,33 @@ fn dived(
     alloc: Global,
     z: &ZeroOne,
     rounds: &mut Rounds,
+    way: Way,
 ) -> Result<Option<Assignment>, AllocError> {
     rounds.limit_to(DIVE_WORK);
-    rounds.enqueue_all()?;
-    let is_found = run_dive(z, rounds, WAY)?;
+    rounds.enqueue_all();
+    let is_found = run_dive(z, rounds, way);
     let mut on = vector(alloc, rounds)?;
     drop_needless(alloc, z, &rounds.matrix, &mut on)?;
-    rounds.undo(0)?;
-    rounds.give_back(z)?;
+    rounds.undo(0);
+    rounds.give_back(z);
     if is_found {
         return Ok(Some(Assignment { on }));
     }
     Ok(None)
+}
+
+/// A vector by a second dive, where the best one may not be the cheapest.
+fn dived_again(
+    alloc: Global,
+    z: &ZeroOne,
+    best: &Best,
+    rounds: &mut Rounds,
+    lower: i64,
+) -> Result<Option<Assignment>, AllocError> {
+    if best.x.is_none() || cost_in_units(rounds, &best.claim) <= lower {
+        return Ok(None);
+    }
+    dived(alloc, z, rounds, SECOND_WAY)
 }
 
 /// The best vector made cheaper by exchanges, where there is one.
@@ -159,7 +182,8 @@ fn exchange_all(
     let (from, still) = if is_later { (2, 10) } else { (0, 2) };
     exchange.run(alloc, z, rounds, from, still)?;
     drop_needless(alloc, z, &rounds.matrix, &mut exchange.on)?;
-    rounds.give_back(z)
+    rounds.give_back(z);
+    Ok(())
 }
 
 /// Takes the vector, where there is one that meets the rows and is better.
@@ -176,32 +200,31 @@ fn take_some(z: &ZeroOne, best: &mut Best, x: Option<Assignment>)
 }
 
 /// The first run of rounds; what it shows that every vector costs.
-fn run_first(z: &ZeroOne, best: &Best, rounds: &mut Rounds) -> Result<i64, AllocError> {
+fn run_first(z: &ZeroOne, best: &Best, rounds: &mut Rounds) -> i64 {
     rounds.tolerance = FIRST_TOLERANCE;
     rounds.limit_to(FIRST_WORK);
     let need = needed(rounds, &best.claim);
-    rounds.run_long(z, need, FIRST)?;
+    rounds.run_long(z, need, FIRST);
     rounds.keep();
     rounds.tolerance = TOLERANCE;
-    Ok(rounds.lower())
+    rounds.lower()
 }
 
 /// The second run, with the weight that the first one ended with; where no vector is known, without the costs.
-fn run_second(z: &ZeroOne, best: &Best, rounds: &mut Rounds) -> Result<(), AllocError> {
+fn run_second(z: &ZeroOne, best: &Best, rounds: &mut Rounds) {
     rounds.tolerance = 1;
     rounds.limit_to(SECOND_WORK);
     if best.x.is_none() {
-        rounds.restart(z, false)?;
-        rounds.run_long(z, 0, CLASH)?;
+        rounds.restart(z, false);
+        rounds.run_long(z, 0, CLASH);
     } else {
         let need = needed(rounds, &best.claim);
         if rounds.bound <= need {
-            rounds.run_long(z, need, SECOND)?;
+            rounds.run_long(z, need, SECOND);
         }
     }
     rounds.weight = rounds.first_weight;
     rounds.tolerance = TOLERANCE;
-    Ok(())
 }
 
 /// Whether the rounds show that the best vector is best.
@@ -221,17 +244,20 @@ fn improve(
     ensures best { IfOk result (λ _. IsBest z.now best.new) }
     ensures start { IfOk result (λ _. best.new.start ≡ best.old.start) }
 {
-    let lower = run_first(z, best, rounds)?;
+    let lower = run_first(z, best, rounds);
     let weight = rounds.weight;
     rounds.weight = rounds.first_weight;
     if !is_shown(rounds, best) {
-        let x = dived(alloc, z, rounds)?;
+        let x = dived(alloc, z, rounds, WAY)?;
+        take_some(z, best, x);
+        let x = dived_again(alloc, z, best, rounds, lower)?;
         take_some(z, best, x);
         let x = exchanged(alloc, z, best, rounds, lower, false)?;
         take_some(z, best, x);
     }
     rounds.weight = weight;
-    run_second(z, best, rounds)
+    run_second(z, best, rounds);
+    Ok(())
 }
 
 /// The best of the start and of the vectors that a dive and exchanges after it find.
@@ -251,18 +277,21 @@ pub fn begin(
     Ok(best)
 }
 
-/// Exchanges on rounds of their own, that begin with what others keep.
+/// Exchanges on rounds of their own, that begin with what others keep and borrow their matrix.
 fn exchanged_again(
     alloc: Global,
     z: &ZeroOne,
     best: &Best,
-    others: &Rounds,
+    others: &mut Rounds,
     lower: i64,
 ) -> Result<Option<Assignment>, AllocError> {
-    let mut rounds = Rounds::new(alloc, z)?;
+    let matrix = mem::replace(&mut others.matrix, Matrix::none(alloc));
+    let mut rounds = Rounds::over(alloc, z, matrix)?;
     rounds.tolerance = TOLERANCE;
-    rounds.take_kept(others, z)?;
-    exchanged(alloc, z, best, &mut rounds, lower, true)
+    rounds.take_kept(others, z);
+    let x = exchanged(alloc, z, best, &mut rounds, lower, true)?;
+    mem::swap(&mut others.matrix, &mut rounds.matrix);
+    Ok(x)
 }
 
 /// Makes the best vector cheaper, if more exchanges can.
@@ -270,7 +299,7 @@ pub fn improve_again(
     alloc: Global,
     z: &ZeroOne,
     best: &mut Best,
-    others: &Rounds,
+    others: &mut Rounds,
     lower: i64,
 ) -> Result<(), AllocError>
     requires valid { IsValid z.now }

@@ -3,7 +3,7 @@
 
 use std::alloc::{AllocError, Global};
 use zo_model::ZeroOne;
-use zo_relaxation::Rounds;
+use zo_relaxation::{Rounds, put};
 
 /// A row of more terms is long.
 const SHORT: usize = 12;
@@ -29,7 +29,7 @@ impl Region {
         let marks = vec![in alloc; false; z.costs.len()]?;
         let seen = vec![in alloc; 0; z.rows.len()]?;
         Ok(Region {
-            columns: Vec::new(alloc),
+            columns: Vec::with_capacity(alloc, z.costs.len())?,
             marks,
             seen,
             stamp: 0,
@@ -38,15 +38,15 @@ impl Region {
     }
 
     /// Puts a column in. Whether it wasn't there.
-    pub fn add(&mut self, column: u32) -> Result<bool, AllocError> {
+    pub fn add(&mut self, column: u32) -> bool {
         if let Some(mark) = self.marks.get_mut(column as usize) {
             if !*mark {
                 *mark = true;
-                self.columns.push(column)?;
-                return Ok(true);
+                put(&mut self.columns, column);
+                return true;
             }
         }
-        Ok(false)
+        false
     }
 
     /// Takes all columns out.
@@ -61,31 +61,24 @@ impl Region {
     }
 
     /// Puts the columns of a short row in.
-    fn add_short(&mut self, terms: &[(u32, i32)]) -> Result<(), AllocError> {
+    fn add_short(&mut self, terms: &[(u32, i32)]) {
         for (j, _) in terms {
-            self.add(*j)?;
+            self.add(*j);
         }
-        Ok(())
     }
 
     /// Puts a few columns of a long row in that are 1, from a place on.
-    fn add_long(
-        &mut self,
-        terms: &[(u32, i32)],
-        on: &[bool],
-        from: usize,
-    ) -> Result<(), AllocError> {
+    fn add_long(&mut self, terms: &[(u32, i32)], on: &[bool], from: usize) {
         let mut left = FEW;
         for k in 0..terms.len() {
             let at = from.wrapping_add(k).checked_rem(terms.len()).unwrap_or(0);
             if let Some((j, _)) = terms.get(at) {
-                if left > 0 && on.get(*j as usize).copied() == Some(true) && self.add(*j)? {
+                if left > 0 && on.get(*j as usize).copied() == Some(true) && self.add(*j) {
                     left = left.saturating_sub(1);
                     self.room = self.room.saturating_sub(1);
                 }
             }
         }
-        Ok(())
     }
 
     /// Whether the row wasn't looked at yet.
@@ -105,22 +98,22 @@ impl Region {
         on: &[bool],
         from: usize,
         is_head: bool,
-    ) -> Result<(), AllocError> {
+    ) {
         let Some(it) = z.rows.get(row as usize) else {
-            return Ok(());
+            return;
         };
         let is_short = it.terms.len() <= SHORT;
         if !self.is_new(row) || (!is_short && !(is_head && self.room > 0 && rounds.is_tight(row))) {
-            return Ok(());
+            return;
         }
         if let Some(seen) = self.seen.get_mut(row as usize) {
             *seen = self.stamp;
         }
         rounds.spend(it.terms.len());
         if is_short {
-            self.add_short(&it.terms)
+            self.add_short(&it.terms);
         } else {
-            self.add_long(&it.terms, on, from)
+            self.add_long(&it.terms, on, from);
         }
     }
 
@@ -133,26 +126,25 @@ impl Region {
         on: &[bool],
         most: usize,
         salt: usize,
-    ) -> Result<(), AllocError> {
+    ) {
         self.clear();
         self.room = most / 100;
-        self.add(column)?;
+        self.add(column);
         let from = salt
             .wrapping_mul(37)
             .wrapping_add((column as usize).wrapping_mul(11));
         for head in 0..most {
             if self.columns.len() >= most {
-                return Ok(());
+                return;
             }
             let Some(next) = self.columns.get(head).copied() else {
-                return Ok(());
+                return;
             };
             for k in 0..rounds.matrix.terms(next).len() {
                 if let Some((row, _)) = rounds.matrix.terms(next).get(k).copied() {
-                    self.visit(z, rounds, row, on, from, head < HEAD)?;
+                    self.visit(z, rounds, row, on, from, head < HEAD);
                 }
             }
         }
-        Ok(())
     }
 }

@@ -3,8 +3,7 @@
 //! A column is forced where its coefficient is greater than the slack of its row. Only rows of which less can be reached are
 //! looked at again.
 
-use crate::rounds::{Rounds, RowActivity};
-use std::alloc::AllocError;
+use crate::rounds::{Rounds, RowActivity, put};
 use zo_model::ZeroOne;
 
 /// The greatest size of a coefficient.
@@ -71,7 +70,7 @@ fn unfixed(place: Option<bool>) -> i64 {
 
 impl Rounds {
     /// Counts the rows that aren't met, and has all that count looked at.
-    pub fn count_rows(&mut self) -> Result<(), AllocError> {
+    pub fn count_rows(&mut self) {
         for i in 0..self.activities.len() {
             if self.matrix.is_counted(i) {
                 if let Some(place) = self.activities.get(i) {
@@ -84,24 +83,22 @@ impl Rounds {
     }
 
     /// Has all rows that count looked at for what they force.
-    pub fn enqueue_all(&mut self) -> Result<(), AllocError> {
+    pub fn enqueue_all(&mut self) {
         for i in 0..self.activities.len() {
             if self.matrix.is_counted(i) {
-                self.enqueue(u32::try_from(i).unwrap_or(u32::MAX))?;
+                self.enqueue(u32::try_from(i).unwrap_or(u32::MAX));
             }
         }
-        Ok(())
     }
 
     /// Has a row looked at for what it forces.
-    fn enqueue(&mut self, row: u32) -> Result<(), AllocError> {
+    fn enqueue(&mut self, row: u32) {
         if let Some(place) = self.activities.get_mut(row as usize) {
             if !place.is_queued {
                 place.is_queued = true;
-                self.queue.push(row)?;
+                put(&mut self.queue, row);
             }
         }
-        Ok(())
     }
 
     /// Has no row looked at for what it forces.
@@ -115,15 +112,9 @@ impl Rounds {
     }
 
     /// A column of a row goes from one place to another.
-    fn update_activity(
-        &mut self,
-        row: u32,
-        old: Option<bool>,
-        new: Option<bool>,
-        a: i64,
-    ) -> Result<(), AllocError> {
+    fn update_activity(&mut self, row: u32, old: Option<bool>, new: Option<bool>, a: i64) {
         let Some(place) = self.activities.get_mut(row as usize) else {
-            return Ok(());
+            return;
         };
         let change = place.change(old, new, a);
         self.unmet = self.unmet.wrapping_add(change.unmet);
@@ -137,36 +128,34 @@ impl Rounds {
                 .wrapping_add(unfixed(new).wrapping_sub(unfixed(old)));
             if old.is_none() && dual.free == 0 && dual.value != 0 && !dual.is_due {
                 dual.is_due = true;
-                self.due_rows.push(row)?;
+                put(&mut self.due_rows, row);
             }
         }
         if change.falls {
-            self.enqueue(row)?;
+            self.enqueue(row);
         }
-        Ok(())
     }
 
     /// Puts a column into another place.
-    pub fn place(&mut self, column: u32, new: Option<bool>) -> Result<(), AllocError> {
+    pub fn place(&mut self, column: u32, new: Option<bool>) {
         let Some(it) = self.columns.get(column as usize) else {
-            return Ok(());
+            return;
         };
         let (old, cost) = (it.place, it.cost);
         if old == new {
-            return Ok(());
+            return;
         }
         let count = self.matrix.terms(column).len();
         for k in 0..count {
             if let Some((row, a)) = self.matrix.terms(column).get(k).copied() {
-                self.update_activity(row, old, new, i64::from(a))?;
+                self.update_activity(row, old, new, i64::from(a));
             }
         }
         let change = one_part(new, cost).wrapping_sub(one_part(old, cost));
         self.spent = self.spent.wrapping_add(change);
         self.put(column, new);
-        self.mark(column)?;
+        self.mark(column);
         self.spend(count.saturating_mul(2).saturating_add(1));
-        Ok(())
     }
 
     /// Notes a column's place, and what it adds to the bound there.
@@ -188,72 +177,69 @@ impl Rounds {
     }
 
     /// Fixes a column where it is unfixed.
-    pub fn fix(&mut self, column: u32, v: bool) -> Result<(), AllocError> {
+    pub fn fix(&mut self, column: u32, v: bool) {
         if self.is_free(column) {
-            self.place(column, Some(v))?;
-            self.trail.push(column)?;
+            self.place(column, Some(v));
+            put(&mut self.trail, column);
         }
-        Ok(())
     }
 
     /// Unfixes the columns that were fixed behind so many.
-    pub fn undo(&mut self, count: usize) -> Result<(), AllocError> {
+    pub fn undo(&mut self, count: usize) {
         for _ in count..self.trail.len() {
             if let Some(column) = self.trail.pop() {
-                self.place(column, None)?;
+                self.place(column, None);
             }
         }
         self.clear_queue();
-        Ok(())
     }
 
     /// Puts all columns into the places of a vector, without a way back, and none as far as it doesn't go.
-    pub fn set_all_activities(&mut self, on: &[bool]) -> Result<(), AllocError> {
+    pub fn set_all_activities(&mut self, on: &[bool]) {
         for j in 0..self.columns.len() {
             let place = on.get(j).copied();
-            self.place(u32::try_from(j).unwrap_or(u32::MAX), place)?;
+            self.place(u32::try_from(j).unwrap_or(u32::MAX), place);
         }
         self.trail.clear();
         self.clear_queue();
-        Ok(())
     }
 
     /// Fixes each column without which the row can't hold. Whether the row can still hold.
-    fn force(&mut self, z: &ZeroOne, row: u32) -> Result<bool, AllocError> {
+    fn force(&mut self, z: &ZeroOne, row: u32) -> bool {
         let (Some(it), Some(place)) = (z.rows.get(row as usize), self.activities.get(row as usize))
         else {
-            return Ok(true);
+            return true;
         };
         let slack = place.reach.wrapping_sub(place.least);
         if slack < 0 {
-            return Ok(false);
+            return false;
         }
         if slack >= LARGEST {
-            return Ok(true);
+            return true;
         }
         self.spend(it.terms.len());
         for (j, a) in &it.terms {
             if i64::from(*a).wrapping_abs() > slack {
-                self.fix(*j, *a > 0)?;
+                self.fix(*j, *a > 0);
             }
         }
-        Ok(true)
+        true
     }
 
     /// Fixes what the rows force, to the end. Whether all of them can still hold.
-    pub fn propagate(&mut self, z: &ZeroOne) -> Result<bool, AllocError> {
+    pub fn propagate(&mut self, z: &ZeroOne) -> bool {
         for _ in 0..u64::MAX {
             let Some(row) = self.queue.pop() else {
-                return Ok(true);
+                return true;
             };
             if let Some(place) = self.activities.get_mut(row as usize) {
                 place.is_queued = false;
             }
-            if !self.force(z, row)? {
-                return Ok(false);
+            if !self.force(z, row) {
+                return false;
             }
         }
-        Ok(true)
+        true
     }
 
     /// Whether the row doesn't count, or is met with 0 for all unfixed columns.

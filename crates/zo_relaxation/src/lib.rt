@@ -10,4 +10,4 @@ pub mod rounds;
 pub mod undo;
 pub mod window;
 
-pub use rounds::{ONE, Rounds, quotient};
+pub use rounds::{ONE, Rounds, put, quotient};

@@ -1,7 +1,6 @@
 //! A long run of rounds.
 
 use crate::rounds::Rounds;
-use std::alloc::AllocError;
 use zo_model::ZeroOne;
 
 /// How long a run goes.
@@ -42,43 +41,31 @@ impl Rounds {
     }
 
     /// Ends the window where it is full. Whether the run goes on.
-    fn advance(
-        &mut self,
-        z: &ZeroOne,
-        reached: &mut Reached,
-        need: i128,
-        length: Length,
-    ) -> Result<bool, AllocError> {
+    fn advance(&mut self, z: &ZeroOne, reached: &mut Reached, need: i128, length: Length) -> bool {
         if !self.is_window_full() {
-            return Ok(true);
+            return true;
         }
-        self.end_window(z, true)?;
+        self.end_window(z, true);
         if self.bound > reached.top {
             reached.top = self.bound;
             self.keep_best();
         }
         if self.bound > need {
-            return Ok(false);
+            return false;
         }
-        Ok(self.goes_on(reached, need, length))
+        self.goes_on(reached, need, length)
     }
 
     /// The rounds of a long run.
-    fn run_windows(
-        &mut self,
-        z: &ZeroOne,
-        reached: &mut Reached,
-        need: i128,
-        length: Length,
-    ) -> Result<(), AllocError> {
+    fn run_windows(&mut self, z: &ZeroOne, reached: &mut Reached, need: i128, length: Length) {
         let mut rounds = length.rounds;
         for k in 0..length.rounds.max(length.most) {
             if k >= rounds || self.is_still() {
-                return Ok(());
+                return;
             }
-            self.round(z)?;
-            if self.bound > need || !self.advance(z, reached, need, length)? {
-                return Ok(());
+            self.round(z);
+            if self.bound > need || !self.advance(z, reached, need, length) {
+                return;
             }
             if k.saturating_add(1) == rounds && rounds < length.most {
                 let gain = reached.top.wrapping_sub(reached.last);
@@ -88,11 +75,10 @@ impl Rounds {
                 reached.last = reached.top;
             }
         }
-        Ok(())
     }
 
     /// A long run, in windows, until the bound is above `need`; it stands then where its bound was best.
-    pub fn run_long(&mut self, z: &ZeroOne, need: i128, length: Length) -> Result<(), AllocError> {
+    pub fn run_long(&mut self, z: &ZeroOne, need: i128, length: Length) {
         self.begin_means();
         self.keep_best();
         let mut reached = Reached {
@@ -101,11 +87,10 @@ impl Rounds {
             last: self.bound,
             looked: 0,
         };
-        self.run_windows(z, &mut reached, need, length)?;
+        self.run_windows(z, &mut reached, need, length);
         self.has_means = false;
         if self.bound < reached.top && self.bound <= need {
-            self.give_best(z)?;
+            self.give_best(z);
         }
-        Ok(())
     }
 }

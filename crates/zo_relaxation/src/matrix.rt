@@ -137,19 +137,34 @@ fn is_implied(row: &Row, by: &Row) -> bool {
     at.least >= room
 }
 
-impl Matrix {
-    /// The rows that count, and the columns' terms in them.
-    pub fn new(alloc: Global, z: &ZeroOne) -> Result<Matrix, AllocError> {
-        let counts = failing(alloc, z)?;
-        let mut all = by_columns(alloc, z, counts)?;
-        for i in 0..z.rows.len() {
-            if all.is_repeated(z, i) {
-                if let Some(counts) = all.counts.get_mut(i) {
-                    *counts = false;
-                }
+/// Which rows count.
+fn counted(alloc: Global, z: &ZeroOne) -> Result<Vec<bool>, AllocError> {
+    let counts = failing(alloc, z)?;
+    let mut all = by_columns(alloc, z, counts)?;
+    for i in 0..z.rows.len() {
+        if all.is_repeated(z, i) {
+            if let Some(counts) = all.counts.get_mut(i) {
+                *counts = false;
             }
         }
-        let Matrix { counts, .. } = all;
+    }
+    let Matrix { counts, .. } = all;
+    Ok(counts)
+}
+
+impl Matrix {
+    /// No row and no column.
+    pub fn none(alloc: Global) -> Matrix {
+        Matrix {
+            counts: Vec::new(alloc),
+            starts: Vec::new(alloc),
+            entries: Vec::new(alloc),
+        }
+    }
+
+    /// The rows that count, and the columns' terms in them.
+    pub fn new(alloc: Global, z: &ZeroOne) -> Result<Matrix, AllocError> {
+        let counts = counted(alloc, z)?;
         by_columns(alloc, z, counts)
     }
 

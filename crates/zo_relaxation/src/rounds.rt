@@ -18,6 +18,8 @@ use zo_model::{Row, ZeroOne};
 
 /// A whole column, and a multiplier of 1.
 pub const ONE: i64 = 1 << 22;
+/// The log has at most so many moves.
+const LOG_LIMIT: usize = 1 << 23;
 
 /// A row's sums with the columns that are fixed.
 #[derive(Clone, Copy, Drop)]
@@ -78,6 +80,20 @@ pub struct Rounds {
     pub limit: u64,
 }
 
+/// Puts something after a list, where there is room for it.
+///
+/// Lists of columns and rows have room from the start. Nothing rests on what is put there.
+pub fn put<T: Drop>(list: &mut Vec<T>, it: T) {
+    let _ = list.push(it);
+}
+
+/// Puts a move after the log. One for which there is no room isn't undone.
+fn note(log: &mut Vec<LoggedValue>, was: LoggedValue) {
+    if log.len() < LOG_LIMIT {
+        put(log, was);
+    }
+}
+
 /// `a / b`, or 0 where there is no such number.
 pub fn quotient(a: i64, b: i64) -> i64 {
     a.checked_div(b).unwrap_or(0)
@@ -127,7 +143,7 @@ fn columns_of(
     matrix: &Matrix,
     divisor: i64,
 ) -> Result<Vec<Column>, AllocError> {
-    let mut columns = Vec::new(alloc);
+    let mut columns = Vec::with_capacity(alloc, z.costs.len())?;
     for (j, cost) in z.costs.iter().enumerate() {
         let mut size: i64 = 0;
         for (_, a) in matrix.terms(u32::try_from(j).unwrap_or(u32::MAX)) {
@@ -167,7 +183,7 @@ fn dual_of(row: &Row, is_counted: bool) -> Dual {
 
 /// A multiplier each, at 0.
 fn duals_of(alloc: Global, z: &ZeroOne, matrix: &Matrix) -> Result<Vec<Dual>, AllocError> {
-    let mut duals = Vec::new(alloc);
+    let mut duals = Vec::with_capacity(alloc, z.rows.len())?;
     for (row, is_counted) in z.rows.iter().zip(&matrix.counts) {
         duals.push(dual_of(row, *is_counted))?;
     }
@@ -190,7 +206,7 @@ fn activity_of(row: &Row) -> RowActivity {
 
 /// The sums of each row with no column fixed.
 fn activities_of(alloc: Global, z: &ZeroOne) -> Result<Vec<RowActivity>, AllocError> {
-    let mut activities = Vec::new(alloc);
+    let mut activities = Vec::with_capacity(alloc, z.rows.len())?;
     for row in &z.rows {
         activities.push(activity_of(row))?;
     }
@@ -198,22 +214,16 @@ fn activities_of(alloc: Global, z: &ZeroOne) -> Result<Vec<RowActivity>, AllocEr
 }
 
 /// Moves the sums of a column's rows, and has the rows looked at.
-fn push_acts(
-    duals: &mut [Dual],
-    due: &mut Vec<u32>,
-    terms: &[(u32, i32)],
-    step: i64,
-) -> Result<(), AllocError> {
+fn push_acts(duals: &mut [Dual], due: &mut Vec<u32>, terms: &[(u32, i32)], step: i64) {
     for (i, a) in terms {
         if let Some(dual) = duals.get_mut(*i as usize) {
             dual.act = dual.act.wrapping_add(step.wrapping_mul(i64::from(*a)));
             if !dual.is_due {
                 dual.is_due = true;
-                due.push(*i)?;
+                put(due, *i);
             }
         }
     }
-    Ok(())
 }
 
 /// Moves what the multipliers say of a row's columns, and has these looked at. By how much the bound changes.
@@ -222,7 +232,7 @@ fn price_columns(
     due: &mut Vec<u32>,
     terms: &[(u32, i32)],
     step: i64,
-) -> Result<i64, AllocError> {
+) -> i64 {
     let mut change: i64 = 0;
     for (j, a) in terms {
         if let Some(column) = columns.get_mut(*j as usize) {
@@ -231,11 +241,11 @@ fn price_columns(
             change = change.wrapping_add(column.worth().wrapping_sub(was));
             if !column.is_due {
                 column.is_due = true;
-                due.push(*j)?;
+                put(due, *j);
             }
         }
     }
-    Ok(change)
+    change
 }
 
 /// What rounds go by, before they begin.
@@ -322,12 +332,11 @@ fn assembled(
     }
 }
 
-/// Rounds that haven't begun, no column fixed.
-fn made(alloc: Global, z: &ZeroOne) -> Result<Rounds, AllocError> {
+/// Rounds that haven't begun, no column fixed, over the rows that count.
+fn made(alloc: Global, z: &ZeroOne, matrix: Matrix) -> Result<Rounds, AllocError> {
     let divisor = z.costs.iter().fold(0, |d, cost| divisor_of(d, *cost));
     let divisor = i64::from(divisor.max(1));
     let weight = Weight::new(exponent_of(&z.costs, divisor));
-    let matrix = Matrix::new(alloc, z)?;
     let tables = tables_of(alloc, z, &matrix, divisor)?;
     let pasts = histories_of(alloc, z)?;
     Ok(assembled(alloc, matrix, tables, pasts, divisor, weight))
@@ -336,7 +345,13 @@ fn made(alloc: Global, z: &ZeroOne) -> Result<Rounds, AllocError> {
 impl Rounds {
     /// No multiplier yet, no column fixed.
     pub fn new(alloc: Global, z: &ZeroOne) -> Result<Rounds, AllocError> {
-        let mut rounds = made(alloc, z)?;
+        let matrix = Matrix::new(alloc, z)?;
+        Rounds::over(alloc, z, matrix)
+    }
+
+    /// The same, where the rows that count are known.
+    pub fn over(alloc: Global, z: &ZeroOne, matrix: Matrix) -> Result<Rounds, AllocError> {
+        let mut rounds = made(alloc, z, matrix)?;
         match rounds.begin(z) {
             Ok(()) => Ok(rounds),
             Err(error) => {
@@ -346,10 +361,25 @@ impl Rounds {
         }
     }
 
-    /// Counts the rows that aren't met, and begins at 0.
+    /// Makes room in the lists for all that can stand in them, but for the log.
+    fn reserve(&mut self) -> Result<(), AllocError> {
+        let (columns, rows) = (self.columns.len(), self.duals.len());
+        self.due_columns.reserve(columns)?;
+        self.next_columns.reserve(columns)?;
+        self.aside_columns.reserve(columns)?;
+        self.trail.reserve(columns)?;
+        self.due_rows.reserve(rows)?;
+        self.next_rows.reserve(rows)?;
+        self.aside_rows.reserve(rows)?;
+        self.queue.reserve(rows)
+    }
+
+    /// Makes room in the lists, counts the rows that aren't met, and begins at 0.
     fn begin(&mut self, z: &ZeroOne) -> Result<(), AllocError> {
-        self.count_rows()?;
-        self.restart(z, true)
+        self.reserve()?;
+        self.count_rows();
+        self.restart(z, true);
+        Ok(())
     }
 
     /// So many columns, rows and terms were visited.
@@ -390,7 +420,7 @@ impl Rounds {
     }
 
     /// Begins again at 0, with the costs or without.
-    pub fn restart(&mut self, z: &ZeroOne, has_prices: bool) -> Result<(), AllocError> {
+    pub fn restart(&mut self, z: &ZeroOne, has_prices: bool) {
         self.has_prices = has_prices;
         for column in self.columns.iter_mut() {
             column.value = 0;
@@ -439,7 +469,7 @@ impl Rounds {
     }
 
     /// Adds up all sums anew, and has everything looked at.
-    pub fn remake(&mut self, z: &ZeroOne) -> Result<(), AllocError> {
+    pub fn remake(&mut self, z: &ZeroOne) {
         self.log.clear();
         self.stamp = self.stamp.wrapping_add(1);
         self.bound = 0;
@@ -452,45 +482,41 @@ impl Rounds {
         for column in &self.columns {
             self.bound = self.bound.wrapping_add(i128::from(column.worth()));
         }
-        self.wake_all()?;
+        self.wake_all();
         let size = self.size();
         self.spend(size);
-        Ok(())
     }
 
     /// Has all columns and rows looked at.
-    fn wake_all(&mut self) -> Result<(), AllocError> {
+    fn wake_all(&mut self) {
         for j in 0..self.columns.len() {
-            self.mark(u32::try_from(j).unwrap_or(u32::MAX))?;
+            self.mark(u32::try_from(j).unwrap_or(u32::MAX));
         }
         for i in 0..self.duals.len() {
             if self.matrix.is_counted(i) {
-                self.wake(u32::try_from(i).unwrap_or(u32::MAX))?;
+                self.wake(u32::try_from(i).unwrap_or(u32::MAX));
             }
         }
-        Ok(())
     }
 
     /// Has a column looked at.
-    pub fn mark(&mut self, column: u32) -> Result<(), AllocError> {
+    pub fn mark(&mut self, column: u32) {
         if let Some(it) = self.columns.get_mut(column as usize) {
             if !it.is_due {
                 it.is_due = true;
-                self.due_columns.push(column)?;
+                put(&mut self.due_columns, column);
             }
         }
-        Ok(())
     }
 
     /// Has a row looked at.
-    pub fn wake(&mut self, row: u32) -> Result<(), AllocError> {
+    pub fn wake(&mut self, row: u32) {
         if let Some(it) = self.duals.get_mut(row as usize) {
             if !it.is_due {
                 it.is_due = true;
-                self.due_rows.push(row)?;
+                put(&mut self.due_rows, row);
             }
         }
-        Ok(())
     }
 
     /// Whether nothing is to be looked at.
@@ -499,52 +525,50 @@ impl Rounds {
     }
 
     /// Moves where a column is going.
-    pub fn set_ahead(&mut self, column: u32, ahead: i64) -> Result<(), AllocError> {
+    pub fn set_ahead(&mut self, column: u32, ahead: i64) {
         let Some(it) = self.columns.get_mut(column as usize) else {
-            return Ok(());
+            return;
         };
         let step = ahead.wrapping_sub(it.ahead);
         if step == 0 {
-            return Ok(());
+            return;
         }
         it.ahead = ahead;
         let terms = self.matrix.terms(column);
-        push_acts(&mut self.duals, &mut self.due_rows, terms, step)?;
+        push_acts(&mut self.duals, &mut self.due_rows, terms, step);
         self.work = self.work.saturating_add(terms.len() as u64);
-        Ok(())
     }
 
     /// Moves a column.
-    pub fn set_value(&mut self, column: u32, value: i64) -> Result<(), AllocError> {
+    pub fn set_value(&mut self, column: u32, value: i64) {
         let Some(it) = self.columns.get_mut(column as usize) else {
-            return Ok(());
+            return;
         };
         let was = it.value;
         if was == value {
-            return Ok(());
+            return;
         }
         it.value = value;
         let Some(past) = self.column_histories.get_mut(column as usize) else {
-            return Ok(());
+            return;
         };
         if self.has_log && past.stamp != self.stamp {
             past.stamp = self.stamp;
-            self.log.push(LoggedValue::Column(column, was))?;
+            note(&mut self.log, LoggedValue::Column(column, was));
         }
         if self.has_means {
             past.add(was, self.clock);
         }
-        Ok(())
     }
 
     /// Moves a multiplier that was this, in the list of columns to look at.
-    fn move_dual(&mut self, row: u32, was: i64, value: i64) -> Result<(), AllocError> {
+    fn move_dual(&mut self, row: u32, was: i64, value: i64) {
         let Some(past) = self.dual_histories.get_mut(row as usize) else {
-            return Ok(());
+            return;
         };
         if self.has_log && past.stamp != self.stamp {
             past.stamp = self.stamp;
-            self.log.push(LoggedValue::Dual(row, was))?;
+            note(&mut self.log, LoggedValue::Dual(row, was));
         }
         if self.has_means {
             past.add(was, self.clock);
@@ -552,44 +576,36 @@ impl Rounds {
         if let Some(dual) = self.duals.get_mut(row as usize) {
             dual.value = value;
         }
-        Ok(())
     }
 
     /// Moves a multiplier; its columns are looked at in the next round, or in this one where it is still to come.
-    pub fn set_dual(
-        &mut self,
-        z: &ZeroOne,
-        row: u32,
-        value: i64,
-        is_next: bool,
-    ) -> Result<(), AllocError> {
+    pub fn set_dual(&mut self, z: &ZeroOne, row: u32, value: i64, is_next: bool) {
         let dual = self.duals.get(row as usize).copied();
         let (Some(dual), Some(it)) = (dual, z.rows.get(row as usize)) else {
-            return Ok(());
+            return;
         };
         let step = value.wrapping_sub(dual.value);
         if step == 0 {
-            return Ok(());
+            return;
         }
         let least = i128::from(step).wrapping_mul(i128::from(dual.least));
-        self.move_dual(row, dual.value, value)?;
+        self.move_dual(row, dual.value, value);
         let change = if is_next {
-            price_columns(&mut self.columns, &mut self.next_columns, &it.terms, step)?
+            price_columns(&mut self.columns, &mut self.next_columns, &it.terms, step)
         } else {
-            price_columns(&mut self.columns, &mut self.due_columns, &it.terms, step)?
+            price_columns(&mut self.columns, &mut self.due_columns, &it.terms, step)
         };
         self.bound = self
             .bound
             .wrapping_add(least)
             .wrapping_add(i128::from(change));
         self.spend(it.terms.len());
-        Ok(())
     }
 
     /// Moves a column that is due, by what the multipliers say of it.
-    fn step_column(&mut self, column: u32) -> Result<(), AllocError> {
+    fn step_column(&mut self, column: u32) {
         let Some(it) = self.columns.get_mut(column as usize) else {
-            return Ok(());
+            return;
         };
         it.is_due = false;
         let value = it.next(self.weight, self.tolerance);
@@ -599,57 +615,54 @@ impl Rounds {
         };
         if value != it.value || ahead != it.ahead {
             it.is_due = true;
-            self.next_columns.push(column)?;
+            put(&mut self.next_columns, column);
         }
-        self.set_ahead(column, ahead)?;
+        self.set_ahead(column, ahead);
         self.set_value(column, value)
     }
 
     /// Moves the multiplier of a row that is due, by what the row lacks.
-    fn step_dual(&mut self, z: &ZeroOne, row: u32, tolerance: i64) -> Result<(), AllocError> {
+    fn step_dual(&mut self, z: &ZeroOne, row: u32, tolerance: i64) {
         let Some(it) = self.duals.get_mut(row as usize) else {
-            return Ok(());
+            return;
         };
         it.is_due = false;
         let value = it.next(self.weight, tolerance);
         if value != it.value {
             it.is_due = true;
-            self.next_rows.push(row)?;
-            self.set_dual(z, row, value, true)?;
+            put(&mut self.next_rows, row);
+            self.set_dual(z, row, value, true);
         }
-        Ok(())
     }
 
     /// One move of all columns that are due, then of all multipliers.
-    pub fn round(&mut self, z: &ZeroOne) -> Result<(), AllocError> {
+    pub fn round(&mut self, z: &ZeroOne) {
         self.clock = self.clock.wrapping_add(1);
         let count = self.due_columns.len();
         for k in 0..count {
             let column = self.due_columns.get(k).copied().unwrap_or(u32::MAX);
-            self.step_column(column)?;
+            self.step_column(column);
         }
         let tolerance = self.tolerance.wrapping_mul(self.first_weight.up);
         let rows = self.due_rows.len();
         for k in 0..rows {
             let row = self.due_rows.get(k).copied().unwrap_or(u32::MAX);
-            self.step_dual(z, row, tolerance)?;
+            self.step_dual(z, row, tolerance);
         }
         self.spend(count.saturating_add(rows));
         mem::swap(&mut self.due_columns, &mut self.next_columns);
         self.next_columns.clear();
         mem::swap(&mut self.due_rows, &mut self.next_rows);
         self.next_rows.clear();
-        Ok(())
     }
 
     /// So many rounds more; fewer where nothing moves any more.
-    pub fn run(&mut self, z: &ZeroOne, rounds: u32) -> Result<(), AllocError> {
+    pub fn run(&mut self, z: &ZeroOne, rounds: u32) {
         for _ in 0..rounds {
             if self.is_still() {
-                return Ok(());
+                return;
             }
-            self.round(z)?;
+            self.round(z);
         }
-        Ok(())
     }
 }

@@ -1,7 +1,6 @@
 //! What columns and multipliers were: their sums over a window, what was kept of them, and what is to be undone.
 
 use crate::rounds::Rounds;
-use std::alloc::AllocError;
 use std::mem;
 use zo_model::ZeroOne;
 
@@ -69,7 +68,7 @@ impl Rounds {
     }
 
     /// Gives back the values that were kept.
-    pub fn give_back(&mut self, z: &ZeroOne) -> Result<(), AllocError> {
+    pub fn give_back(&mut self, z: &ZeroOne) {
         for (column, past) in self.columns.iter_mut().zip(&self.column_histories) {
             column.value = past.kept;
         }
@@ -80,7 +79,7 @@ impl Rounds {
     }
 
     /// Takes over the values that others kept.
-    pub fn take_kept(&mut self, others: &Rounds, z: &ZeroOne) -> Result<(), AllocError> {
+    pub fn take_kept(&mut self, others: &Rounds, z: &ZeroOne) {
         for (past, other) in self
             .column_histories
             .iter_mut()
@@ -115,7 +114,7 @@ impl Rounds {
     }
 
     /// Gives back the values of the best bound.
-    pub fn give_best(&mut self, z: &ZeroOne) -> Result<(), AllocError> {
+    pub fn give_best(&mut self, z: &ZeroOne) {
         for (column, past) in self.columns.iter_mut().zip(&self.column_histories) {
             column.value = past.best;
         }
@@ -144,30 +143,29 @@ impl Rounds {
     }
 
     /// Undoes one move.
-    fn undo_one(&mut self, z: &ZeroOne, was: LoggedValue) -> Result<(), AllocError> {
+    fn undo_one(&mut self, z: &ZeroOne, was: LoggedValue) {
         match was {
             LoggedValue::Column(column, value) => {
-                self.set_value(column, value)?;
-                self.set_ahead(column, value)?;
+                self.set_value(column, value);
+                self.set_ahead(column, value);
                 self.mark(column)
             }
             LoggedValue::Dual(row, value) => {
-                self.set_dual(z, row, value, false)?;
+                self.set_dual(z, row, value, false);
                 self.wake(row)
             }
         }
     }
 
     /// Undoes all moves since a mark.
-    pub fn roll_back(&mut self, z: &ZeroOne, mark: usize) -> Result<(), AllocError> {
+    pub fn roll_back(&mut self, z: &ZeroOne, mark: usize) {
         let has_log = self.set_log(false);
         for _ in mark..self.log.len() {
             if let Some(was) = self.log.pop() {
-                self.undo_one(z, was)?;
+                self.undo_one(z, was);
             }
         }
         self.set_log(has_log);
-        Ok(())
     }
 
     /// Sets aside what the next round looks at.

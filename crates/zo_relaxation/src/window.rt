@@ -3,7 +3,6 @@
 
 use crate::column::Weight;
 use crate::rounds::{ONE, Rounds, quotient};
-use std::alloc::AllocError;
 use zo_model::ZeroOne;
 
 /// The square of 1 / 64 of a way, in 64ths.
@@ -103,7 +102,7 @@ impl Rounds {
     }
 
     /// Goes to the means.
-    fn take_means(&mut self, z: &ZeroOne, rounds: i64) -> Result<(), AllocError> {
+    fn take_means(&mut self, z: &ZeroOne, rounds: i64) {
         for i in 0..self.duals.len() {
             if self.matrix.is_counted(i) {
                 let row = u32::try_from(i).unwrap_or(u32::MAX);
@@ -111,8 +110,8 @@ impl Rounds {
                     Some(past) => past.mean,
                     None => 0,
                 };
-                self.set_dual(z, row, mean, false)?;
-                self.wake(row)?;
+                self.set_dual(z, row, mean, false);
+                self.wake(row);
             }
         }
         for j in 0..self.columns.len() {
@@ -124,13 +123,12 @@ impl Rounds {
                 let is_moved = mean != column.value;
                 let j = u32::try_from(j).unwrap_or(u32::MAX);
                 if is_moved {
-                    self.mark(j)?;
+                    self.mark(j);
                 }
-                self.set_value(j, mean)?;
-                self.set_ahead(j, mean)?;
+                self.set_value(j, mean);
+                self.set_ahead(j, mean);
             }
         }
-        Ok(())
     }
 
     /// The weight follows the ways that columns and multipliers went in this window.
@@ -156,14 +154,14 @@ impl Rounds {
     }
 
     /// Ends a window, and begins the next one.
-    pub fn end_window(&mut self, z: &ZeroOne, is_weighing: bool) -> Result<(), AllocError> {
+    pub fn end_window(&mut self, z: &ZeroOne, is_weighing: bool) {
         let rounds = self.clock.wrapping_sub(self.window);
         if rounds <= 0 {
-            return Ok(());
+            return;
         }
         let bound = self.mean_bound(z, rounds);
         if bound > self.bound {
-            self.take_means(z, rounds)?;
+            self.take_means(z, rounds);
         }
         if is_weighing {
             self.weigh();
@@ -171,7 +169,6 @@ impl Rounds {
         self.open_window();
         let size = self.size().saturating_mul(2);
         self.spend(size);
-        Ok(())
     }
 
     /// Whether a long run ends its window here.

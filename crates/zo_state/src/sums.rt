@@ -120,7 +120,7 @@ impl<'a> Sums<'a> {
 
     /// Whether the column is there and fixed.
     pub fn is_fixed(&self, column: u32) -> bool
-        ensures { IsTrue result → IsFixed (slice_get self.now.fixed column) }
+        ensures { IsTrue result ↔ IsFixed (slice_get self.now.fixed column) }
     {
         let j = column as usize;
         j < self.fixed.at.len() && self.fixed.at[j].is_some()

@@ -46,7 +46,7 @@ fn empty_columns(alloc: Global, count: usize) -> Result<Vec<Vec<(u32, i32)>>, Al
     ensures many { IfOk result (λ cs. length cs.items ≡ count) }
     ensures empty { IfOk result (λ cs. All (λ (c : VecOf (ℕ × ℤ)). c.items ≡ []) cs.items) }
 {
-    let mut columns = Vec::new(alloc);
+    let mut columns = Vec::with_capacity(alloc, count)?;
     for _ in 0..count {
         columns.push(Vec::new(alloc))?;
     }
@@ -87,7 +87,7 @@ pub fn reaches_of(
     ensures many { IfOk result (λ sums. length sums.items ≡ length z.now.rows.items) }
     ensures each { IfOk result (λ sums. (i : ℕ) → i < length z.now.rows.items → slice_index_or sums.items i (pos 0) ≡ searched.reach fixed.now (terms_of (slice_get z.now.rows.items i))) }
 {
-    let mut sums = Vec::new(alloc);
+    let mut sums = Vec::with_capacity(alloc, z.rows.len())?;
     for i in 0..z.rows.len() {
         sums.push(i128::from(reach(&z.rows[i].terms, fixed)))?;
     }
@@ -101,7 +101,7 @@ pub fn ones_of(alloc: Global, z: &ZeroOne, fixed: &[Option<bool>]) -> Result<Vec
     ensures many { IfOk result (λ sums. length sums.items ≡ length z.now.rows.items) }
     ensures each { IfOk result (λ sums. (i : ℕ) → i < length z.now.rows.items → slice_index_or sums.items i (pos 0) ≡ terms_sum (terms_of (slice_get z.now.rows.items i)) (ones fixed.now)) }
 {
-    let mut sums = Vec::new(alloc);
+    let mut sums = Vec::with_capacity(alloc, z.rows.len())?;
     for i in 0..z.rows.len() {
         sums.push(i128::from(ones_total(&z.rows[i].terms, fixed)))?;
     }
