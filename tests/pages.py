@@ -1,6 +1,7 @@
 #!/usr/bin/env python3
 """The pages that `nova_explain type 14` and the like print, made from docs/FAULTS.md: `tests/pages.py` writes them
 into crates/explain_pages again, and the rows of tests/tools.py show whether they are as made."""
+import math
 import os
 import re
 
@@ -73,8 +74,10 @@ def files(top=TOP):
 
 
 def made(what, word, found):
-    parts = [found[at : at + MOST] for at in range(0, len(found), MOST)]
-    further = "".join(f"\n        .or({word}_page_{number}(name))" for number in range(1, len(parts)))
+    size = math.ceil(len(found) / math.ceil(len(found) / MOST))
+    parts = [found[at : at + size] for at in range(0, len(found), size)]
+    gap = "" if len(parts) < 3 else "\n        "
+    further = "".join(f"{gap}.or({word}_page_{number}(name))" for number in range(1, len(parts)))
     return HEAD.format(what, word, further) + "".join(
         PART.format(word, number, "".join(PAGE.format(*it) for it in part)) for number, part in enumerate(parts)
     )

@@ -197,6 +197,14 @@ The first line of a memory text that isn't of its form. The form is in docs/MACH
 A size above 65,536 in the first line is `too large N` with status 8, whatever follows.
 "#,
             },
+        ],
+        name,
+    )
+}
+
+fn input_page_1(name: &[u8]) -> Option<&'static str> {
+    page_among(
+        &[
             Page {
                 name: "schedule line",
                 text: r#"schedule line
@@ -338,16 +346,9 @@ In the refused one below, the node leaves out a row, so its bound falls short.
     0 optimal 2
 "#,
             },
-        ],
-        name,
-    )
-}
-
-fn input_page_1(name: &[u8]) -> Option<&'static str> {
-    page_among(
-        &[Page {
-            name: "report refused",
-            text: r#"report line, report refused
+            Page {
+                name: "report refused",
+                text: r#"report line, report refused
 
 A report isn't of its form at a line, or is and doesn't hold. The form is in docs/CERTIFICATES.md.
 In the refused one below, the node leaves out a row, so its bound falls short.
@@ -393,7 +394,8 @@ In the refused one below, the node leaves out a row, so its bound falls short.
     $ check corrected
     0 optimal 2
 "#,
-        }],
+            },
+        ],
         name,
     )
 }

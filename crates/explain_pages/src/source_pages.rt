@@ -148,6 +148,14 @@ With status 8, `too large N` says one of four things (README.md). Of a source th
 `ended 00000200`.
 "#,
             },
+        ],
+        name,
+    )
+}
+
+fn source_page_1(name: &[u8]) -> Option<&'static str> {
+    page_among(
+        &[
             Page {
                 name: "status 11",
                 text: r#"status 11, store
@@ -180,14 +188,6 @@ The code has LENGTH instructions, more than the N of `store=N`, or than 2,048.
     saved r: %any
 "#,
             },
-        ],
-        name,
-    )
-}
-
-fn source_page_1(name: &[u8]) -> Option<&'static str> {
-    page_among(
-        &[
             Page {
                 name: "status 9",
                 text: r#"status 9, infeasible

@@ -58,6 +58,14 @@ Nothing is printed, and no file was changed.
 `syntax text line N` and `syntax label line N` are said of an assembly text.
 "#,
             },
+        ],
+        name,
+    )
+}
+
+fn status_page_1(name: &[u8]) -> Option<&'static str> {
+    page_among(
+        &[
             Page {
                 name: "status 7",
                 text: r#"status 7: a fault of the types
@@ -74,14 +82,6 @@ the 0-1 program of its banks has N columns, or else rows, more than 67,108,864,
 or a memory text asks for a memory of size N, more than 65,536.
 "#,
             },
-        ],
-        name,
-    )
-}
-
-fn status_page_1(name: &[u8]) -> Option<&'static str> {
-    page_among(
-        &[
             Page {
                 name: "status 12",
                 text: r#"status 12: no object
@@ -112,6 +112,14 @@ The outcome begins with `fault MEMORY ADDRESS`: an access reached past this memo
 The memory's size stands in the first line of the memory text.
 "#,
             },
+        ],
+        name,
+    )
+}
+
+fn status_page_2(name: &[u8]) -> Option<&'static str> {
+    page_among(
+        &[
             Page {
                 name: "status 16",
                 text: r#"status 16: going
@@ -141,20 +149,14 @@ With this status, as with 0, 14 and 15, `counts` saves its file.
 `weights line N`: this line of the file that `weights=FILE` names isn't of its form.
 "#,
             },
-        ],
-        name,
-    )
-}
-
-fn status_page_2(name: &[u8]) -> Option<&'static str> {
-    page_among(
-        &[Page {
-            name: "status 22",
-            text: r#"status 22: no schedule
+            Page {
+                name: "status 22",
+                text: r#"status 22: no schedule
 
 `schedule line N`: this line isn't of its form, or with it the turns are more than 100,000,000.
 "#,
-        }],
+            },
+        ],
         name,
     )
 }
