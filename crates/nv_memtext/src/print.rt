@@ -27,7 +27,7 @@ pub fn memory_name(mem: Mem) -> &'static [u8]
 }
 
 /// Writes words, each after a space.
-fn push_words(out: &mut Vec<u8>, words: &[u32]) -> Result<(), AllocError>
+pub fn push_words(out: &mut Vec<u8>, words: &[u32]) -> Result<(), AllocError>
     ensures { OnOk result (out.new.items ≡ out.old.items ++ flat_map (λ w. 32 ∷ hex_word w) words.now) }
 {
     for word in words {

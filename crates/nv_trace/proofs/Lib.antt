@@ -1,0 +1,3 @@
+pub mod FirstMade
+pub mod Unlikes
+pub mod Texts
