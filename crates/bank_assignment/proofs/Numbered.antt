@@ -1,7 +1,7 @@
 -- The numbers of the values of each bank's rows are those that a placement asks for.
 use Rattle.std.proofs.Common.{◌≡◌, ℕ, if◌then◌else◌, suc, ◌<◌, ◌≤◌, Bool, true, false, nat_eq, ◌||◌, ◌&&◌, ⊎_elim, Option, Some, None, List, [], ◌∷◌, length, map, filter, unwrap_or, refl, sym, ap, ◌∙◌, arith}
 use Rattle.std.proofs.Math.Bool.{and_comm}
-use Rattle.std.specs.Prelude.{All, slice_get, Result as Outcome, Ok, Err, IfOk}
+use Rattle.std.specs.Prelude.{All, slice_get}
 use Rattle.std.specs.HashMap.{get}
 use Rattle.std.specs.List.{AllZip}
 use Rattle.std.proofs.lemmas.Bool.{or_cases, or_left, or_right, false≢true, lt-ltb}
@@ -202,9 +202,3 @@ room-b labels slots on f = each-all (HasRoom on B 15) (points labels) (each-by (
 
 pub room-m : (labels : List Label) (slots : ℕ) (on : Chosen) → Facts labels slots on → All (HasRoom on M slots) (points labels)
 room-m labels slots on f = each-all (HasRoom on M slots) (points labels) (each-by (HasRoom on M slots) (points labels) (λ k q e. (f.points k q e).room_m))
-
--- ---- results
-
-pub if-ok-all : {X E : Type 0} (r : Outcome X E) (P : ℕ → Type 0) (Q : ℕ → X → Type 0) → ((n : ℕ) → P n → IfOk r (Q n)) → IfOk r (λ m. (n : ℕ) → P n → Q n m)
-if-ok-all (Ok m) P Q f = f
-if-ok-all (Err e) P Q f = tt

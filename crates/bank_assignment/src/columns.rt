@@ -40,7 +40,7 @@ impl Reading<'_> {
     pub fn is_on(&self, c: Column) -> bool
         ensures { result ≡ says self.now c }
     {
-        match number(&self.numbers, c) {
+        match number(&self.bank.numbers, c) {
             Some(j) => self.x.on.get(j as usize).copied().unwrap_or(false),
             None => false,
         }

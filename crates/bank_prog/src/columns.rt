@@ -339,10 +339,3 @@ pub fn columns_of(alloc: Global, f: &Form<'_>) -> Result<Priced, NoMemory>
     push_pas_ss(&mut out, f, &f.tables.summaries)?;
     Ok(out)
 }
-
-/// The costs of the columns.
-pub fn costs_of(alloc: Global, priced: &[(Column, u32)]) -> Result<Vec<u32>, NoMemory>
-    ensures { IfOk result (λ v. v.items ≡ map (λ c. c.1) priced.now) }
-{
-    Ok(priced.iter().map(|c| c.1).collect(alloc)?)
-}

@@ -5,16 +5,15 @@
 mod columns;
 pub mod error;
 pub mod laws;
-mod named;
 pub mod program;
 pub mod size_laws;
+mod tables;
 mod weighing;
 
 pub use bank_form::{
     Access, Bank, Column, Form, Numbers, Origin, PointSummary, Role, Service, Tables, Use, Value,
     form_of, number, services,
 };
-pub use columns::{columns_of, costs_of};
 pub use error::BankError;
-pub use named::{column_names, column_numbers};
-pub use program::build;
+pub use program::{build, program_of};
+pub use tables::{BankTables, bank_tables_of};

@@ -18,7 +18,7 @@ use bank_form::tables::short;
 use label_weights::Weights;
 use nv_base::NoMemory;
 use ssu_ir::Ssu;
-use ssu_liveness::{PointId, point_ids_of};
+use ssu_liveness::PointId;
 use std::alloc::Global;
 use std::collections::HashMap;
 
@@ -75,9 +75,8 @@ fn locate(alloc: Global, f: &Form<'_>, w: &Weights) -> Result<Located, NoMemory>
     ensures located { IfOk result (AreLocated (labels_view f.now.ssu.now) w.now) }
     ensures weights { IfOk result (λ _. AreWeights w.now) }
 {
-    let point_ids = point_ids_of(alloc, f.ssu)?;
     Ok(Located {
-        weights: weights_of_points(alloc, &point_ids, w)?,
+        weights: weights_of_points(alloc, &f.point_ids, w)?,
         past: w.of(short(f.ssu.labels.len())?),
         points: points_of(alloc, &f.tables.values)?,
     })

@@ -14,10 +14,6 @@ use Rattle.placement.specs.Fits.{is_result, parameter, point_values}
 use Rattle.ssu_liveness.proofs.Scoped.{in-itself, different-filter, different-without}
 use Rattle.placement.proofs.Sound.{Each, each-append}
 use Rattle.placement.proofs.Spilled.{each-all, all-each, each-weaker}
-use Rattle.zo_model.specs.declared.program.ZeroOne.{ZeroOne}
-use Rattle.zo_model.specs.Contents.{contents}
-use Rattle.zo_model.specs.Program.{IsValid}
-use Rattle.zo_model.proofs.ExactLemmas.{valid_from_contents}
 use Rattle.zo_model.specs.ProgramText.{IsRowText, IsValidContents}
 use Rattle.bank_form.specs.declared.column.Bank.{Bank}
 use Rattle.bank_form.specs.declared.column.Bank.TheVariants.{A, B, M, T, L, A15, W}
@@ -559,9 +555,9 @@ lines-plain labels slots l h =
     each-append IsPlain (owners labels) _ (owners-plain labels h) (
     each-append IsPlain (adjacency labels) (passes labels) (each-points IsPlain (begins_at labels) (begins-plain labels) 0 (points labels)) (passes-plain labels))))))
 
--- ---- costs
+-- ---- a kind of column costs at most 33
 
-abbrev IsCheap : Priced → Type 0
+abbrev pub IsCheap : Priced → Type 0
 IsCheap p = p.1 ≤ 33
 
 if-cheap : (b : Bool) (ps : List Priced) → Each IsCheap ps → Each IsCheap (if b then ps else [])
@@ -595,7 +591,7 @@ eight-cheap : (b : Bool) (column : ℕ → Column) → Each IsCheap (for_eight b
 eight-cheap true column = each-map IsCheap (λ r. (column r, 0)) (λ r. omega arith) eight
 eight-cheap false column = tt
 
-all-cheap : (labels : List Label) → Each IsCheap (priced labels)
+pub all-cheap : (labels : List Label) → Each IsCheap (priced labels)
 all-cheap labels =
     let ps = points labels in
     each-append IsCheap (flat_map def_columns (values labels)) _ (each-flat IsCheap def_columns (λ v. defs-cheap v.var v.origin) (values labels)) (
@@ -617,7 +613,7 @@ costs-fit labels =
 
 -- ---- the whole
 
-program-fits : (labels : List Label) (slots : ℕ) → single labels ≡ true → slots ≤ 128 → length (columns labels) ≤ 2 ^ 26 → length (program.rows labels slots) ≤ 2 ^ 26 → IsValidContents (bank_program labels slots)
+pub program-fits : (labels : List Label) (slots : ℕ) → single labels ≡ true → slots ≤ 128 → length (columns labels) ≤ 2 ^ 26 → length (program.rows labels slots) ≤ 2 ^ 26 → IsValidContents (bank_program labels slots)
 program-fits labels slots s l n m =
     let one = length-map (priced labels) (λ (p : Priced). p.0) in
     let two = length-map (priced labels) (λ (p : Priced). p.1) in
@@ -628,6 +624,3 @@ program-fits labels slots s l n m =
       costs_fit = costs-fit labels;
       rows_ok = subst (λ k. All (IsRowText k) (program.rows labels slots)) same (rows-fit (columns labels) (lines labels slots) n (lines-plain labels slots l (all-each IsLive (points labels) (points_held labels s))));
     }
-
-pub program-valid : (z : ZeroOne) (labels : List Label) (slots : ℕ) → contents z ≡ bank_program labels slots → single labels ≡ true → slots ≤ 128 → length (columns labels) ≤ 2 ^ 26 → length (program.rows labels slots) ≤ 2 ^ 26 → IsValid z
-program-valid z labels slots e s l n m = valid_from_contents z (subst IsValidContents (sym e) (program-fits labels slots s l n m))

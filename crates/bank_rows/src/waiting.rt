@@ -23,7 +23,6 @@ use bank_form::numbers::Numbers;
 use bank_form::tables::short;
 use bank_limits::coverings::add_coverings;
 use nv_base::NoMemory;
-use ssu_liveness::point_ids_of;
 use std::alloc::Global;
 use zo_model::Row;
 
@@ -137,8 +136,7 @@ fn waiting_words(alloc: Global, f: &Form<'_>) -> Result<Vec<Vec<Use>>, NoMemory>
     requires single { single (labels_view f.now.ssu.now) ≡ true }
     ensures { IfOk result (λ v. waits.lists_of v.items ≡ waits.all_waiting (labels_view f.now.ssu.now)) }
 {
-    let point_ids = point_ids_of(alloc, f.ssu)?;
-    let below = counts_below(alloc, f.ssu, &point_ids)?;
+    let below = counts_below(alloc, f.ssu, &f.point_ids)?;
     let defined = defined_at(alloc, &f.tables.values)?;
     let written = written_words(alloc, &f.tables.uses)?;
     words_of_points(alloc, &below, &defined, &written, &f.tables.summaries)

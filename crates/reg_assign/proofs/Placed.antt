@@ -111,16 +111,16 @@ plan-is labels slots n on numbers hs firsts serves passes d e f g =
     ∙ ap (λ l. a_plan slots hs (map (access_first on) (accesses labels)) (map (use_serve labels on numbers) (uses labels)) l) g
 
 pub is-read-off : (g : AssignmentInputs) (slots : ℕ) (built : List KeptHome) (p : Placement) → single (labels_in g) ≡ true → p.slots ≡ slots
-    → map home_view built ≡ flat_map (preferred_home (labels_in g) (says_in g) (numbers_in g)) (map value_view g.reading.form.tables.values.items) → IsPermutation built p.homes.items → IsNonDecreasingBy (λ h. h.var) p.homes.items
-    → p.firsts.items ≡ map (access_first (says_in g)) (map access_view g.reading.form.tables.accesses.items)
-    → p.serves.items ≡ map (use_serve (labels_in g) (says_in g) (numbers_in g)) (map use_view g.reading.form.tables.uses.items)
-    → p.passes.items ≡ flat_map (part_pass (says_in g)) (map summary_view g.reading.form.tables.summaries.items)
+    → map home_view built ≡ flat_map (preferred_home (labels_in g) (says_in g) (numbers_in g)) (map value_view g.reading.bank.now.form.tables.values.items) → IsPermutation built p.homes.items → IsNonDecreasingBy (λ h. h.var) p.homes.items
+    → p.firsts.items ≡ map (access_first (says_in g)) (map access_view g.reading.bank.now.form.tables.accesses.items)
+    → p.serves.items ≡ map (use_serve (labels_in g) (says_in g) (numbers_in g)) (map use_view g.reading.bank.now.form.tables.uses.items)
+    → p.passes.items ≡ flat_map (part_pass (says_in g)) (map summary_view g.reading.bank.now.form.tables.summaries.items)
     → IsReadOff (labels_in g) slots (says_in g) (numbers_in g) p
 is-read-off g slots built p form n homes perm up firsts serves passes =
     let labels = labels_in g in
     let on = says_in g in
     let numbers = numbers_in g in
-    let right = g.reading.form.right in
+    let right = g.reading.bank.now.form.right in
     record {
       homes = homes-read labels on numbers built p.homes.items form (homes ∙ ap (flat_map (preferred_home labels on numbers)) right.values) perm up;
       same = plan-is labels slots p.slots on numbers (map home_view p.homes.items) p.firsts.items p.serves.items p.passes.items n

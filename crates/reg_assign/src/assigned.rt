@@ -13,13 +13,15 @@ ghost use Rattle.bank_prog.specs.Weighted.{weighted_costs};
 ghost use Rattle.label_weights.specs.ByLabel as by_label;
 ghost use Rattle.label_weights.specs.Weighted as under_weights;
 ghost use Rattle.bank_assignment.specs.ByLabel.{label_price};
+ghost use Rattle.reg_assign.specs.Assigned.{IsAssigned};
 ghost use Rattle.reg_assign.specs.inner.AssignmentInputs.{labels_in, says_in, numbers_in};
 ghost use Rattle.bank_assignment.specs.inner.Reading.{IsReadOff};
 
 use crate::given::{AssignmentInputs, given_of};
 use crate::homes::{by_variable, homes_of};
 use crate::serves::{firsts_of, passes_of, serves_of};
-use bank_assignment::reading::reading_of;
+use bank_assignment::reading::Reading;
+use bank_prog::{BankTables, bank_tables_of};
 use nv_base::NoMemory;
 use placement::Placement;
 use register_numbers::number_homes;
@@ -32,7 +34,7 @@ fn placed(alloc: Global, g: &AssignmentInputs<'_>, slots: u32) -> Result<Placeme
     requires { single (labels_in g.now) ≡ true }
     ensures { IfOk result (IsReadOff (labels_in g.now) slots (says_in g.now) (numbers_in g.now)) }
 {
-    let tables = &g.reading.form.tables;
+    let tables = &g.reading.bank.form.tables;
     let homes = by_variable(homes_of(alloc, g, &tables.values)?);
     Ok(Placement {
         slots,
@@ -43,8 +45,26 @@ fn placed(alloc: Global, g: &AssignmentInputs<'_>, slots: u32) -> Result<Placeme
     })
 }
 
-/// The placement that a vector which meets the rows of the bank program stands for; each home gets a
-/// register of its bank, or a slot.
+/// The placement that a vector which meets the rows of the bank program stands for, by the tables of the form; each home
+/// gets a register of its bank, or a slot.
+pub fn assign_by(
+    alloc: Global,
+    bank: &BankTables<'_>,
+    slots: u32,
+    x: &Assignment,
+) -> Result<Placement, NoMemory>
+    requires single { single (labels_view bank.now.form.ssu.now) ≡ true }
+    requires slots { slots ≤ 128 }
+    requires feasible { IsFeasible (labels_view bank.now.form.ssu.now) slots (vector x.now.on.items) }
+    ensures { IfOk result (IsAssigned (labels_view bank.now.form.ssu.now) slots (vector x.now.on.items)) }
+{
+    let reading = Reading { bank, x };
+    let numbers = number_homes(alloc, &reading)?;
+    let given = given_of(alloc, reading, numbers)?;
+    placed(alloc, &given, slots)
+}
+
+/// The same by the form alone. A form of more than 2^26 columns has no tables, as if there were no memory for them.
 pub fn assign(alloc: Global, s: &Ssu, slots: u32, x: &Assignment) -> Result<Placement, NoMemory>
     requires single { single (labels_view s.now) ≡ true }
     requires slots { slots ≤ 128 }
@@ -56,8 +76,8 @@ pub fn assign(alloc: Global, s: &Ssu, slots: u32, x: &Assignment) -> Result<Plac
     ensures label_cost { IfOk result (λ p. (l : ℕ) → by_label.label_cost (labels_view s.now) l (plan_view p) ≤ label_price (labels_view s.now) l (vector x.now.on.items)) }
     ensures weighted_cost { IfOk result (λ p. (ws : List ℕ) → under_weights.weighted_cost (labels_view s.now) ws (plan_view p) ≤ costs_of (weighted_costs (labels_view s.now) ws) (vector x.now.on.items)) }
 {
-    let reading = reading_of(alloc, s, x)?;
-    let numbers = number_homes(alloc, &reading)?;
-    let given = given_of(alloc, reading, numbers)?;
-    placed(alloc, &given, slots)
+    match bank_tables_of(alloc, s) {
+        Ok(bank) => assign_by(alloc, &bank, slots, x),
+        Err(_) => Err(NoMemory),
+    }
 }

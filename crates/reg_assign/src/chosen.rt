@@ -12,10 +12,11 @@ ghost use Rattle.bank_form.specs.Columns as columns;
 ghost use Rattle.bank_prog.specs.Meaning.{IsFeasible};
 ghost use Rattle.bank_prog.specs.Weighted.{weighted_costs};
 ghost use Rattle.bank_assignment.specs.inner.Chosen as chosen;
+ghost use Rattle.reg_assign.specs.Assigned.{IsVectorOf};
 
 use crate::plan_columns::all_on;
 use bank_assignment::plan_tables::plan_tables;
-use bank_prog::{Column, Form, column_names, form_of};
+use bank_prog::{BankTables, Column, Form, bank_tables_of};
 use nv_base::NoMemory;
 use placement::Placement;
 use ssu_ir::Ssu;
@@ -35,7 +36,23 @@ fn on_of(
     all_on(alloc, f, &t, columns)
 }
 
-/// The vector of the bank program that stands for a placement: it meets the rows, and costs what the placement does.
+/// The vector of the bank program that stands for a placement, by the tables of the form: it meets the rows, and costs
+/// what the placement does.
+pub fn vector_of(
+    alloc: Global,
+    bank: &BankTables<'_>,
+    p: &Placement,
+) -> Result<Assignment, NoMemory>
+    requires single { single (labels_view bank.now.form.ssu.now) ≡ true }
+    requires fits { Fits (labels_view bank.now.form.ssu.now) (plan_view p.now) }
+    ensures { IfOk result (IsVectorOf (labels_view bank.now.form.ssu.now) p.now) }
+{
+    let columns = bank.names(alloc)?;
+    let on = on_of(alloc, &bank.form, p, &columns)?;
+    Ok(Assignment { on })
+}
+
+/// The same by the form alone. A form of more than 2^26 columns has no tables, as if there were no memory for them.
 pub fn from_placement(alloc: Global, s: &Ssu, p: &Placement) -> Result<Assignment, NoMemory>
     requires single { single (labels_view s.now) ≡ true }
     requires fits { Fits (labels_view s.now) (plan_view p.now) }
@@ -44,8 +61,8 @@ pub fn from_placement(alloc: Global, s: &Ssu, p: &Placement) -> Result<Assignmen
     ensures cost { IfOk result (λ x. costs_of (columns.costs (labels_view s.now)) (vector x.on.items) ≡ costs.cost (labels_view s.now) (plan_view p.now)) }
     ensures weighted_cost { IfOk result (λ x. (ws : List ℕ) → costs_of (weighted_costs (labels_view s.now) ws) (vector x.on.items) ≡ under_weights.weighted_cost (labels_view s.now) ws (plan_view p.now)) }
 {
-    let columns = column_names(alloc, s)?;
-    let f = form_of(alloc, s)?;
-    let on = on_of(alloc, &f, p, &columns)?;
-    Ok(Assignment { on })
+    match bank_tables_of(alloc, s) {
+        Ok(bank) => vector_of(alloc, &bank, p),
+        Err(_) => Err(NoMemory),
+    }
 }

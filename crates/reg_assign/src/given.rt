@@ -7,16 +7,16 @@ ghost use Rattle.bank_assignment.specs.inner.ReadOff as pure;
 ghost use Rattle.bank_assignment.specs.inner.Reading.{says, labels_of, known_place};
 
 use crate::places::{ReadPlaces, read_places_of};
+use bank_assignment::numbers::BankNumbers;
 use bank_assignment::reading::Reading;
 use nv_base::NoMemory;
-use register_numbers::HomeNumbers;
 use std::alloc::Global;
 
 /// What places are read off from.
 #[derive(Drop)]
 pub struct AssignmentInputs<'a> {
     pub reading: Reading<'a>,
-    pub numbers: HomeNumbers,
+    pub numbers: BankNumbers,
     pub came: ReadPlaces,
     ghost right: { (x : ℕ) → known_place (get nat_eq came x) ≡ pure.place_in (says reading) (values (labels_of reading)) x },
 }
@@ -25,12 +25,13 @@ pub struct AssignmentInputs<'a> {
 pub fn given_of<'a>(
     alloc: Global,
     reading: Reading<'a>,
-    numbers: HomeNumbers,
+    numbers: BankNumbers,
 ) -> Result<AssignmentInputs<'a>, NoMemory>
     ensures reading { IfOk result (λ g. g.reading ≡ reading.entry) }
     ensures numbers { IfOk result (λ g. g.numbers ≡ numbers) }
 {
-    let came = read_places_of(alloc, &reading, &reading.form.tables.values)?;
+    let bank = reading.bank;
+    let came = read_places_of(alloc, &reading, &bank.form.tables.values)?;
     Ok(AssignmentInputs {
         reading,
         numbers,

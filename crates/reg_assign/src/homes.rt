@@ -61,7 +61,7 @@ fn copies_of(alloc: Global, g: &AssignmentInputs<'_>, x: u32) -> Result<Vec<Plac
     push_fill(&mut copied, g, x, Bank::A)?;
     push_fill(&mut copied, g, x, Bank::B)?;
     push_fill(&mut copied, g, x, Bank::M)?;
-    push_words(&mut copied, &g.reading, g.reading.form.uses_of(x))?;
+    push_words(&mut copied, &g.reading, g.reading.bank.form.uses_of(x))?;
     Ok(copied)
 }
 
@@ -87,7 +87,7 @@ fn put_home(alloc: Global, g: &AssignmentInputs<'_>, x: u32) -> Result<Home, NoM
         }),
         None => Ok(Home {
             var: x,
-            defined: first_word(&g.reading, g.reading.form.uses_of(x))?,
+            defined: first_word(&g.reading, g.reading.bank.form.uses_of(x))?,
             copied: Vec::new(alloc),
         }),
     }
@@ -115,7 +115,7 @@ fn wants_home(g: &AssignmentInputs<'_>, v: Value) -> bool
     match v.origin {
         Origin::Parameter(_, _) => true,
         Origin::Result => true,
-        Origin::Fetched(_, _) => g.reading.form.is_used(v.var),
+        Origin::Fetched(_, _) => g.reading.bank.form.is_used(v.var),
     }
 }
 

@@ -9,5 +9,5 @@ mod places;
 mod plan_columns;
 mod serves;
 
-pub use assigned::assign;
-pub use chosen::from_placement;
+pub use assigned::{assign, assign_by};
+pub use chosen::{from_placement, vector_of};

@@ -6,16 +6,15 @@ ghost use Rattle.placement.specs.Fits as fits;
 ghost use Rattle.bank_form.specs.inner.Form.{use_view, value_view, origin_view};
 ghost use Rattle.bank_assignment.specs.inner.ReadOff as pure;
 ghost use Rattle.reg_assign.specs.inner.AssignmentInputs.{labels_in, says_in, numbers_in};
-ghost use Rattle.bank_assignment.specs.inner.Reading.{says, known_place, place_noted};
-ghost use Rattle.register_numbers.specs.inner.Chosen.{numbers_of};
+ghost use Rattle.bank_assignment.specs.inner.Reading.{says, known_place, numbers_of, place_noted};
 
 use crate::given::AssignmentInputs;
 use bank_assignment::columns::Family;
+use bank_assignment::numbers::BankNumbers;
 use bank_assignment::reading::Reading;
 use bank_prog::{Bank, Origin, Role, Use, Value};
 use nv_base::{Mem, NoMemory};
 use placement::Place;
-use register_numbers::HomeNumbers;
 use std::alloc::Global;
 use std::collections::HashMap;
 
@@ -111,7 +110,7 @@ pub fn read_places_of(
 }
 
 /// The place of a value's home in a bank.
-pub fn home_place(numbers: &HomeNumbers, h: Bank, x: u32) -> Place
+pub fn home_place(numbers: &BankNumbers, h: Bank, x: u32) -> Place
     ensures { result ≡ pure.home_place (numbers_of numbers.now) h x }
 {
     match h {

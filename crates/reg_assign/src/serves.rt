@@ -25,7 +25,7 @@ fn target(g: &AssignmentInputs<'_>, u: Use, h: Bank) -> Result<Place, NoMemory>
         Role::Operand => bank_place(g, u, h),
         Role::Address => bank_place(g, u, h),
         Role::Written(_, _) => word_place(&g.reading, u),
-        Role::Argument(l, i) => Ok(home_place(&g.numbers, h, g.reading.form.parameter(l, i))),
+        Role::Argument(l, i) => Ok(home_place(&g.numbers, h, g.reading.bank.form.parameter(l, i))),
         Role::Ending(i) => Ok(Place::A(small(u64::from(i))?)),
     }
 }

@@ -13,7 +13,7 @@ type Entries = HashMap<u32, u32>;
 
 fn entries_of(alloc: Global, r: &Reading<'_>) -> Result<Entries, NoMemory> {
     let mut entries = HashMap::new(alloc);
-    for v in &r.form.tables.values {
+    for v in &r.bank.form.tables.values {
         if let Origin::Parameter(l, _) = v.origin {
             entries.insert(l, v.point)?;
         }
@@ -37,13 +37,13 @@ fn push_pairs(
     entries: &Entries,
     back: bool,
 ) -> Result<(), NoMemory> {
-    for u in &r.form.tables.uses {
+    for u in &r.bank.form.tables.uses {
         if let Role::Argument(l, i) = u.role {
             let is_back = entries.get(&l).copied().unwrap_or(0) <= u.point;
             if is_back == back && stays_in(r, *u, h) {
                 allocation_hints
                     .pairs
-                    .push((u.value, r.form.parameter(l, i)))?;
+                    .push((u.value, r.bank.form.parameter(l, i)))?;
             }
         }
     }
@@ -52,7 +52,7 @@ fn push_pairs(
 
 /// In the first bank a parameter of the program wants the place in which it comes.
 fn push_parameters(allocation_hints: &mut Hints, r: &Reading<'_>) -> Result<(), NoMemory> {
-    for v in &r.form.tables.values {
+    for v in &r.bank.form.tables.values {
         if let Origin::Parameter(0, i) = v.origin {
             if r.is_on(Column::Def(v.var, Bank::A)) {
                 allocation_hints.fixed.push((v.var, i))?;
@@ -64,7 +64,7 @@ fn push_parameters(allocation_hints: &mut Hints, r: &Reading<'_>) -> Result<(), 
 
 /// In the first bank a word of an end wants its place there.
 fn push_endings(allocation_hints: &mut Hints, r: &Reading<'_>) -> Result<(), NoMemory> {
-    for u in &r.form.tables.uses {
+    for u in &r.bank.form.tables.uses {
         if let Role::Ending(i) = u.role {
             if stays_in(r, *u, Bank::A) {
                 allocation_hints.fixed.push((u.value, i))?;

@@ -5,4 +5,4 @@
 mod allocation_hints;
 mod homes;
 
-pub use homes::{HomeNumbers, number_homes};
+pub use homes::number_homes;

@@ -22,12 +22,12 @@ use Rattle.bank_assignment.specs.declared.columns.Family.{Family}
 use Rattle.bank_assignment.specs.declared.columns.Family.TheVariants as family
 use Rattle.bank_assignment.specs.declared.reading.Reading.{Reading}
 use Rattle.bank_assignment.specs.declared.numbers.BankNumbers.{BankNumbers}
-use Rattle.bank_assignment.specs.inner.ReadOff.{Numbers, has_home, goes_early, word_place, value_home, AreRead, read_off, pass_by, pass_l, pass_s}
+use Rattle.bank_assignment.specs.inner.ReadOff.{Numbers, goes_early, word_place, value_home, AreRead, read_off, pass_by, pass_l, pass_s}
 
 -- ---- columns
 
 abbrev pub labels_of : Reading → List Label
-labels_of r = labels_view r.form.ssu.now
+labels_of r = labels_view r.bank.now.form.ssu.now
 
 -- the columns that are on
 abbrev pub says : Reading → Chosen
@@ -54,10 +54,6 @@ numbers_of n T x = 0
 numbers_of n L x = 0
 numbers_of n A15 x = 0
 numbers_of n W x = 0
-
--- the value, if it has a home in a bank
-abbrev pub kept_value : Chosen → Bank → ℕ → List ℕ
-kept_value on h x = if has_home on x h then x ∷ [] else []
 
 -- ---- places
 

@@ -4,8 +4,7 @@ use Rattle.ssu_ir.specs.Tree.{Label}
 use Rattle.bank_prog.specs.Meaning.{Chosen}
 use Rattle.reg_assign.specs.declared.given.AssignmentInputs.{AssignmentInputs}
 use Rattle.bank_assignment.specs.inner.ReadOff.{Numbers}
-use Rattle.bank_assignment.specs.inner.Reading.{labels_of, says}
-use Rattle.register_numbers.specs.inner.Chosen.{numbers_of}
+use Rattle.bank_assignment.specs.inner.Reading.{labels_of, says, numbers_of}
 
 abbrev pub labels_in : AssignmentInputs → List Label
 labels_in g = labels_of g.reading

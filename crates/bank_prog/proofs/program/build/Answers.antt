@@ -1,31 +1,33 @@
-use Rattle.std.proofs.Common.{◌≡◌, ◌≤◌, ◌∙◌, ℕ, List, All, refl, sym, ap, subst, map}
+use Rattle.std.proofs.Common.{◌≡◌, ◌≤◌, ◌^◌, ◌∙◌, length, sym, ap, subst, inl}
+use Rattle.std.proofs.lemmas.Result.{IfOk-weaker}
+use Rattle.ssu_ir.specs.declared.ssu.Ssu.{Ssu}
+use Rattle.ssu_ir.specs.Single.{single}
 use Rattle.ssu_ir.specs.View.{labels_view}
-use Rattle.zo_model.specs.Contents.{row_contents}
-use Rattle.bank_form.specs.declared.column.Column.{Column}
-use Rattle.bank_form.specs.Columns.{priced}
-use Rattle.bank_form.specs.Program as program
-use Rattle.bank_form.proofs.FormLemmas.{same-program}
-use Rattle.bank_prog.specs.Weighted.{weigh, weighted_costs}
-use Rattle.bank_prog.proofs.Valid.{costs-small, weighted-valid}
+use Rattle.zo_model.specs.declared.program.ZeroOne.{ZeroOne}
+use Rattle.zo_model.specs.Contents.{contents}
+use Rattle.zo_model.specs.Program.{IsValid}
+use Rattle.bank_form.specs.Columns.{columns}
+use Rattle.bank_form.specs.Program.{rows, IsTooLarge}
+use Rattle.bank_prog.specs.Weighted.{weighted_program}
 use Rattle.bank_prog.proofs.program.build.Goals as goal
+
+pub program_of-requires-clause-single : goal.program_of-requires-clause-single
+program_of-requires-clause-single c = ap (λ (u : Ssu). single (labels_view u)) c.in_ok-t.ensures.form ∙ c.requires.single
 
 pub returns-clause-program : goal.returns-clause-program
 returns-clause-program c =
-    let labels = labels_view c.args.s.now in
-    let here : labels_view c.in_ok-f.f.ssu.now ≡ labels = ap labels_view c.in_ok-f.ensures in
-    let all : c.in_ok-priced.priced.items ≡ priced labels = c.in_ok-priced.ensures ∙ ap priced here in
-    same-program c.in_ok-costs.costs.items (weighted_costs labels c.args.w.now) (map row_contents c.in_ok-plain.plain.rows.items) (program.rows labels c.args.slots)
-    (c.in_ok-costs.ensures.costs
-    ∙ ap (λ ls. map (λ (d : Column × ℕ). d.1) (map (weigh ls c.args.w.now) c.deref-2.result.now)) here
-    ∙ ap (λ ps. map (λ (d : Column × ℕ). d.1) (map (weigh labels c.args.w.now) ps)) (c.deref-2.ensures.value ∙ all))
-    (ap (λ p. p.rows) c.in_ok-plain.ensures.program ∙ ap (λ ls. program.rows ls c.args.slots) here)
+    IfOk-weaker c.program_of.result (λ (z : ZeroOne). contents z ≡ weighted_program (labels_view c.in_ok-t.t.form.ssu.now) c.args.slots c.args.w.now) (λ (z : ZeroOne). contents z ≡ weighted_program (labels_view c.args.s.now) c.args.slots c.args.w.now)
+    (λ z e. e ∙ ap (λ (u : Ssu). weighted_program (labels_view u) c.args.slots c.args.w.now) c.in_ok-t.ensures.form) c.program_of.ensures.program
 
-pub returns-clause-valid : goal.returns-clause-valid
-returns-clause-valid c =
-    weighted-valid c.in_ok-plain.plain _ (labels_view c.args.s.now) (labels_view c.in_ok-f.f.ssu.now) c.args.slots c.args.w.now (ap labels_view c.in_ok-f.ensures) c.in_ok-plain.ensures.program c.in_ok-plain.ensures.valid (returns-clause-program c) refl c.in_ok-costs.ensures.weights
+pub returns-clause-few : goal.returns-clause-few
+returns-clause-few c =
+    IfOk-weaker c.program_of.result IsValid (λ (z : ZeroOne). length (columns (labels_view c.args.s.now)) ≤ 2 ^ 26)
+    (λ z v. subst (λ (u : Ssu). length (columns (labels_view u)) ≤ 2 ^ 26) c.in_ok-t.ensures.form c.in_ok-t.t.few) c.program_of.ensures.valid
 
-pub weighted_costs-requires : goal.weighted_costs-requires
-weighted_costs-requires c =
-    let labels = labels_view c.args.s.now in
-    let all : c.in_ok-priced.priced.items ≡ priced labels = c.in_ok-priced.ensures ∙ ap priced (ap labels_view c.in_ok-f.ensures) in
-    subst (λ (ps : List (Column × ℕ)). All (λ p. p.1 ≤ 33) ps) (sym (c.deref-2.ensures.value ∙ all)) (costs-small labels)
+pub returns-clause-rows : goal.returns-clause-rows
+returns-clause-rows c =
+    IfOk-weaker c.program_of.result (λ (z : ZeroOne). length (rows (labels_view c.in_ok-t.t.form.ssu.now) c.args.slots) ≤ 2 ^ 26) (λ (z : ZeroOne). length (rows (labels_view c.args.s.now) c.args.slots) ≤ 2 ^ 26)
+    (λ z l. subst (λ (u : Ssu). length (rows (labels_view u) c.args.slots) ≤ 2 ^ 26) c.in_ok-t.ensures.form l) c.program_of.ensures.rows
+
+pub returns-clause-many : goal.returns-clause-many
+returns-clause-many c = λ n e. subst (λ (u : Ssu). IsTooLarge (labels_view u) c.args.slots n) c.in_ok-t.ensures.form (c.program_of.ensures.many n e)

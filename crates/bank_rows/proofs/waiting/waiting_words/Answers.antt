@@ -8,6 +8,7 @@ use Rattle.std.specs.declared.alloc.Global.{Global}
 use Rattle.ssu_ir.specs.Points.{points}
 use Rattle.ssu_ir.specs.View.{labels_view}
 use Rattle.placement.specs.Uses as pure
+use Rattle.ssu_liveness.specs.inner.PointIds.{kind_of_point}
 use Rattle.ssu_liveness.proofs.Covering.{once-at-points}
 use Rattle.bank_form.specs.declared.form.Use.{Use}
 use Rattle.bank_form.specs.inner.Form.{use_view, value_view, summary_view}
@@ -30,3 +31,6 @@ returns c =
     ∙ all-words labels below point summaries many (once-at-points c.args.f.now.ssu.now c.requires.single) (c.deref-4.ensures.value ∙ c.in_ok-below.ensures)
     (λ x. c.in_ok-defined.ensures x ∙ ap (λ vs. point_in vs x) (ap (map value_view) c.deref-2.ensures.value ∙ right.values)))
     c.words_of_points.ensures
+
+pub counts_below-requires : goal.counts_below-requires
+counts_below-requires c = ap (map (kind_of_point c.args.f.now.ssu.now)) c.deref.ensures.value ∙ c.args.f.now.in_order

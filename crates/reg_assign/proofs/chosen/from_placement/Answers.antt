@@ -1,23 +1,51 @@
-use Rattle.std.proofs.Common.{◌∙◌, map, ap}
+use Rattle.std.proofs.Common.{◌≡◌, ℕ, List, length, sym, ap, subst, ◌∙◌}
+use Rattle.std.specs.Prelude.{IfOk}
+use Rattle.std.proofs.lemmas.Result.{IfOk-weaker}
+use Rattle.ssu_ir.specs.declared.ssu.Ssu.{Ssu}
+use Rattle.ssu_ir.specs.Single.{single}
 use Rattle.ssu_ir.specs.View.{labels_view}
+use Rattle.placement.specs.Costs.{cost}
+use Rattle.placement.specs.Fits.{Fits}
 use Rattle.placement.specs.Plan.{plan_view}
-use Rattle.bank_assignment.specs.inner.Chosen.{chosen}
-use Rattle.bank_assignment.proofs.ChosenVector.{IsVector, vector-long, vector-feasible, vector-costs, vector-weighted}
+use Rattle.zo_model.specs.declared.program.Assignment.{Assignment}
+use Rattle.zo_model.specs.Program.{vector, costs_of}
+use Rattle.bank_form.specs.Columns.{columns, costs}
+use Rattle.bank_prog.specs.Meaning.{IsFeasible}
+use Rattle.bank_prog.specs.Weighted.{weighted_costs}
+use Rattle.label_weights.specs.Weighted.{weighted_cost}
+use Rattle.reg_assign.specs.Assigned.{IsVectorOf}
 use Rattle.reg_assign.proofs.chosen.from_placement.Goals as goal
 
-pub returns : goal.returns
-returns c =
-    let labels = labels_view c.args.s.now in
-    let p = plan_view c.args.p.now in
-    let names = c.deref.result.now in
-    let is : IsVector labels p c.in_ok-on.on.items = record {
-      is = c.in_ok-on.ensures
-          ∙ ap (λ l. map (chosen l p) names) (ap labels_view c.in_ok-f.ensures)
-          ∙ ap (map (chosen labels p)) (c.deref.ensures.value ∙ c.in_ok-columns.ensures);
-    } in
-    record {
-      columns = vector-long labels p c.in_ok-on.on.items is;
-      feasible = vector-feasible labels p c.in_ok-on.on.items c.requires.single c.requires.fits is;
-      cost = vector-costs labels p c.in_ok-on.on.items c.requires.single c.requires.fits is;
-      weighted_cost = vector-weighted labels p c.in_ok-on.on.items c.requires.single c.requires.fits is;
-    }
+pub vector_of-requires-clause-single : goal.vector_of-requires-clause-single
+vector_of-requires-clause-single c = ap (λ t. single (labels_view t)) c.in-Ok.ensures.form ∙ c.requires.single
+
+pub vector_of-requires-clause-fits : goal.vector_of-requires-clause-fits
+vector_of-requires-clause-fits c = subst (λ t. Fits (labels_view t) (plan_view c.args.p.now)) (sym c.in-Ok.ensures.form) c.requires.fits
+
+pub returns-in-Ok-clause-columns : goal.returns-in-Ok-clause-columns
+returns-in-Ok-clause-columns c =
+    let s = c.args.s.now in
+    let p = c.args.p.now in
+    IfOk-weaker c.vector_of.result (IsVectorOf (labels_view c.in-Ok.bank.form.ssu.now) p) (λ (x : Assignment). length x.on.items ≡ length (columns (labels_view s)))
+    (λ x h. (subst (λ (t : Ssu). IsVectorOf (labels_view t) p x) c.in-Ok.ensures.form h).one_a_column) c.vector_of.ensures
+
+pub returns-in-Ok-clause-feasible : goal.returns-in-Ok-clause-feasible
+returns-in-Ok-clause-feasible c =
+    let s = c.args.s.now in
+    let p = c.args.p.now in
+    IfOk-weaker c.vector_of.result (IsVectorOf (labels_view c.in-Ok.bank.form.ssu.now) p) (λ (x : Assignment). IsFeasible (labels_view s) p.slots (vector x.on.items))
+    (λ x h. (subst (λ (t : Ssu). IsVectorOf (labels_view t) p x) c.in-Ok.ensures.form h).feasible) c.vector_of.ensures
+
+pub returns-in-Ok-clause-cost : goal.returns-in-Ok-clause-cost
+returns-in-Ok-clause-cost c =
+    let s = c.args.s.now in
+    let p = c.args.p.now in
+    IfOk-weaker c.vector_of.result (IsVectorOf (labels_view c.in-Ok.bank.form.ssu.now) p) (λ (x : Assignment). costs_of (costs (labels_view s)) (vector x.on.items) ≡ cost (labels_view s) (plan_view p))
+    (λ x h. (subst (λ (t : Ssu). IsVectorOf (labels_view t) p x) c.in-Ok.ensures.form h).costs_same) c.vector_of.ensures
+
+pub returns-in-Ok-clause-weighted_cost : goal.returns-in-Ok-clause-weighted_cost
+returns-in-Ok-clause-weighted_cost c =
+    let s = c.args.s.now in
+    let p = c.args.p.now in
+    IfOk-weaker c.vector_of.result (IsVectorOf (labels_view c.in-Ok.bank.form.ssu.now) p) (λ (x : Assignment). (ws : List ℕ) → costs_of (weighted_costs (labels_view s) ws) (vector x.on.items) ≡ weighted_cost (labels_view s) ws (plan_view p))
+    (λ x h. (subst (λ (t : Ssu). IsVectorOf (labels_view t) p x) c.in-Ok.ensures.form h).weighted_same) c.vector_of.ensures

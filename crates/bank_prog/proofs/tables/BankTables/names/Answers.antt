@@ -4,13 +4,13 @@ use Rattle.std.specs.declared.vec.Vec.{Vec}
 use Rattle.std.specs.declared.alloc.Global.{Global}
 use Rattle.ssu_ir.specs.View.{labels_view}
 use Rattle.bank_form.specs.declared.column.Column.{Column}
-use Rattle.bank_form.specs.Columns.{Priced, priced, columns}
-use Rattle.bank_prog.proofs.named.column_names.Goals as goal
+use Rattle.bank_form.specs.Columns.{Priced, columns}
+use Rattle.bank_prog.proofs.tables.BankTables.names.Goals as goal
 
 pub returns : goal.returns
 returns c =
-    let labels = labels_view c.args.s.now in
-    let all : c.in_ok-priced.priced.items ≡ priced labels = c.in_ok-priced.ensures ∙ ap (λ s. priced (labels_view s)) c.in_ok-f.ensures in
+    let t = c.args.self.now in
+    let labels = labels_view t.form.ssu.now in
     let given : List Priced = c.deref.result.now in
     IfOk-weaker c.names_of.result (λ (v : Vec Column Global). v.items ≡ map (λ (p : Priced). p.0) given) (λ (v : Vec Column Global). v.items ≡ columns labels)
-    (λ v e. e ∙ ap (map (λ (p : Priced). p.0)) (c.deref.ensures.value ∙ all)) c.names_of.ensures
+    (λ v e. e ∙ ap (map (λ (p : Priced). p.0)) (c.deref.ensures.value ∙ t.in_order)) c.names_of.ensures
