@@ -8,3 +8,4 @@ pub mod Reported
 pub mod Sizes
 pub mod LeftOut
 pub mod Cheapest
+pub mod Unmade

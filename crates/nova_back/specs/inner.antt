@@ -1,2 +1,3 @@
 pub mod Paired
 pub mod Search
+pub mod Unbuilt

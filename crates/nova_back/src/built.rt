@@ -14,9 +14,10 @@ ghost use Rattle.nova_back.specs.inner.Search.{IsChoice};
 
 use crate::choice::choice_of;
 use crate::error::BackError;
+use bank_prog::{BankTables, bank_tables_of};
 use label_weights::Weights;
 use nv_base::NoMemory;
-use reg_assign::assign;
+use reg_assign::assign_by;
 use ssu_ir::Ssu;
 use std::alloc::Global;
 use uc_isa::Code;
@@ -36,19 +37,23 @@ pub struct Built {
 }
 
 /// The code of a form whose values stand where a choice of banks has them, without needless instructions.
-fn code_of(alloc: Global, s: &Ssu, slots: u32, x: &Assignment) -> Result<Emitted, NoMemory>
-    requires single { single (labels_view s.now) ≡ true }
+fn code_of(
+    alloc: Global,
+    bank: &BankTables<'_>,
+    slots: u32,
+    x: &Assignment,
+) -> Result<Emitted, NoMemory>
+    requires single { single (labels_view bank.now.form.ssu.now) ≡ true }
     requires slots { slots ≤ 128 }
-    requires choice { IsChoice (labels_view s.now) slots x.now }
-    requires few { length (columns (labels_view s.now)) ≤ 2 ^ 26 }
-    requires few_rows { length (rows (labels_view s.now) slots) ≤ 2 ^ 26 }
-    ensures code { IfOk result (λ e. IsCodeOf (labels_view s.now) slots e.code) }
-    ensures starts { IfOk result (λ e. AreStartsOf (labels_view s.now) e.code e.starts.items) }
-    ensures light { IfOk result (λ e. (ws : List ℕ) → moves e.code.list e.starts.items ws ≤ costs_of (weighted_costs (labels_view s.now) ws) (vector x.now.on.items)) }
-    ensures short { IfOk result (λ e. length e.code.list ≤ code_bound (labels_view s.now)) }
+    requires choice { IsChoice (labels_view bank.now.form.ssu.now) slots x.now }
+    requires few_rows { length (rows (labels_view bank.now.form.ssu.now) slots) ≤ 2 ^ 26 }
+    ensures code { IfOk result (λ e. IsCodeOf (labels_view bank.now.form.ssu.now) slots e.code) }
+    ensures starts { IfOk result (λ e. AreStartsOf (labels_view bank.now.form.ssu.now) e.code e.starts.items) }
+    ensures light { IfOk result (λ e. (ws : List ℕ) → moves e.code.list e.starts.items ws ≤ costs_of (weighted_costs (labels_view bank.now.form.ssu.now) ws) (vector x.now.on.items)) }
+    ensures short { IfOk result (λ e. length e.code.list ≤ code_bound (labels_view bank.now.form.ssu.now)) }
 {
-    let placement = assign(alloc, s, slots, x)?;
-    let emitted = emit(alloc, s, &placement)?;
+    let placement = assign_by(alloc, bank, slots, x)?;
+    let emitted = emit(alloc, bank.form.ssu, &placement)?;
     let peeped = without_needless(alloc, emitted.code, emitted.starts)?;
     Ok(Emitted {
         code: peeped.code,
@@ -91,12 +96,14 @@ pub fn back(
     ensures refused { IfErr result (λ e. (e ≡ BackError.NoMemory) ⊎ IsCause (labels_view s) slots w.now budget store e) }
     ensures only_large { (n : ℕ) → IsTooLarge (labels_view s) slots n → MatchResult result (λ _. ⊥) (λ e. (e ≡ BackError.NoMemory) ⊎ (e ≡ BackError.TooLarge n)) }
 {
-    let report = choice_of(alloc, &s, slots, budget, w)?;
-    let emitted = code_of(alloc, &s, slots, &report.x)?;
+    let bank = bank_tables_of(alloc, &s)?;
+    let report = choice_of(alloc, &bank, slots, budget, w)?;
+    let emitted = code_of(alloc, &bank, slots, &report.x)?;
     let instructions = emitted.code.list().len();
     if instructions > store as usize {
         return Err(BackError::StoreFull(instructions as u32));
     }
+    drop(bank);
     Ok(Built {
         ssu: s,
         report,

@@ -2,7 +2,9 @@
 
 ghost use Rattle.std.specs.Prelude.{◌≡◌};
 ghost use Rattle.nova_back.specs.declared.error.BackError.TheVariants.{NoMemory as WantOfMemory};
+ghost use Rattle.nova_back.specs.inner.Unbuilt.{of_bank};
 
+use bank_prog::BankError;
 use nv_base::NoMemory;
 use zo_cert::Report;
 
@@ -25,5 +27,16 @@ impl From<NoMemory> for BackError {
 
     fn from(_error: NoMemory) -> BackError {
         BackError::NoMemory
+    }
+}
+
+impl From<BankError> for BackError {
+    ghost from_gives = { λ b e. e ≡ of_bank b };
+
+    fn from(error: BankError) -> BackError {
+        match error {
+            BankError::NoMemory => BackError::NoMemory,
+            BankError::TooLarge(n) => BackError::TooLarge(n),
+        }
     }
 }

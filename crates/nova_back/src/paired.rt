@@ -13,9 +13,8 @@ ghost use Rattle.bank_form.specs.Program.{same_column};
 ghost use Rattle.nova_back.specs.Causes.{IsCheapFor};
 ghost use Rattle.nova_back.specs.inner.Paired as inner;
 
-use bank_prog::{Bank, Column, Numbers, column_names, column_numbers, number};
+use bank_prog::{Bank, BankTables, Column, Numbers, number};
 use nv_base::NoMemory;
-use ssu_ir::Ssu;
 use std::alloc::Global;
 use zo_model::Assignment;
 
@@ -112,14 +111,13 @@ fn choices(alloc: Global, numbers: &Numbers, names: &[Column]) -> Result<Vec<boo
 
 /// The paired choice: each value in both banks, so that any two of them can be operands of one instruction, and no
 /// slot. Where at most 15 values are live at once it meets all rows.
-pub fn paired(alloc: Global, s: &Ssu) -> Result<Assignment, NoMemory>
-    requires { single (labels_view s.now) ≡ true }
-    ensures columns { IfOk result (λ x. length x.on.items ≡ length (columns.columns (labels_view s.now))) }
-    ensures feasible { (slots : ℕ) → peak (labels_view s.now) ≤ 15 → IfOk result (λ x. IsFeasible (labels_view s.now) slots (vector x.on.items)) }
-    ensures cheap { IfOk result (λ x. (ws : List ℕ) → IsCheapFor (labels_view s.now) ws (costs_of (weighted_costs (labels_view s.now) ws) (vector x.on.items))) }
+pub fn paired(alloc: Global, bank: &BankTables<'_>) -> Result<Assignment, NoMemory>
+    requires { single (labels_view bank.now.form.ssu.now) ≡ true }
+    ensures columns { IfOk result (λ x. length x.on.items ≡ length (columns.columns (labels_view bank.now.form.ssu.now))) }
+    ensures feasible { (slots : ℕ) → peak (labels_view bank.now.form.ssu.now) ≤ 15 → IfOk result (λ x. IsFeasible (labels_view bank.now.form.ssu.now) slots (vector x.on.items)) }
+    ensures cheap { IfOk result (λ x. (ws : List ℕ) → IsCheapFor (labels_view bank.now.form.ssu.now) ws (costs_of (weighted_costs (labels_view bank.now.form.ssu.now) ws) (vector x.on.items))) }
 {
-    let names = column_names(alloc, s)?;
-    let numbers = column_numbers(alloc, s)?;
-    let on = choices(alloc, &numbers, &names)?;
+    let names = bank.names(alloc)?;
+    let on = choices(alloc, &bank.numbers, &names)?;
     Ok(Assignment { on })
 }

@@ -7,32 +7,44 @@ ghost use Rattle.ssu_ir.specs.View.{labels_view};
 ghost use Rattle.nova_back.specs.inner.Search.{IsCheap, IsStart};
 
 use crate::paired::paired;
+use bank_prog::{BankTables, Form};
 use nv_base::NoMemory;
 use placement::{PlaceError, spill_all};
-use reg_assign::from_placement;
-use ssu_ir::Ssu;
-use ssu_liveness::peak;
+use reg_assign::vector_of;
+use ssu_liveness::longest_row;
 use std::alloc::Global;
 use zo_model::Assignment;
 
 /// So many values fit a bank: one register of its 16 is the compiler's own.
-const BANK_ROOM: u32 = 15;
+const BANK_ROOM: usize = 15;
+
+/// The greatest number of live values at a point.
+fn peak_of(f: &Form<'_>) -> usize
+    requires { single (labels_view f.now.ssu.now) ≡ true }
+    ensures { result ≡ measures.peak (labels_view f.now.ssu.now) }
+{
+    longest_row(&f.live)
+}
 
 /// A choice of banks that meets the rows: each value in both banks where all live values at once fit a bank,
 /// else each in a slot where they fit the slots, else none.
-pub fn start_of(alloc: Global, s: &Ssu, slots: u32) -> Result<Option<Assignment>, NoMemory>
-    requires single { single (labels_view s.now) ≡ true }
+pub fn start_of(
+    alloc: Global,
+    bank: &BankTables<'_>,
+    slots: u32,
+) -> Result<Option<Assignment>, NoMemory>
+    requires single { single (labels_view bank.now.form.ssu.now) ≡ true }
     requires slots { slots ≤ 128 }
-    ensures start { IfOk result (IsStart (labels_view s.now) slots) }
-    ensures cheap { measures.peak (labels_view s.now) ≤ 15 → IfOk result (IsCheap (labels_view s.now)) }
+    ensures start { IfOk result (IsStart (labels_view bank.now.form.ssu.now) slots) }
+    ensures cheap { measures.peak (labels_view bank.now.form.ssu.now) ≤ 15 → IfOk result (IsCheap (labels_view bank.now.form.ssu.now)) }
 {
-    if peak(alloc, s)? <= BANK_ROOM {
-        let x = paired(alloc, s)?;
+    if peak_of(&bank.form) <= BANK_ROOM {
+        let x = paired(alloc, bank)?;
         return Ok(Some(x));
     }
-    match spill_all(alloc, s, slots) {
+    match spill_all(alloc, bank.form.ssu, slots) {
         Ok(placement) => {
-            let x = from_placement(alloc, s, &placement)?;
+            let x = vector_of(alloc, bank, &placement)?;
             Ok(Some(x))
         }
         Err(PlaceError::TooFew(_)) => Ok(None),

@@ -1,6 +1,6 @@
 // The 0-1 programs of a sum of two parameters and of two labels under weights, a placement's vector, and code.
 use crate::sum::sum;
-use bank_prog::{Bank, Column, build, column_names, column_numbers, number};
+use bank_prog::{Bank, Column, bank_tables_of, build, number};
 use nova_back::{BackError, Built, back};
 use nv_base::{NoMemory, Vars};
 use place_ir::{Weights, spill_all};
@@ -81,11 +81,15 @@ fn columns_cost_by_the_weights_of_their_labels(rt: HostRuntime) -> Result<(), Fa
 fn a_sum_has_named_columns(rt: HostRuntime) -> Result<(), Fail> {
     let s = sum(rt.alloc())?;
     assert!(rt; single(&s));
-    let names = column_names(rt.alloc(), &s)?;
-    assert_eq!(rt; names.len(), 63);
-    let numbers = column_numbers(rt.alloc(), &s)?;
-    assert_eq!(rt; number(&numbers, Column::Def(0, Bank::B)), Some(1));
-    assert_eq!(rt; number(&numbers, Column::Def(3, Bank::B)), None);
+    match bank_tables_of(rt.alloc(), &s) {
+        Ok(bank) => {
+            let names = bank.names(rt.alloc())?;
+            assert_eq!(rt; names.len(), 63);
+            assert_eq!(rt; number(&bank.numbers, Column::Def(0, Bank::B)), Some(1));
+            assert_eq!(rt; number(&bank.numbers, Column::Def(3, Bank::B)), None);
+        }
+        Err(_) => assert!(rt; false),
+    }
     Ok(())
 }
 

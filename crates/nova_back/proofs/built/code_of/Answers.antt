@@ -12,24 +12,30 @@ use Rattle.nova_back.proofs.Sizes.{size-few}
 use Rattle.nova_back.proofs.built.code_of.Goals as goal
 
 pub emit-requires-clause-few : goal.emit-requires-clause-few
-emit-requires-clause-few c = size-few (labels_view c.args.s.now) c.args.slots c.requires.single c.requires.few c.requires.few_rows
+emit-requires-clause-few c = size-few (labels_view c.args.bank.now.form.ssu.now) c.args.slots c.requires.single c.args.bank.now.few c.requires.few_rows
+
+pub assign_by-requires-clause-feasible : goal.assign_by-requires-clause-feasible
+assign_by-requires-clause-feasible c = c.requires.choice.feasible
+
+pub emit-requires-clause-fits : goal.emit-requires-clause-fits
+emit-requires-clause-fits c = c.in_ok-placement.ensures.fits
 
 pub returns-clause-code : goal.returns-clause-code
 returns-clause-code c =
-    let labels = labels_view c.args.s.now in
+    let labels = labels_view c.args.bank.now.form.ssu.now in
     let old = c.in_ok-emitted.emitted.code in
     let new = c.in_ok-peeped.peeped.code in
     let without = c.in_ok-peeped.ensures.without in
     record {
       lawful = c.in_ok-peeped.ensures.lawful;
       agrees = (c.in_ok-peeped.ensures.agrees (ssu_params labels) (ssu_meaning labels)).0 c.in_ok-emitted.ensures.agrees;
-      spills = spills-left c.args.slots old.list new.list without (subst (λ n. SpillsByBase n old.list) c.in_ok-placement.ensures.slots c.in_ok-emitted.ensures.spills);
+      spills = spills-left c.args.slots old.list new.list without (subst (λ n. SpillsByBase n old.list) c.in_ok-placement.ensures.slots_are c.in_ok-emitted.ensures.spills);
       does = subst (λ os. LeavesOut os (code_operations new.list)) c.in_ok-emitted.ensures.operations (operations-left old.list new.list without);
     }
 
 pub returns-clause-starts : goal.returns-clause-starts
 returns-clause-starts c =
-    let labels = labels_view c.args.s.now in
+    let labels = labels_view c.args.bank.now.form.ssu.now in
     let kept = c.in_ok-peeped.ensures.kept in
     let starts = c.in_ok-emitted.ensures.starts in
     record {
@@ -44,7 +50,7 @@ returns-clause-starts c =
     }
 
 pub returns-clause-light : goal.returns-clause-light
-returns-clause-light c = λ ws. le_trans (c.in_ok-peeped.ensures.kept.moves ws) (le_trans (c.in_ok-emitted.ensures.weighted ws) (c.in_ok-placement.ensures.weighted_cost ws))
+returns-clause-light c = λ ws. le_trans (c.in_ok-peeped.ensures.kept.moves ws) (le_trans (c.in_ok-emitted.ensures.weighted ws) (c.in_ok-placement.ensures.weighted_paid ws))
 
 pub returns-clause-short : goal.returns-clause-short
 returns-clause-short c = le_trans c.in_ok-peeped.ensures.kept.most c.in_ok-emitted.ensures.short

@@ -4,8 +4,8 @@ use Rattle.nova_back.proofs.choice.choice_of.Goals as goal
 
 pub returns-clause-chosen : goal.returns-clause-chosen
 returns-clause-chosen c =
-    chosen-report (labels_view c.args.s.now) c.args.slots c.args.w.now c.args.budget c.in_ok-report.report c.with_vector.result c.in_ok-report.ensures.report c.with_vector.ensures.same c.with_vector.ensures.found
+    chosen-report (labels_view c.args.bank.now.form.ssu.now) c.args.slots c.args.w.now c.args.budget c.in_ok-report.report c.with_vector.result c.in_ok-report.ensures.report c.with_vector.ensures.same c.with_vector.ensures.found
 
 pub returns-clause-refused : goal.returns-clause-refused
 returns-clause-refused c =
-    unfound-report (labels_view c.args.s.now) c.args.slots c.args.w.now c.args.budget c.in_ok-report.report c.with_vector.result c.in_ok-report.ensures.report c.with_vector.ensures.told
+    unfound-report (labels_view c.args.bank.now.form.ssu.now) c.args.slots c.args.w.now c.args.budget c.in_ok-report.report c.with_vector.result c.in_ok-report.ensures.report c.with_vector.ensures.told

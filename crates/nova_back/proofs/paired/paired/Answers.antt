@@ -12,20 +12,20 @@ use Rattle.nova_back.proofs.paired.paired.Goals as goal
 
 pub returns-clause-columns : goal.returns-clause-columns
 returns-clause-columns c =
-    let f = paired (get same_column c.in_ok-numbers.numbers) in
-    let names = columns (labels_view c.args.s.now) in
+    let f = paired (get same_column c.args.bank.now.numbers) in
+    let names = columns (labels_view c.args.bank.now.form.ssu.now) in
     ap (λ l. length l) (c.in_ok-on.ensures ∙ ap (map f) (c.deref.ensures.value ∙ c.in_ok-names.ensures)) ∙ length-map names f
 
 pub returns-clause-feasible : goal.returns-clause-feasible
 returns-clause-feasible c = λ slots l.
-    let labels = labels_view c.args.s.now in
-    let number = get same_column c.in_ok-numbers.numbers in
+    let labels = labels_view c.args.bank.now.form.ssu.now in
+    let number = get same_column c.args.bank.now.numbers in
     let e : c.in_ok-on.on.items ≡ map (paired number) (columns labels) = c.in_ok-on.ensures ∙ ap (map (paired number)) (c.deref.ensures.value ∙ c.in_ok-names.ensures) in
-    paired-lines labels (on labels (vector c.in_ok-on.on.items)) slots (vector-paired labels number c.in_ok-on.on.items c.requires c.in_ok-numbers.ensures e) l
+    paired-lines labels (on labels (vector c.in_ok-on.on.items)) slots (vector-paired labels number c.in_ok-on.on.items c.requires c.args.bank.now.numbered e) l
 
 pub returns-clause-cheap : goal.returns-clause-cheap
 returns-clause-cheap c = λ ws.
-    let labels = labels_view c.args.s.now in
-    let number = get same_column c.in_ok-numbers.numbers in
+    let labels = labels_view c.args.bank.now.form.ssu.now in
+    let number = get same_column c.args.bank.now.numbers in
     let e : c.in_ok-on.on.items ≡ map (paired number) (columns labels) = c.in_ok-on.ensures ∙ ap (map (paired number)) (c.deref.ensures.value ∙ c.in_ok-names.ensures) in
-    paired-costs labels ws (vector c.in_ok-on.on.items) (vector-paired labels number c.in_ok-on.on.items c.requires c.in_ok-numbers.ensures e)
+    paired-costs labels ws (vector c.in_ok-on.on.items) (vector-paired labels number c.in_ok-on.on.items c.requires c.args.bank.now.numbered e)
