@@ -3,3 +3,4 @@ pub mod Rest
 pub mod Whole
 pub mod Single
 pub mod SourceBounds
+pub mod SimpleFlows

@@ -9,8 +9,8 @@ use Rattle.flow_ir.specs.Bulk.{bulk}
 use Rattle.flow_ir.specs.Meaning.{flow_meaning, flow_params}
 use Rattle.flow_ir.specs.Tree.{Label}
 use Rattle.flow_ir.specs.Wide.{wide}
-use Rattle.cps_rules.specs.Simplified.{AreTidy}
-use Rattle.nova_middle.specs.Rules.{IsAtRest}
+use Rattle.flow_contract.specs.Contracted.{AreContracted}
+use Rattle.flow_prune.specs.Wanted.{AllWanted}
 
 pub equal_kept : (a b : ℕ) (m n : List ℕ → Memories → Meaning) → b ≡ a → AreEqual a m n → KeepsOutcomes a b m n
 equal_kept a b m n e h = subst (λ k. KeepsOutcomes a k m n) (sym e) (keeps-equal a m n h)
@@ -33,16 +33,19 @@ if_ok (Err e) P Q f h = tt
 
 pub record Reduced (f g : List Label) : Type 0 where
   pub kept : KeepsOutcomes (flow_params f) (flow_params g) (flow_meaning f) (flow_meaning g)
-  pub rules : All IsAtRest g
-  pub tidy : AreTidy g
+  pub contracted : AreContracted g
+  pub wanted : AllWanted g
   pub wide : wide g ≤ wide f
   pub bulk : IsAtMost (bulk g) (bulk f)
 
-pub again : (f g h : List Label) → Reduced f g → Reduced g h → Reduced f h
-again f g h p q = record {
-  kept = keeps-trans (flow_params f) (flow_params g) (flow_params h) (flow_meaning f) (flow_meaning g) (flow_meaning h) p.kept q.kept;
-  rules = q.rules;
-  tidy = q.tidy;
-  wide = le_trans q.wide p.wide;
-  bulk = most-trans (bulk h) (bulk g) (bulk f) q.bulk p.bulk;
+-- g is simplified to h, which is reduced to k
+pub again : (f g h k : List Label) → Reduced f g → flow_params h ≡ flow_params g → AreEqual (flow_params g) (flow_meaning g) (flow_meaning h) → wide h ≤ wide g → IsAtMost (bulk h) (bulk g) → Reduced h k → Reduced f k
+again f g h k p params equal narrow small q = record {
+  kept =
+      keeps-trans (flow_params f) (flow_params g) (flow_params k) (flow_meaning f) (flow_meaning g) (flow_meaning k) p.kept
+      (keeps-trans (flow_params g) (flow_params h) (flow_params k) (flow_meaning g) (flow_meaning h) (flow_meaning k) (equal_kept (flow_params g) (flow_params h) (flow_meaning g) (flow_meaning h) params equal) q.kept);
+  contracted = q.contracted;
+  wanted = q.wanted;
+  wide = le_trans q.wide (le_trans narrow p.wide);
+  bulk = most-trans (bulk k) (bulk h) (bulk f) q.bulk (most-trans (bulk h) (bulk g) (bulk f) small p.bulk);
 }

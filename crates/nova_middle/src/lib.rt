@@ -4,6 +4,7 @@
 pub mod laws;
 mod program;
 mod rules;
+mod simple;
 
 pub use program::{middle, to_flow};
 pub use rules::simplified;

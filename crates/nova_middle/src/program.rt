@@ -12,6 +12,8 @@ ghost use Rattle.flow_ir.specs.Meaning.{flow_meaning, flow_params};
 ghost use Rattle.flow_ir.specs.View.{label_view};
 ghost use Rattle.flow_ir.specs.Wide.{wide};
 ghost use Rattle.cps_rules.specs.Simplified.{AreTidy};
+ghost use Rattle.flow_contract.specs.Contracted.{AreContracted};
+ghost use Rattle.flow_prune.specs.Wanted.{AllWanted};
 ghost use Rattle.nova_middle.specs.Rules.{IsAtRest};
 ghost use Rattle.ssu_ir.specs.Meaning.{ssu_meaning, ssu_params};
 ghost use Rattle.ssu_ir.specs.Measures.{peak, size, code_bound};
@@ -20,23 +22,28 @@ ghost use Rattle.ssu_ir.specs.View.{labels_view};
 ghost use Rattle.ssu_make.specs.Bounds.{size_bound, length_bound};
 
 use crate::rules::simplified;
+use crate::simple::are_simple;
 use cps_close::close;
 use cps_inline::inline;
 use cps_lower::lower;
 use flat_ir::FlatProgram;
 use flow_contract::contract;
 use flow_ir::{Flow, Tree};
+use flow_prune::prune;
 use nv_base::NoMemory;
 use ssu_ir::Ssu;
 use ssu_make::make;
 use std::alloc::Global;
 
 /// The flow of a flat program, which has its outcomes and is neither wider nor larger: in continuation form, in
-/// one function, in labels without free variables, and simplified by the rules. No `Let` is left that a rule
-/// answers, that is just another operand, or whose variable nothing uses. Memory exhaustion is also the answer
+/// one function, in labels without free variables, contracted, and simplified by the rules. To each label but 0 at
+/// least two jumps lead, and each of its parameters is wanted; no `If` compares two literals. No `Let` is left that
+/// a rule answers, that is just another operand, or whose variable nothing uses. Memory exhaustion is also the answer
 /// where a form would need 2^32 labels or variables.
 pub fn to_flow(alloc: Global, f: &FlatProgram) -> Result<Flow, NoMemory>
     ensures kept { IfOk result (λ g. KeepsOutcomes (flat_params f.now.funs.items f.now.main) (flow_params (map label_view g.labels.items)) (flat_meaning f.now.funs.items f.now.main) (flow_meaning (map label_view g.labels.items))) }
+    ensures contracted { IfOk result (λ g. AreContracted (map label_view g.labels.items)) }
+    ensures wanted { IfOk result (λ g. AllWanted (map label_view g.labels.items)) }
     ensures rules { IfOk result (λ g. All IsAtRest (map label_view g.labels.items)) }
     ensures tidy { IfOk result (λ g. AreTidy (map label_view g.labels.items)) }
     ensures wide { IfOk result (λ g. wide (map label_view g.labels.items) ≤ flat_wide f.now.funs.items f.now.main) }
@@ -48,40 +55,38 @@ pub fn to_flow(alloc: Global, f: &FlatProgram) -> Result<Flow, NoMemory>
     reduce(alloc, &closed)
 }
 
-// How often a flow is contracted and simplified again at most. Each makes work for the other.
-const ROUNDS: u32 = 6;
-
-// The flow contracted, and simplified.
-fn contract_and_simplify(alloc: Global, f: &Flow) -> Result<Flow, NoMemory>
+// The flow contracted, and without the parameters that nothing wants.
+fn contract_and_prune(alloc: Global, f: &Flow) -> Result<Flow, NoMemory>
     ensures kept { IfOk result (λ g. KeepsOutcomes (flow_params (map label_view f.now.labels.items)) (flow_params (map label_view g.labels.items)) (flow_meaning (map label_view f.now.labels.items)) (flow_meaning (map label_view g.labels.items))) }
-    ensures rules { IfOk result (λ g. All IsAtRest (map label_view g.labels.items)) }
-    ensures tidy { IfOk result (λ g. AreTidy (map label_view g.labels.items)) }
+    ensures contracted { IfOk result (λ g. AreContracted (map label_view g.labels.items)) }
+    ensures wanted { IfOk result (λ g. AllWanted (map label_view g.labels.items)) }
     ensures wide { IfOk result (λ g. wide (map label_view g.labels.items) ≤ wide (map label_view f.now.labels.items)) }
     ensures bulk { IfOk result (λ g. IsAtMost (bulk (map label_view g.labels.items)) (bulk (map label_view f.now.labels.items))) }
 {
     let contracted = contract(alloc, f)?;
-    simplified(alloc, contracted)
+    prune(alloc, &contracted)
 }
 
-// The same again, as long as nodes become fewer.
+// Rounds of this and simplification, until simplification would leave the flow as it is. Each that isn't the last
+// leaves fewer nodes, so there are enough, and memory exhaustion doesn't come of this.
 fn reduce(alloc: Global, f: &Flow) -> Result<Flow, NoMemory>
     ensures kept { IfOk result (λ g. KeepsOutcomes (flow_params (map label_view f.now.labels.items)) (flow_params (map label_view g.labels.items)) (flow_meaning (map label_view f.now.labels.items)) (flow_meaning (map label_view g.labels.items))) }
+    ensures contracted { IfOk result (λ g. AreContracted (map label_view g.labels.items)) }
+    ensures wanted { IfOk result (λ g. AllWanted (map label_view g.labels.items)) }
     ensures rules { IfOk result (λ g. All IsAtRest (map label_view g.labels.items)) }
     ensures tidy { IfOk result (λ g. AreTidy (map label_view g.labels.items)) }
     ensures wide { IfOk result (λ g. wide (map label_view g.labels.items) ≤ wide (map label_view f.now.labels.items)) }
     ensures bulk { IfOk result (λ g. IsAtMost (bulk (map label_view g.labels.items)) (bulk (map label_view f.now.labels.items))) }
 {
-    let mut g = contract_and_simplify(alloc, f)?;
-    let mut nodes = nodes_of(&g);
-    'rounds: for _ in 0..ROUNDS {
-        g = contract_and_simplify(alloc, &g)?;
-        let left = nodes_of(&g);
-        if left == nodes {
+    let mut g = contract_and_prune(alloc, f)?;
+    'rounds: for _ in 0..=nodes_of(f) {
+        if are_simple(&g.labels) {
             return Ok(g);
         }
-        nodes = left;
+        let simple = simplified(alloc, g)?;
+        g = contract_and_prune(alloc, &simple)?;
     }
-    Ok(g)
+    Err(NoMemory)
 }
 
 // How many nodes there are.

@@ -53,8 +53,8 @@ fn is_operand(a: Atom, b: Atom) -> bool
     }
 }
 
-// Whether an operation leaves its first operand as it is.
-fn leaves_first(op: Bin, a: Atom, b: Atom) -> bool
+/// Whether an operation leaves its first operand as it is.
+pub fn leaves_first(op: Bin, a: Atom, b: Atom) -> bool
     ensures { result ≡ spec.leaves_first op a b }
 {
     match op {
@@ -66,8 +66,8 @@ fn leaves_first(op: Bin, a: Atom, b: Atom) -> bool
     }
 }
 
-// Whether an operation leaves its second operand as it is.
-fn leaves_second(op: Bin, a: Atom) -> bool
+/// Whether an operation leaves its second operand as it is.
+pub fn leaves_second(op: Bin, a: Atom) -> bool
     ensures { result ≡ spec.leaves_second op a }
 {
     match op {
@@ -79,8 +79,8 @@ fn leaves_second(op: Bin, a: Atom) -> bool
     }
 }
 
-// Whether an operation gives 0.
-fn leaves_nothing(op: Bin, a: Atom, b: Atom) -> bool
+/// Whether an operation gives 0.
+pub fn leaves_nothing(op: Bin, a: Atom, b: Atom) -> bool
     ensures { result ≡ spec.leaves_nothing op a b }
 {
     match op {

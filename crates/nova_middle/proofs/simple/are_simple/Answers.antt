@@ -1,0 +1,8 @@
+use Rattle.nova_middle.proofs.SimpleFlows.{simple_more, simple_all}
+use Rattle.nova_middle.proofs.simple.are_simple.Goals as goal
+
+pub loop-l-preserved : goal.loop-l-preserved
+loop-l-preserved c = simple_more c.args.labels.now c.loop-l.l-index c.l-item.result c.l-item.result c.loop-l-test.true c.l-item.is (c.is_simple.ensures c.if-not-is_simple.false) c.loop-l.invariant
+
+pub returns : goal.returns
+returns c = λ e. simple_all c.args.labels.now c.loop-l.l-index c.loop-l-test.false c.loop-l.invariant
