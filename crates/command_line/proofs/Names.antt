@@ -1,9 +1,10 @@
 -- What the words of `compile` name: files with different names, and options.
-use Rattle.std.proofs.Common.{◌≡◌, ℕ, Bool, true, false, ◌&&◌, List, [], ◌∷◌, Option, Some, None, codes, refl, ap, sym, ◌∙◌}
-use Rattle.std.specs.Prelude.{not, option_map, if◌then◌else◌}
+use Rattle.std.proofs.Common.{◌≡◌, ℕ, ◌<◌, Bool, true, false, ◌&&◌, List, [], ◌∷◌, length, Option, Some, None, codes, refl, ap, sym, ◌∙◌, arith}
+use Rattle.std.specs.Prelude.{String, not, option_map, if◌then◌else◌}
+use Rattle.std.specs.declared.alloc.Global.{Global}
 use Rattle.std.specs.Str.{bytes_eq}
 use Rattle.std.proofs.lemmas.Slice.Eq.{bytes_eq-Decides}
-use Rattle.command_line.specs.Command.{Command, Run, Exec, Asm, Dis, Lint, Check, Contexts, Peep, Counts, Compile, Options, IfCompile, is_name, are_names, are_three_names, is_another, number_in, steps_of, gen_with, gen_of, command_of_two, command_of_three, command_of_four, command_of_more, compile_with, compile_of, counts_of, options_of, options_with, taken, weights_of, command_of}
+use Rattle.command_line.specs.Command.{Command, Run, Exec, Asm, Dis, Lint, Check, Contexts, Peep, Trace, Counts, Compile, Options, IfCompile, is_name, are_names, are_three_names, is_another, number_in, steps_of, gen_with, gen_of, command_of_two, command_of_three, command_of_four, command_of_more, trace_calls, trace_line, trace_with, trace_of, compile_with, compile_of, counts_of, options_of, options_with, taken, weights_of, command_of, texts}
 use Rattle.command_line.specs.Limits.{slots_limit, budget_default, budget_limit, store_default, store_limit}
 
 abbrev pub AreApart : Option Command → Type 0
@@ -76,10 +77,31 @@ compile-apart source object report words =
     either (are_three_names source object report) (compile_with source object report (options_of words)) None
     (λ e. with-apart source object report (options_of words) (differ object report (second-true (are_names source object && are_names source report) (are_names object report) e))) tt
 
+-- of `trace`
+trace-with-apart : (source object memory : List ℕ) (steps calls : Option ℕ) (line : Option (Option ℕ)) → AreApart (trace_with source object memory steps calls line)
+trace-with-apart source object memory (Some steps) (Some calls) (Some line) = tt
+trace-with-apart source object memory (Some steps) (Some calls) None = tt
+trace-with-apart source object memory (Some steps) None line = tt
+trace-with-apart source object memory None calls line = tt
+
+trace-apart : (source object memory : List ℕ) (words : List (List ℕ)) → AreApart (trace_of source object memory words)
+trace-apart source object memory [] = tt
+trace-apart source object memory (steps ∷ []) = tt
+trace-apart source object memory (steps ∷ calls ∷ words) =
+    either (are_three_names source object memory) (trace_with source object memory (steps_of steps) (trace_calls calls) (trace_line words)) None
+    (λ e. trace-with-apart source object memory (steps_of steps) (trace_calls calls) (trace_line words)) tt
+
+-- fewer than two words are no `trace`
+pub trace-short : (source object memory : List ℕ) (words : List (String Global)) → length words < 2 → trace_of source object memory (texts words) ≡ None
+trace-short source object memory [] few = refl
+trace-short source object memory (steps ∷ []) few = refl
+trace-short source object memory (steps ∷ calls ∷ words) few = absurd (omega arith)
+
 more-apart : (verb a b c : List ℕ) (words : List (List ℕ)) → AreApart (command_of_more verb a b c words)
 more-apart verb a b c words =
     either (bytes_eq verb (codes "compile")) (compile_of a b c words) _ (λ e. compile-apart a b c words)
-    (either (bytes_eq verb (codes "counts")) (counts_of a b c words) (command_of_four verb a b c words) (λ e. counts-apart a b c words) (four-apart verb a b c words))
+    (either (bytes_eq verb (codes "counts")) (counts_of a b c words) _ (λ e. counts-apart a b c words)
+    (either (bytes_eq verb (codes "trace")) (trace_of a b c words) (command_of_four verb a b c words) (λ e. trace-apart a b c words) (four-apart verb a b c words)))
 
 pub words-apart : (words : List (List ℕ)) → AreApart (command_of words)
 words-apart [] = tt

@@ -17,6 +17,7 @@ pub data Command : Type 0 where
   Gen : (seed size : ℕ) → Command
   Contexts : (object memory schedule : List ℕ) → Command
   Peep : (object output : List ℕ) → Command
+  Trace : (source object memory : List ℕ) (steps calls : ℕ) (line : Option ℕ) → Command
   Counts : (source memory output : List ℕ) (jumps : ℕ) → Command
 
 -- the texts of words
@@ -157,11 +158,29 @@ counts_of source memory output (word ∷ []) =
     else None
 counts_of source memory output _ = None
 
+-- trace SRC OBJ MEM steps=N calls=N [line=N]
+abbrev pub trace_calls : List ℕ → Option ℕ
+trace_calls word = option_of (codes "calls=") 1 100000000 word
+
+abbrev pub trace_line : List (List ℕ) → Option (Option ℕ)
+trace_line [] = Some None
+trace_line (word ∷ []) = option_map Some (option_of (codes "line=") 1 1000000 word)
+trace_line _ = None
+
+abbrev pub trace_with : List ℕ → List ℕ → List ℕ → Option ℕ → Option ℕ → Option (Option ℕ) → Option Command
+trace_with source object memory (Some steps) (Some calls) (Some line) = Some (Trace source object memory steps calls line)
+trace_with source object memory _ _ _ = None
+
+abbrev pub trace_of : List ℕ → List ℕ → List ℕ → List (List ℕ) → Option Command
+trace_of source object memory (steps ∷ calls ∷ words) =
+    if are_three_names source object memory then trace_with source object memory (steps_of steps) (trace_calls calls) (trace_line words) else None
+trace_of source object memory _ = None
+
 abbrev pub command_of_more : List ℕ → List ℕ → List ℕ → List ℕ → List (List ℕ) → Option Command
 command_of_more verb a b c words =
     if bytes_eq verb (codes "compile") then compile_of a b c words
     else if bytes_eq verb (codes "counts") then counts_of a b c words
-    else command_of_four verb a b c words
+    else if bytes_eq verb (codes "trace") then trace_of a b c words else command_of_four verb a b c words
 
 -- the command of a list of words
 abbrev pub command_of : List (List ℕ) → Option Command
@@ -182,6 +201,7 @@ outputs_of (Check report) = []
 outputs_of (Gen seed size) = []
 outputs_of (Contexts object memory schedule) = []
 outputs_of (Peep object output) = output ∷ []
+outputs_of (Trace source object memory steps calls line) = []
 outputs_of (Counts source memory output jumps) = output ∷ []
 
 -- a fact about one of these files
@@ -207,3 +227,8 @@ IfGen _ P = ⊤
 abbrev pub ForCommand : Option Command → (Command → Type 0) → Type 0
 ForCommand (Some command) P = P command
 ForCommand None P = ⊥
+
+-- a fact about the source and the object of `trace`, where the command is that one
+abbrev pub IfTrace : Option Command → (List ℕ → List ℕ → Type 0) → Type 0
+IfTrace (Some (Trace source object memory steps calls line)) P = P source object
+IfTrace _ P = ⊤

@@ -1,6 +1,6 @@
 -- The files that a command reads, in the order of the words.
 use Rattle.std.specs.Prelude.{ℕ, List, [], ◌∷◌, Option, Some, None}
-use Rattle.command_line.specs.Command.{Command, Compile, Run, Exec, Asm, Dis, Lint, Check, Gen, Contexts, Peep, Counts}
+use Rattle.command_line.specs.Command.{Command, Compile, Run, Exec, Asm, Dis, Lint, Check, Gen, Contexts, Peep, Trace, Counts}
 use Rattle.command_line.specs.Limits.{source_limit, object_limit, memory_limit, assembly_limit, report_limit, schedule_limit, weights_limit}
 
 -- a file that is read, and how many bytes it may have
@@ -28,4 +28,5 @@ inputs_of (Check report) = input report report_limit ∷ []
 inputs_of (Gen seed size) = []
 inputs_of (Contexts object memory schedule) = input object object_limit ∷ input memory memory_limit ∷ input schedule schedule_limit ∷ []
 inputs_of (Peep object output) = input object object_limit ∷ []
+inputs_of (Trace source object memory steps calls line) = input source source_limit ∷ input object object_limit ∷ input memory memory_limit ∷ []
 inputs_of (Counts source memory output jumps) = input source source_limit ∷ input memory memory_limit ∷ []

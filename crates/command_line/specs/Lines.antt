@@ -6,7 +6,7 @@ use Rattle.zo_cert.specs.declared.report.Verdict.TheVariants as verdict
 use Rattle.command_line.specs.declared.status.Status.{Status}
 use Rattle.command_line.specs.declared.status.Status.TheVariants as status
 use Rattle.command_line.specs.declared.refusal.Refusal.{Refusal}
-use Rattle.command_line.specs.declared.refusal.Refusal.TheVariants.{NoMemory, ReadFault, TooLarge, SourceChar, SourceNumber, SourceName, SourceSyntax, SourceDeep, SourceType, SourceLarge, Syntax, Label, BadObject, BadMemoryText, BadReport, FalseReport, Unlawful, UnlawfulLine, StoreFull, BadWeights, BadSchedule}
+use Rattle.command_line.specs.declared.refusal.Refusal.TheVariants.{NoMemory, ReadFault, TooLarge, SourceChar, SourceNumber, SourceName, SourceSyntax, SourceDeep, SourceType, SourceLarge, Syntax, Label, BadObject, BadMemoryText, BadReport, FalseReport, Unlawful, UnlawfulLine, StoreFull, BadWeights, BadSchedule, TraceParams, TraceWrite}
 
 -- a text and a name
 abbrev pub named : List ℕ → List ℕ → List ℕ
@@ -38,6 +38,10 @@ compiled_text instructions found cost = codes "compiled " ++ decimal instruction
 -- how many instructions code had, and how many it has without the needless ones
 abbrev pub peeped_text : ℕ → ℕ → List ℕ
 peeped_text before after = codes "peeped " ++ decimal before ++ 32 ∷ decimal after ++ 10 ∷ []
+
+-- how many parameters code has, and how many words main of a source takes
+abbrev pub trace_params_text : ℕ → ℕ → List ℕ
+trace_params_text code main = codes "trace params " ++ decimal code ++ 32 ∷ decimal main ++ 10 ∷ []
 
 -- where no choice of banks meets the rows, or none was found with so many branches
 abbrev pub infeasible_text : List ℕ
@@ -80,6 +84,8 @@ refusal_text (UnlawfulLine n rule) = ruled (codes "unlawful line ") n rule
 refusal_text (StoreFull n) = counted (codes "store ") n
 refusal_text (BadWeights n) = counted (codes "weights line ") n
 refusal_text (BadSchedule n) = counted (codes "schedule line ") n
+refusal_text (TraceParams code main) = trace_params_text code main
+refusal_text (TraceWrite n) = counted (codes "trace write ") n
 
 -- the status of a command that isn't done
 abbrev pub refusal_status : Refusal → Status
@@ -104,6 +110,8 @@ refusal_status (UnlawfulLine n rule) = status.Unlawful
 refusal_status (StoreFull n) = status.StoreFull
 refusal_status (BadWeights n) = status.BadWeights
 refusal_status (BadSchedule n) = status.BadSchedule
+refusal_status (TraceParams code main) = status.Disagrees
+refusal_status (TraceWrite n) = status.Disagrees
 
 -- memory ran out, which has no cause that is told
 abbrev pub IsUncaused : Refusal → Type 0

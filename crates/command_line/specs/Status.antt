@@ -3,7 +3,7 @@ use Rattle.std.specs.Prelude.{ℕ}
 use Rattle.nv_base.specs.declared.outcome.Outcome.{Outcome}
 use Rattle.nv_base.specs.declared.outcome.Outcome.TheVariants as outcome
 use Rattle.command_line.specs.declared.status.Status.{Status}
-use Rattle.command_line.specs.declared.status.Status.TheVariants.{Done, Usage, ReadFault, WriteFault, NoMemory, Syntax, TypeFault, TooLarge, Infeasible, BudgetSpent, StoreFull, BadObject, BadMemoryText, Raised, Fault, StepsSpent, CertificateRefused, Unlawful, BadWeights, BadSchedule}
+use Rattle.command_line.specs.declared.status.Status.TheVariants.{Done, Usage, ReadFault, WriteFault, NoMemory, Syntax, TypeFault, TooLarge, Infeasible, BudgetSpent, StoreFull, BadObject, BadMemoryText, Raised, Fault, StepsSpent, CertificateRefused, Unlawful, BadWeights, BadSchedule, Disagrees}
 
 -- the numbers of the statuses
 abbrev pub status_number : Status → ℕ
@@ -27,6 +27,7 @@ status_number CertificateRefused = 17
 status_number Unlawful = 18
 status_number BadWeights = 21
 status_number BadSchedule = 22
+status_number Disagrees = 23
 
 -- the status of a run of the engine, or of a program, by how it ended
 abbrev pub outcome_status : Outcome → Status

@@ -1,6 +1,6 @@
 //! The words of a command line.
 ghost use Rattle.std.specs.Prelude.{◌≡◌, ◌≤◌, [], None, Some, IfSome, IfNone};
-ghost use Rattle.command_line.specs.Command.{command_of, command_of_two, command_of_three, command_of_four, command_of_more, compile_of, counts_of, options_of, weights_of, taken, gen_of, number_in, option_of, texts, texts_of};
+ghost use Rattle.command_line.specs.Command.{command_of, command_of_two, command_of_three, command_of_four, command_of_more, compile_of, counts_of, options_of, weights_of, taken, gen_of, trace_line, trace_of, number_in, option_of, texts, texts_of};
 ghost use Rattle.command_line.specs.Command.{are_names as names_differ, are_three_names as three_names_differ, is_another as fourth_differs, name_after as named_after};
 ghost use Rattle.command_line.specs.inner.Words.{command_as, name_as, options_as, AreInLimits, HasLimits};
 
@@ -13,6 +13,9 @@ const MOST_STEPS: u64 = 100_000_000;
 /// The greatest seed.
 const MOST_SEED: u64 = 4_294_967_295;
 
+/// The greatest line of a source up to which a trace can be asked for.
+const MOST_LINE: u64 = 1_000_000;
+
 /// The most lines of a made source.
 const MOST_LINES: u64 = 500;
 
@@ -22,6 +25,15 @@ pub struct Options {
     pub slots: u32,
     pub budget: u32,
     pub store: u32,
+}
+
+/// How far a source and a code are traced: the number of steps of the code, that of calls of the source, and the line of the
+/// source with whose first write the text ends, where one is given.
+#[derive(Clone, Copy)]
+pub struct Tracing {
+    pub steps: u64,
+    pub calls: u64,
+    pub line: Option<u32>,
 }
 
 /// A command with what its words name.
@@ -47,6 +59,8 @@ pub enum Command<'a> {
     Contexts(&'a str, &'a str, &'a str),
     /// Object, the object that is saved.
     Peep(&'a str, &'a str),
+    /// Source, object, memory text, and how far both run.
+    Trace(&'a str, &'a str, &'a str, Tracing),
     /// Source, memory text, the text of counts that is saved, number of jumps.
     Counts(&'a str, &'a str, &'a str, u64),
 }
@@ -161,6 +175,8 @@ fn of_more<'a>(
         of_compile(first, second, third, words)
     } else if verb == "counts" {
         of_counts(first, second, third, words)
+    } else if verb == "trace" {
+        of_trace(first, second, third, words)
     } else if words.is_empty() {
         of_four(verb, first, second, third)
     } else {
@@ -216,6 +232,44 @@ fn of_counts<'a>(
     match option_in(steps.as_str(), "steps=", 1, MOST_STEPS) {
         Some(n) => Some(Command::Counts(source, memory, output, n)),
         None => None,
+    }
+}
+
+// `trace SRC OBJ MEM steps=N calls=N`, and `line=N`, which may be absent.
+fn of_trace<'a>(
+    source: &'a str,
+    object: &'a str,
+    memory: &'a str,
+    words: &'a [String],
+) -> Option<Command<'a>>
+    ensures some { IfSome result (λ c. trace_of source.now object.now memory.now (texts words.now) ≡ Some (command_as c)) }
+    ensures none { IfNone result (trace_of source.now object.now memory.now (texts words.now) ≡ None) }
+    ensures limits { IfSome result HasLimits }
+{
+    let [steps, calls, line @ ..] = words else {
+        return None;
+    };
+    if !are_three_names(source, object, memory) {
+        return None;
+    }
+    let steps = option_in(steps.as_str(), "steps=", 1, MOST_STEPS)?;
+    let calls = option_in(calls.as_str(), "calls=", 1, MOST_STEPS)?;
+    let line = line_in(line)?;
+    Some(Command::Trace(source, object, memory, Tracing { steps, calls, line }))
+}
+
+// `line=N`, which may be absent, and no other word.
+fn line_in(words: &[String]) -> Option<Option<u32>>
+    ensures some { IfSome result (λ line. trace_line (texts words.now) ≡ Some line) }
+    ensures none { IfNone result (trace_line (texts words.now) ≡ None) }
+{
+    match words {
+        [] => Some(None),
+        [word] => match option_in(word.as_str(), "line=", 1, MOST_LINE) {
+            Some(n) => Some(Some(n as u32)),
+            None => None,
+        },
+        _ => None,
     }
 }
 

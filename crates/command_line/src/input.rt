@@ -41,6 +41,9 @@ impl<'a> Command<'a> {
                 Vec::from_array(alloc, [object(name), memory(text), schedule(turns)])?
             }
             Command::Peep(name, _) => Vec::from_array(alloc, [object(name)])?,
+            Command::Trace(name, code, text, _) => {
+                Vec::from_array(alloc, [source(name), object(code), memory(text)])?
+            }
             Command::Counts(name, text, _, _) => {
                 Vec::from_array(alloc, [source(name), memory(text)])?
             }

@@ -8,7 +8,7 @@ mod refusal;
 mod reply;
 mod status;
 
-pub use command::{Command, Options};
+pub use command::{Command, Options, Tracing};
 pub use input::Input;
 pub use refusal::{
     Refusal, compiled_line, counted_line, line, named_line, peeped_line, push_verdict,

@@ -1,6 +1,6 @@
 //! Why a command isn't done, and the line that says so.
 ghost use Rattle.std.specs.Prelude.{◌≡◌, ◌++◌, ◌∷◌, [], IfOk, OnOk};
-ghost use Rattle.command_line.specs.Lines.{refusal_text, refusal_status, counted, named, ruled, type_text, verdict_name, compiled_text, peeped_text};
+ghost use Rattle.command_line.specs.Lines.{refusal_text, refusal_status, counted, named, ruled, trace_params_text, type_text, verdict_name, compiled_text, peeped_text};
 ghost use Rattle.command_line.specs.declared.refusal.Refusal.TheVariants.{NoMemory as WantOfMemory};
 
 use crate::status::Status;
@@ -56,6 +56,10 @@ pub enum Refusal<'a> {
     BadWeights(u32),
     /// The first line of a schedule that isn't of its form, counted from 1.
     BadSchedule(u32),
+    /// The number of a code's parameters, and another one, of the words of a source's main.
+    TraceParams(u8, u8),
+    /// The first place, counted from 0, at which the writes of a code and of a source differ.
+    TraceWrite(u32),
 }
 
 impl<'a> From<NoMemory> for Refusal<'a> {
@@ -106,6 +110,7 @@ impl<'a> Refusal<'a> {
             Refusal::StoreFull(_) => Status::StoreFull,
             Refusal::BadWeights(_) => Status::BadWeights,
             Refusal::BadSchedule(_) => Status::BadSchedule,
+            Refusal::TraceParams(_, _) | Refusal::TraceWrite(_) => Status::Disagrees,
         }
     }
 
@@ -135,6 +140,8 @@ impl<'a> Refusal<'a> {
             Refusal::StoreFull(n) => counted_line(alloc, b"store ", u64::from(n)),
             Refusal::BadWeights(n) => counted_line(alloc, b"weights line ", u64::from(n)),
             Refusal::BadSchedule(n) => counted_line(alloc, b"schedule line ", u64::from(n)),
+            Refusal::TraceParams(code, main) => trace_params_line(alloc, code, main),
+            Refusal::TraceWrite(n) => counted_line(alloc, b"trace write ", u64::from(n)),
         }
     }
 }
@@ -180,6 +187,19 @@ fn ruled_line(alloc: Global, text: &[u8], n: u32, rule: u8) -> Result<Vec<u8>, N
     push_decimal(&mut out, u64::from(n))?;
     out.extend_from_slice(b" rule ")?;
     push_decimal(&mut out, u64::from(rule))?;
+    out.push(b'\n')?;
+    Ok(out)
+}
+
+// The line of a number of parameters and a number of main's words.
+fn trace_params_line(alloc: Global, code: u8, main: u8) -> Result<Vec<u8>, NoMemory>
+    ensures { IfOk result (λ out. out.items ≡ trace_params_text code main) }
+{
+    let mut out = Vec::new(alloc);
+    out.extend_from_slice(b"trace params ")?;
+    push_decimal(&mut out, u64::from(code))?;
+    out.push(b' ')?;
+    push_decimal(&mut out, u64::from(main))?;
     out.push(b'\n')?;
     Ok(out)
 }

@@ -46,6 +46,8 @@ pub enum Status {
     BadWeights,
     /// A schedule isn't of its form.
     BadSchedule,
+    /// The code of an object differs from a source: in its number of parameters, or in a write.
+    Disagrees,
 }
 
 impl Status {
@@ -74,6 +76,7 @@ impl Status {
             Status::Unlawful => 18,
             Status::BadWeights => 21,
             Status::BadSchedule => 22,
+            Status::Disagrees => 23,
         }
     }
 }

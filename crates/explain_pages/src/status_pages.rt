@@ -16,7 +16,7 @@ fn status_page_0(name: &[u8]) -> Option<&'static str> {
                 name: "status 0",
                 text: r#"status 0: done
 
-Of `run` the code ended, of `exec` and `counts` the program, of `contexts` all contexts, and of every other command what it is for is done.
+Of `run` the code ended, of `exec` and `counts` the program, of `contexts` all contexts, and of every other command what it is for is done. `trace` ends with 0 however the two runs end.
 "#,
             },
             Page {
@@ -154,6 +154,39 @@ With this status, as with 0, 14 and 15, `counts` saves its file.
                 text: r#"status 22: no schedule
 
 `schedule line N`: this line isn't of its form, or with it the turns are more than 100,000,000.
+"#,
+            },
+            Page {
+                name: "status 23",
+                text: r#"status 23: code of another source
+
+`trace params P Q`: the object's code has P parameters, and main of the source takes Q words. `trace write I`: write I, counted from 0, is the first that differs.
+The first 1,024 writes of code and source are compared, as far as both go. Compile the source again: the object is of another one, or of an earlier state of it.
+
+    s: fun main[x: word]: word { sram(x) <- 7; x }
+    other: fun main[x: word]: word { sram(x) <- 8; x }
+    none: fun main[]: word { 7 }
+    m:
+    | memory 4 0
+    | args 00000003
+    $ compile other o r
+    0 compiled ..
+    saved o: %any
+    saved r: %any
+    $ trace s o m steps=1000 calls=10
+    23 trace write 0
+    $ trace other o m steps=1000 calls=10
+    0
+    | write sram 3 00000008 line 1 in main
+    | traced 1
+    $ compile none o2 r2
+    0 compiled ..
+    saved o2: %any
+    saved r2: %any
+    $ trace s o2 m steps=1000 calls=10
+    23 trace params 0 1
+
+Source, object and memory text are looked at before, in this order. With the object that `compile` saved of the same source this status doesn't come.
 "#,
             },
         ],

@@ -16,6 +16,7 @@ pub use assemble::assemble_bytes;
 pub use contexts::contexts_bytes;
 pub use lint::lint_bytes;
 pub use list::list_bytes;
+pub use object::{check_lawful, object_of};
 pub use peep::peep_bytes;
 pub use save::{Made, Output, Outputs};
 pub use simulate::{SHOWN_WRITES, job_of, run_bytes, status_of};

@@ -1,7 +1,7 @@
 -- The files that a command saves are among its outputs.
 use Rattle.std.proofs.Common.{◌≡◌, ℕ, inl, inr, List, [], ◌∷◌, map, refl, sym, subst}
 use Rattle.nv_outside.specs.Calls.{Save, IsPart}
-use Rattle.command_line.specs.Command.{Command, Compile, Run, Exec, Asm, Dis, Lint, Check, Gen, Contexts, Peep, Counts, outputs_of}
+use Rattle.command_line.specs.Command.{Command, Compile, Run, Exec, Asm, Dis, Lint, Check, Gen, Contexts, Peep, Trace, Counts, outputs_of}
 use Rattle.command_line.specs.declared.status.Status.{Status}
 use Rattle.command_line.specs.declared.status.Status.TheVariants.{Done, Infeasible, BudgetSpent}
 use Rattle.nova_commands.specs.Answers.{Makes}
@@ -31,6 +31,7 @@ made-part (Lint object) (b ∷ []) s fs t h = part-by [] fs [] h.0 tt
 made-part (Check report) (b ∷ []) s fs t h = part-by [] fs [] h.0 tt
 made-part (Gen seed size) [] s fs t h = part-by [] fs [] h.0 tt
 made-part (Contexts object memory schedule) (b ∷ g ∷ u ∷ []) s fs t h = part-by [] fs [] h.0 tt
+made-part (Trace source object memory steps calls line) (b ∷ g ∷ u ∷ []) s fs t h = part-by [] fs [] h.0 tt
 made-part (Peep object output) (b ∷ []) s fs t h = part-by (output ∷ []) fs _ h.saves (inl (refl, tt))
 made-part (Counts source memory output jumps) (b ∷ g ∷ []) s fs t h = part-by (output ∷ []) fs _ h.saves (inl (refl, tt))
 made-part _ _ s fs t h = absurd h

@@ -2,7 +2,7 @@
 use Rattle.std.proofs.Common.{◌≡◌, ℕ, zero, suc, ◌<◌, ◌⊎◌, inl, inr, ⊎_elim, List, [], ◌∷◌, Option, Some, None, length, sym, subst, arith}
 use Rattle.std.specs.Prelude.{slice_index_or, ⊤}
 use Rattle.nv_outside.specs.Holding.{Holding}
-use Rattle.command_line.specs.Command.{Command, Compile, Run, Exec, Asm, Dis, Lint, Check, Gen, Contexts, Peep, Counts, IfCommand, IfCompile, IfGen, ForCommand, SomeFile, outputs_of}
+use Rattle.command_line.specs.Command.{Command, Compile, Run, Exec, Asm, Dis, Lint, Check, Gen, Contexts, Peep, Trace, Counts, IfCommand, IfCompile, IfGen, ForCommand, SomeFile, outputs_of}
 use Rattle.command_line.specs.declared.status.Status.{Status}
 use Rattle.command_line.specs.declared.status.Status.TheVariants as status
 use Rattle.nova_commands.specs.Answers.{CanMake, CanEnd, IsFree}
@@ -90,6 +90,7 @@ complete Tells old LR SR Failed X Y r (Some (Dis object)) h = tt
 complete Tells old LR SR Failed X Y r (Some (Lint object)) h = tt
 complete Tells old LR SR Failed X Y r (Some (Check report)) h = tt
 complete Tells old LR SR Failed X Y r (Some (Contexts object memory schedule)) h = tt
+complete Tells old LR SR Failed X Y r (Some (Trace source object memory steps calls line)) h = tt
 complete Tells old LR SR Failed X Y r (Some (Peep object output)) h = tt
 complete Tells old LR SR Failed X Y r (Some (Counts source memory output jumps)) h = tt
 complete Tells old LR SR Failed X Y r (Some (Gen seed size)) h = tt
@@ -121,6 +122,7 @@ made-complete SR Failed T Y r before after (Some (Dis object)) h w = tt
 made-complete SR Failed T Y r before after (Some (Lint object)) h w = tt
 made-complete SR Failed T Y r before after (Some (Check report)) h w = tt
 made-complete SR Failed T Y r before after (Some (Contexts object memory schedule)) h w = tt
+made-complete SR Failed T Y r before after (Some (Trace source object memory steps calls line)) h w = tt
 made-complete SR Failed T Y r before after (Some (Peep object output)) h w = tt
 made-complete SR Failed T Y r before after (Some (Counts source memory output jumps)) h w = tt
 made-complete SR Failed T Y r before after (Some (Gen seed size)) h w = must-generate SR Failed T Y r before after seed size h w
@@ -137,6 +139,7 @@ memory-complete old LR SR Failed r (Some (Dis object)) m = tt
 memory-complete old LR SR Failed r (Some (Lint object)) m = tt
 memory-complete old LR SR Failed r (Some (Check report)) m = tt
 memory-complete old LR SR Failed r (Some (Contexts object memory schedule)) m = tt
+memory-complete old LR SR Failed r (Some (Trace source object memory steps calls line)) m = tt
 memory-complete old LR SR Failed r (Some (Peep object output)) m = tt
 memory-complete old LR SR Failed r (Some (Counts source memory output jumps)) m = tt
 memory-complete old LR SR Failed r (Some (Gen seed size)) m = tt
@@ -152,6 +155,7 @@ memory-made Failed r (Some (Dis object)) m = tt
 memory-made Failed r (Some (Lint object)) m = tt
 memory-made Failed r (Some (Check report)) m = tt
 memory-made Failed r (Some (Contexts object memory schedule)) m = tt
+memory-made Failed r (Some (Trace source object memory steps calls line)) m = tt
 memory-made Failed r (Some (Peep object output)) m = tt
 memory-made Failed r (Some (Counts source memory output jumps)) m = tt
 memory-made Failed r (Some (Gen seed size)) m = λ small calm. inr m

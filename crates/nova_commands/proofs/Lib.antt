@@ -16,3 +16,6 @@ pub mod Complete
 pub mod Asked
 pub mod Weighed
 pub mod Counted
+pub mod Agreeing
+pub mod Agreed
+pub mod Traced

@@ -1,5 +1,5 @@
 -- The contents of a command's inputs decide the answer.
-use Rattle.std.proofs.Common.{◌≡◌, ℕ, ◌⊎◌, inl, inr, List, [], ◌∷◌, Ok, Err, length, refl, ap, sym, ◌∙◌, subst, codes}
+use Rattle.std.proofs.Common.{◌≡◌, ℕ, ◌⊎◌, inl, inr, List, [], ◌∷◌, Option, Ok, Err, length, take, refl, ap, sym, ◌∙◌, subst, codes}
 use Rattle.nv_memtext.specs.MemoryText.{Gives}
 use Rattle.nv_memtext.proofs.ExactLemmas.{gives_one, gives_not_large, gives_not_bad, large_one, bad_one}
 use Rattle.nv_base.specs.Memories.{Memories}
@@ -30,7 +30,7 @@ use Rattle.ssu_ir.specs.Meaning.{ssu_meaning}
 use Rattle.nova_commands.proofs.Formed.{fewer}
 use Rattle.nova_commands.specs.Answers.{Makes, Prints, CanMake, CanEnd, Refuses, MustRefuse}
 use Rattle.machine_commands.specs.Assembly.{AsmRefuses, IsListed}
-use Rattle.command_line.specs.Command.{Command, Compile, Run, Exec, Asm, Dis, Lint, Check, Gen, Contexts, Peep, Counts}
+use Rattle.command_line.specs.Command.{Command, Compile, Run, Exec, Asm, Dis, Lint, Check, Gen, Contexts, Peep, Trace, Counts}
 use Rattle.nova_commands.specs.Executing.{ExecRefuses, IsExecuted}
 use Rattle.nova_commands.specs.Forms.{form_bound}
 use Rattle.nova_commands.specs.Headline.{CompileMakes, IsUnfit, IsEndOf}
@@ -43,11 +43,16 @@ use Rattle.machine_commands.specs.Scheduled.{ContextsRefuse, HaveTakenTurns, IsS
 use Rattle.schedule_text.specs.ScheduleText.{Gives as GivesTurns}
 use Rattle.uc_contexts.specs.Turns.{entries, scheduled, started}
 use Rattle.machine_commands.specs.Saving.{File}
+use Rattle.nova_commands.specs.Tracing.{IsTraced, TraceRefuses, ObjectRefuses, CodeRefuses, IsOtherFor, made_writes, code_writes}
+use Rattle.nv_values.specs.Running.{plain}
+use Rattle.nv_trace.specs.TraceText.{shown, trace_text}
+use Rattle.nv_trace.specs.Unlike.{AgreeAsFar}
+use Rattle.nv_trace.proofs.Unlikes.{unlike-one, unlike-agree}
 use Rattle.machine_commands.proofs.OneSchedule.{taken-one, taken-outcome, turns-one, turns-good, turns-refused-one}
 use Rattle.command_line.specs.Status.{outcome_status, MaySave}
 use Rattle.machine_commands.specs.inner.Outcomes.{IsOutcome}
 use Rattle.command_line.specs.declared.refusal.Refusal.{Refusal}
-use Rattle.command_line.specs.declared.refusal.Refusal.TheVariants.{NoMemory, ReadFault, TooLarge, Syntax, Label, UnlawfulLine, BadObject, BadMemoryText, Unlawful, SourceLarge, StoreFull, BadWeights}
+use Rattle.command_line.specs.declared.refusal.Refusal.TheVariants.{NoMemory, ReadFault, TooLarge, Syntax, Label, UnlawfulLine, BadObject, BadMemoryText, Unlawful, SourceLarge, StoreFull, BadWeights, TraceParams, TraceWrite}
 use Rattle.command_line.specs.declared.status.Status.{Status}
 use Rattle.command_line.specs.declared.status.Status.TheVariants.{Done, Infeasible, BudgetSpent}
 use Rattle.nova_commands.proofs.OneReport.{check-one, check-good, checked-one}
@@ -246,6 +251,80 @@ executed-one b t calls s s' text text' h k =
     let status : FullOutcome → Status = λ f. outcome_status f.outcome in
     (h.ends ∙ ap status run ∙ sym k.ends, h.prints ∙ ap full_text run ∙ sym k.prints)
 
+-- traces
+other-one : (program : ProgramTree) (c : CodeView) (steps calls : ℕ) (args : List ℕ) (p : Memories) (e e' : Refusal) → IsOtherFor program c steps calls args p e → IsOtherFor program c steps calls args p e' → e ≡ e'
+other-one program c steps calls args p (TraceParams a b) (TraceParams a' b') h k = ap (λ (x : ℕ). TraceParams x b) (h.0 ∙ sym k.0) ∙ ap (λ (x : ℕ). TraceParams a' x) (h.1 ∙ sym k.1)
+other-one program c steps calls args p (TraceParams a b) (TraceWrite i) h k = absurd (h.2 (h.0 ∙ k.0 ∙ sym h.1))
+other-one program c steps calls args p (TraceParams a b) _ h k = absurd k
+other-one program c steps calls args p (TraceWrite i) (TraceWrite j) h k = ap (λ (x : ℕ). TraceWrite x) (unlike-one i j (plain (made_writes program calls args p)) (code_writes c steps args p) h.1 k.1)
+other-one program c steps calls args p (TraceWrite i) (TraceParams a b) h k = absurd (k.2 (k.0 ∙ h.0 ∙ sym k.1))
+other-one program c steps calls args p (TraceWrite i) _ h k = absurd k
+other-one program c steps calls args p _ e' h k = absurd h
+
+other-good : (program : ProgramTree) (c : CodeView) (steps calls : ℕ) (args : List ℕ) (p : Memories) (e : Refusal) → c.params ≡ main_words program → AgreeAsFar (plain (made_writes program calls args p)) (code_writes c steps args p) → IsOtherFor program c steps calls args p e → ⊥
+other-good program c steps calls args p (TraceParams a b) same agree h = h.2 (h.0 ∙ same ∙ sym h.1)
+other-good program c steps calls args p (TraceWrite i) same agree h = unlike-agree i (plain (made_writes program calls args p)) (code_writes c steps args p) h.1 agree
+other-good program c steps calls args p _ same agree h = h
+
+code-one : (program : ProgramTree) (m : List ℕ) (steps calls : ℕ) (c : CodeView) (e e' : Refusal) → CodeRefuses program m steps calls c e → CodeRefuses program m steps calls c e' → e ≡ e'
+code-one program m steps calls c e e' (inl h) (inl k) = memory-one (main_words program) m e e' h k
+code-one program m steps calls c e e' (inl h) (inr k) = absurd (memory-good (main_words program) m e k.0 k.1 k.2 h)
+code-one program m steps calls c e e' (inr h) (inl k) = absurd (memory-good (main_words program) m e' h.0 h.1 h.2 k)
+code-one program m steps calls c e e' (inr h) (inr k) =
+    let gives = gives_one (main_words program) m h.0 k.0 h.1 k.1 h.2 k.2 in
+    other-one program c steps calls k.1 k.0 e e'
+    (subst (λ (a : List ℕ). IsOtherFor program c steps calls a k.0 e) gives.1 (subst (λ (p : Memories). IsOtherFor program c steps calls h.1 p e) gives.0 h.3)) k.3
+
+object-one_trace : (program : ProgramTree) (b m : List ℕ) (steps calls : ℕ) (e e' : Refusal) → ObjectRefuses program b m steps calls e → ObjectRefuses program b m steps calls e' → e ≡ e'
+object-one_trace program b m steps calls e e' (inl h) (inl k) = lint-one b e e' h k
+object-one_trace program b m steps calls e e' (inl h) (inr k) = absurd (lint-good b e k.0 k.1 k.2.0 h)
+object-one_trace program b m steps calls e e' (inr h) (inl k) = absurd (lint-good b e' h.0 h.1 h.2.0 k)
+object-one_trace program b m steps calls e e' (inr h) (inr k) =
+    let same = object-one b h.0 k.0 h.1 k.1 in
+    code-one program m steps calls (code_of k.0) e e' (subst (λ (o : Object). CodeRefuses program m steps calls (code_of o) e) same h.2.1) k.2.1
+
+trace-one : (t b m : List ℕ) (steps calls : ℕ) (e e' : Refusal) → TraceRefuses t b m steps calls e → TraceRefuses t b m steps calls e' → e ≡ e'
+trace-one t b m steps calls e e' (inl h) (inl k) = source-one t e e' h k
+trace-one t b m steps calls e e' (inl h) (inr k) = absurd (source-good t e k.0 k.1 h)
+trace-one t b m steps calls e e' (inr h) (inl k) = absurd (source-good t e' h.0 h.1 k)
+trace-one t b m steps calls e e' (inr h) (inr k) =
+    let same = source-program t h.0 k.0 h.1.is_source k.1.is_source in
+    object-one_trace k.0 b m steps calls e e' (subst (λ (p : ProgramTree). ObjectRefuses p b m steps calls e) same h.2) k.2
+
+code-good : (t b m : List ℕ) (steps calls : ℕ) (line : Option ℕ) (e : Refusal) (s : Status) (text : List ℕ) (r : IsTraced t b m steps calls line s text) → CodeRefuses r.program m steps calls (code_of r.o) e → ⊥
+code-good t b m steps calls line e s text r (inl h) = memory-good (main_words r.program) m e r.compared.packet r.compared.arguments r.compared.given h
+code-good t b m steps calls line e s text r (inr h) =
+    let gives = gives_one (main_words r.program) m h.0 r.compared.packet h.1 r.compared.arguments h.2 r.compared.given in
+    other-good r.program (code_of r.o) steps calls r.compared.arguments r.compared.packet e r.compared.params r.compared.agree
+    (subst (λ (a : List ℕ). IsOtherFor r.program (code_of r.o) steps calls a r.compared.packet e) gives.1 (subst (λ (p : Memories). IsOtherFor r.program (code_of r.o) steps calls h.1 p e) gives.0 h.3))
+
+object-good_trace : (t b m : List ℕ) (steps calls : ℕ) (line : Option ℕ) (e : Refusal) (s : Status) (text : List ℕ) (r : IsTraced t b m steps calls line s text) → ObjectRefuses r.program b m steps calls e → ⊥
+object-good_trace t b m steps calls line e s text r (inl h) = lint-good b e r.o r.object r.lawful h
+object-good_trace t b m steps calls line e s text r (inr h) =
+    let same = object-one b h.0 r.o h.1 r.object in
+    code-good t b m steps calls line e s text r (subst (λ (o : Object). CodeRefuses r.program m steps calls (code_of o) e) same h.2.1)
+
+trace-good : (t b m : List ℕ) (steps calls : ℕ) (line : Option ℕ) (e : Refusal) (s : Status) (text : List ℕ) → IsTraced t b m steps calls line s text → TraceRefuses t b m steps calls e → ⊥
+trace-good t b m steps calls line e s text r (inl h) = source-good t e r.program r.is_source h
+trace-good t b m steps calls line e s text r (inr h) =
+    let same = source-program t h.0 r.program h.1.is_source r.is_source.is_source in
+    object-good_trace t b m steps calls line e s text r (subst (λ (p : ProgramTree). ObjectRefuses p b m steps calls e) same h.2)
+
+traced-one : (t b m : List ℕ) (steps calls : ℕ) (line : Option ℕ) (s s' : Status) (text text' : List ℕ) → IsTraced t b m steps calls line s text → IsTraced t b m steps calls line s' text' → (s ≡ s') × (text ≡ text')
+traced-one t b m steps calls line s s' text text' h k =
+    let program = source-program t h.program k.program h.is_source.is_source k.is_source.is_source in
+    let o = object-one b h.o k.o h.object k.object in
+    let gives = gives_one (main_words k.program) m h.compared.packet k.compared.packet h.compared.arguments k.compared.arguments (subst (λ (x : ProgramTree). Gives (main_words x) m h.compared.packet h.compared.arguments) program h.compared.given) k.compared.given in
+    let out : ProgramTree → Object → List ℕ → Memories → List ℕ = λ x y a p. trace_text t (shown t line (take (length (code_writes (code_of y) steps a p)) (made_writes x calls a p))) in (
+      h.compared.done ∙ sym k.compared.done,
+      h.compared.prints
+          ∙ ap (λ (x : ProgramTree). out x h.o h.compared.arguments h.compared.packet) program
+          ∙ ap (λ (y : Object). out k.program y h.compared.arguments h.compared.packet) o
+          ∙ ap (λ (p : Memories). out k.program k.o h.compared.arguments p) gives.0
+          ∙ ap (λ (a : List ℕ). out k.program k.o a k.compared.packet) gives.1
+          ∙ sym k.compared.prints,
+    )
+
 -- compilations
 record IsEndWith (text : List ℕ) (slots store : ℕ) (s : Status) : Type 0 where
   pub program : ProgramTree
@@ -311,6 +390,7 @@ refusal-one (Dis object) (b ∷ []) e e' h k = bad-one b e e' h k
 refusal-one (Lint object) (b ∷ []) e e' h k = lint-one b e e' h k
 refusal-one (Check report) (b ∷ []) e e' h k = check-one b e e' h k
 refusal-one (Contexts object memory schedule) (b ∷ g ∷ u ∷ []) e e' h k = contexts-one b g u e e' h k
+refusal-one (Trace source object memory steps calls line) (b ∷ g ∷ u ∷ []) e e' h k = trace-one b g u steps calls e e' h k
 refusal-one (Peep object output) (b ∷ []) e e' h k = lint-one b e e' h k
 refusal-one (Counts source memory output jumps) (b ∷ g ∷ []) e e' h k = exec-one b g e e' h k
 refusal-one _ _ e e' h k = absurd k
@@ -327,6 +407,7 @@ makes-good (Dis object) (b ∷ []) s fs t e h k = bad-good b e h.1.o h.1.object 
 makes-good (Lint object) (b ∷ []) s fs t e h k = lint-good b e h.1.o h.1.object h.1.lawful k
 makes-good (Check report) (b ∷ []) s fs t e h k = check-good b s t e h.1 k
 makes-good (Contexts object memory schedule) (b ∷ g ∷ u ∷ []) s fs t e h k = contexts-good b g u e s t h.1 k
+makes-good (Trace source object memory steps calls line) (b ∷ g ∷ u ∷ []) s fs t e h k = trace-good b g u steps calls line e s t h.1 k
 makes-good (Peep object output) (b ∷ []) s fs t e h k = lint-good b e h.o h.object h.lawful k
 makes-good (Counts source memory output jumps) (b ∷ g ∷ []) s fs t e h k = job-good b g e h.program h.packet h.arguments h.is_source h.given k
 makes-good _ _ s fs t e h k = k
@@ -339,6 +420,7 @@ prints-good (Dis object) (b ∷ []) s t e h k = bad-good b e h.o h.object k
 prints-good (Lint object) (b ∷ []) s t e h k = lint-good b e h.o h.object h.lawful k
 prints-good (Check report) (b ∷ []) s t e h k = check-good b s t e h k
 prints-good (Contexts object memory schedule) (b ∷ g ∷ u ∷ []) s t e h k = contexts-good b g u e s t h k
+prints-good (Trace source object memory steps calls line) (b ∷ g ∷ u ∷ []) s t e h k = trace-good b g u steps calls line e s t h k
 prints-good _ _ s t e h k = h
 
 -- and is one
@@ -349,6 +431,7 @@ prints-one (Dis object) (b ∷ []) s s' fs t t' h k = listed-one b s s' t t' h.1
 prints-one (Lint object) (b ∷ []) s s' fs t t' h k = linted-one b s s' t t' h.1 k
 prints-one (Check report) (b ∷ []) s s' fs t t' h k = checked-one b s s' t t' h.1 k
 prints-one (Contexts object memory schedule) (b ∷ g ∷ u ∷ []) s s' fs t t' h k = scheduled-one b g u s s' t t' h.1 k
+prints-one (Trace source object memory steps calls line) (b ∷ g ∷ u ∷ []) s s' fs t t' h k = traced-one b g u steps calls line s s' t t' h.1 k
 prints-one _ _ s s' fs t t' h k = absurd k
 
 -- how a command ends that can make something
@@ -391,6 +474,7 @@ makes-outcome (Lint object) (b ∷ []) s fs t h = subst IsOutcome (sym h.1.done)
 makes-outcome (Check report) (b ∷ []) s fs t h = subst IsOutcome (sym h.1.done) tt
 makes-outcome (Gen seed size) [] s fs t h = subst IsOutcome (sym h.1) tt
 makes-outcome (Contexts object memory schedule) (b ∷ g ∷ u ∷ []) s fs t h = subst IsOutcome (sym h.1.taken.ends) (taken-outcome (scheduled (code_of h.1.o).list (entries h.1.pairs) (record { contexts = started (h.1.arguments ∷ h.1.others); packet = h.1.packet })).contexts)
+makes-outcome (Trace source object memory steps calls line) (b ∷ g ∷ u ∷ []) s fs t h = subst IsOutcome (sym h.1.compared.done) tt
 makes-outcome (Peep object output) (b ∷ []) s fs t h = subst IsOutcome (sym h.done) tt
 makes-outcome (Counts source memory output jumps) (b ∷ g ∷ []) s fs t h = subst IsOutcome (sym h.ends) (outcome-is (ssu_meaning h.form h.arguments h.packet jumps).outcome)
 makes-outcome _ _ s fs t h = absurd h
@@ -412,6 +496,7 @@ makes-kept (Lint object) (b ∷ []) s fs t h = inr h.0
 makes-kept (Check report) (b ∷ []) s fs t h = inr h.0
 makes-kept (Gen seed size) [] s fs t h = inr h.0
 makes-kept (Contexts object memory schedule) (b ∷ g ∷ u ∷ []) s fs t h = inr h.0
+makes-kept (Trace source object memory steps calls line) (b ∷ g ∷ u ∷ []) s fs t h = inr h.0
 makes-kept (Peep object output) (b ∷ []) s fs t h = inl (subst MaySave (sym h.done) tt)
 makes-kept (Counts source memory output jumps) (b ∷ g ∷ []) s fs t h = inl (subst MaySave (sym h.ends) (outcome-saves (ssu_meaning h.form h.arguments h.packet jumps).outcome))
 makes-kept _ _ s fs t h = absurd h
@@ -421,6 +506,24 @@ lint-unread : (b : List ℕ) (e : Refusal) → IsFault e → LintRefuses b e →
 lint-unread b (ReadFault name) f (inl h) = h
 lint-unread b (ReadFault name) f (inr h) = h.2
 lint-unread b _ f h = absurd f
+
+other-unread : (program : ProgramTree) (c : CodeView) (steps calls : ℕ) (args : List ℕ) (p : Memories) (e : Refusal) → IsFault e → IsOtherFor program c steps calls args p e → ⊥
+other-unread program c steps calls args p (ReadFault name) f h = h
+other-unread program c steps calls args p _ f h = absurd f
+
+code-unread : (program : ProgramTree) (m : List ℕ) (steps calls : ℕ) (c : CodeView) (e : Refusal) → IsFault e → CodeRefuses program m steps calls c e → ⊥
+code-unread program m steps calls c (ReadFault name) f (inl h) = h
+code-unread program m steps calls c (ReadFault name) f (inr h) = other-unread program c steps calls h.1 h.0 (ReadFault name) tt h.3
+code-unread program m steps calls c _ f h = absurd f
+
+object-unread : (program : ProgramTree) (b m : List ℕ) (steps calls : ℕ) (e : Refusal) → IsFault e → ObjectRefuses program b m steps calls e → ⊥
+object-unread program b m steps calls e f (inl h) = lint-unread b e f h
+object-unread program b m steps calls e f (inr h) = code-unread program m steps calls (code_of h.0) e f h.2.1
+
+trace-unread : (t b m : List ℕ) (steps calls : ℕ) (e : Refusal) → IsFault e → TraceRefuses t b m steps calls e → ⊥
+trace-unread t b m steps calls (ReadFault name) f (inl h) = h
+trace-unread t b m steps calls (ReadFault name) f (inr h) = object-unread h.0 b m steps calls (ReadFault name) tt h.2
+trace-unread t b m steps calls _ f h = absurd f
 
 pub refuses-unread : (e : Refusal) (c : Command) (bs : List (List ℕ)) → IsFault e → Refuses c bs e → ⊥
 refuses-unread (ReadFault name) (Compile source object report slots budget store weights) (b ∷ g) f (inl (inl h)) = h
@@ -438,6 +541,7 @@ refuses-unread (ReadFault name) (Gen seed size) [] f h = h.2
 refuses-unread (ReadFault name) (Contexts object memory schedule) (b ∷ g ∷ u ∷ []) f (inl (inl h)) = lint-unread b (ReadFault name) tt h
 refuses-unread (ReadFault name) (Contexts object memory schedule) (b ∷ g ∷ u ∷ []) f (inl (inr h)) = h.2.1
 refuses-unread (ReadFault name) (Contexts object memory schedule) (b ∷ g ∷ u ∷ []) f (inr h) = h.2.2
+refuses-unread (ReadFault name) (Trace source object memory steps calls line) (b ∷ g ∷ u ∷ []) f h = trace-unread b g u steps calls (ReadFault name) tt h
 refuses-unread (ReadFault name) (Peep object output) (b ∷ []) f h = lint-unread b (ReadFault name) tt h
 refuses-unread (ReadFault name) (Counts source memory output jumps) (b ∷ g ∷ []) f (inl h) = h
 refuses-unread (ReadFault name) (Counts source memory output jumps) (b ∷ g ∷ []) f (inr h) = h.2

@@ -4,7 +4,7 @@ use Rattle.std.specs.Prelude.{⊤}
 use Rattle.std.proofs.lemmas.List.{append-nil}
 use Rattle.nv_outside.specs.Holding.{Holding, AppendsFront}
 use Rattle.nova_commands.specs.Answers.{Makes, CanMake, CanEnd, Refuses, Shows, IsRefusable, IsCaused, IsDone, IsStopped, IsRefused, Ends, IsPrinted, IsBegun, IsFree, IsOnly}
-use Rattle.command_line.specs.Command.{Command, Compile, Run, Exec, Asm, Dis, Lint, Check, Gen, Contexts, Peep, Counts, IfCommand, IfCompile, IfGen, ForCommand, SomeFile, outputs_of}
+use Rattle.command_line.specs.Command.{Command, Compile, Run, Exec, Asm, Dis, Lint, Check, Gen, Contexts, Peep, Trace, Counts, IfCommand, IfCompile, IfGen, ForCommand, SomeFile, outputs_of}
 use Rattle.nova_commands.specs.Generating.{IsGenerated, GenRefuses, EndsGenerated}
 use Rattle.zo_cert.specs.declared.report.Verdict.{Verdict}
 use Rattle.nova_commands.specs.Headline.{IsCompiled, IfWithout, IsReported}
@@ -15,7 +15,7 @@ use Rattle.command_line.specs.Status.{MaySave}
 use Rattle.nova_commands.specs.inner.Replies.{HasEnded}
 use Rattle.machine_commands.specs.inner.Outcomes.{IsOutcome}
 use Rattle.command_line.specs.declared.refusal.Refusal.{Refusal}
-use Rattle.command_line.specs.declared.refusal.Refusal.TheVariants.{NoMemory, ReadFault, TooLarge, SourceChar, SourceNumber, SourceName, SourceSyntax, SourceDeep, SourceType, SourceLarge, Syntax, Label, BadObject, BadMemoryText, BadReport, FalseReport, Unlawful, UnlawfulLine, StoreFull, BadWeights, BadSchedule}
+use Rattle.command_line.specs.declared.refusal.Refusal.TheVariants.{NoMemory, ReadFault, TooLarge, SourceChar, SourceNumber, SourceName, SourceSyntax, SourceDeep, SourceType, SourceLarge, Syntax, Label, BadObject, BadMemoryText, BadReport, FalseReport, Unlawful, UnlawfulLine, StoreFull, BadWeights, BadSchedule, TraceParams, TraceWrite}
 use Rattle.command_line.specs.declared.status.Status.{Status}
 use Rattle.command_line.specs.declared.status.Status.TheVariants as status
 use Rattle.nova_commands.proofs.Loads.{contents-one, stopped-read, stops-both, stops-map, unread-long, unread-one, none-long, Never}
@@ -53,6 +53,8 @@ refusal-is (UnlawfulLine p r) = tt
 refusal-is (StoreFull n) = tt
 refusal-is (BadWeights n) = tt
 refusal-is (BadSchedule n) = tt
+refusal-is (TraceParams code main) = tt
+refusal-is (TraceWrite n) = tt
 
 -- the sink failed, or the status r of the whole call is that of the command, and its text was printed
 abbrev pub IsTold : Status → Status → List ℕ → List ℕ → List ℕ → Type 0 → Type 0 → Type 0
@@ -95,6 +97,7 @@ compiled Tells old new LR SR s r text before after T Failed tells told (Some (Di
 compiled Tells old new LR SR s r text before after T Failed tells told (Some (Lint object)) apart a d = tt
 compiled Tells old new LR SR s r text before after T Failed tells told (Some (Check report)) apart a d = tt
 compiled Tells old new LR SR s r text before after T Failed tells told (Some (Contexts object memory schedule)) apart a d = tt
+compiled Tells old new LR SR s r text before after T Failed tells told (Some (Trace source object memory steps calls line)) apart a d = tt
 compiled Tells old new LR SR s r text before after T Failed tells told (Some (Peep object output)) apart a d = tt
 compiled Tells old new LR SR s r text before after T Failed tells told (Some (Counts source memory output jumps)) apart a d = tt
 compiled Tells old new LR SR s r text before after T Failed tells told (Some (Gen seed size)) apart a d = tt
@@ -132,6 +135,7 @@ reported Tells old new LR SR s r text before after T Failed tells told (Some (Di
 reported Tells old new LR SR s r text before after T Failed tells told (Some (Lint object)) a = without-none r
 reported Tells old new LR SR s r text before after T Failed tells told (Some (Check report)) a = without-none r
 reported Tells old new LR SR s r text before after T Failed tells told (Some (Contexts object memory schedule)) a = without-none r
+reported Tells old new LR SR s r text before after T Failed tells told (Some (Trace source object memory steps calls line)) a = without-none r
 reported Tells old new LR SR s r text before after T Failed tells told (Some (Peep object output)) a = without-none r
 reported Tells old new LR SR s r text before after T Failed tells told (Some (Counts source memory output jumps)) a = without-none r
 reported Tells old new LR SR s r text before after T Failed tells told (Some (Gen seed size)) a = without-none r
@@ -187,6 +191,7 @@ generated Tells old new LR SR s r text before after T Failed told (Some (Dis obj
 generated Tells old new LR SR s r text before after T Failed told (Some (Lint object)) a = tt
 generated Tells old new LR SR s r text before after T Failed told (Some (Check report)) a = tt
 generated Tells old new LR SR s r text before after T Failed told (Some (Contexts object memory schedule)) a = tt
+generated Tells old new LR SR s r text before after T Failed told (Some (Trace source object memory steps calls line)) a = tt
 generated Tells old new LR SR s r text before after T Failed told (Some (Peep object output)) a = tt
 generated Tells old new LR SR s r text before after T Failed told (Some (Counts source memory output jumps)) a = tt
 generated Tells old new LR SR s r text before after T Failed (inl w) (Some (Gen seed size)) a = inl w.0
@@ -203,6 +208,7 @@ memory-generated (Some (Dis object)) before after T = tt
 memory-generated (Some (Lint object)) before after T = tt
 memory-generated (Some (Check report)) before after T = tt
 memory-generated (Some (Contexts object memory schedule)) before after T = tt
+memory-generated (Some (Trace source object memory steps calls line)) before after T = tt
 memory-generated (Some (Peep object output)) before after T = tt
 memory-generated (Some (Counts source memory output jumps)) before after T = tt
 memory-generated (Some (Gen seed size)) before after T = inr (inl refl)

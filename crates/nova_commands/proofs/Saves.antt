@@ -3,7 +3,7 @@ use Rattle.std.proofs.Common.{◌≡◌, ℕ, ◌⊎◌, inl, inr, List, [], ◌
 use Rattle.std.specs.Prelude.{Contains}
 use Rattle.nv_outside.specs.Holding.{Holding, Replaced, SameElsewhere}
 use Rattle.nova_commands.specs.Answers.{Makes, Refuses, IsCaused, IsDone, IsStopped}
-use Rattle.command_line.specs.Command.{Command, Compile, Run, Exec, Asm, Dis, Lint, Check, Gen, Contexts, Peep, Counts, SomeFile, outputs_of}
+use Rattle.command_line.specs.Command.{Command, Compile, Run, Exec, Asm, Dis, Lint, Check, Gen, Contexts, Peep, Trace, Counts, SomeFile, outputs_of}
 use Rattle.zo_cert.specs.declared.report.Verdict.{Verdict}
 use Rattle.zo_cert.specs.declared.report.Verdict.TheVariants as verdict
 use Rattle.nova_commands.specs.Headline.{CompiledMakes, WithoutMakes, CompileMakes, IsCompiled, IfWithout, IsReported}
@@ -105,6 +105,7 @@ cut-output T (Lint object) (b ∷ []) s fs t old new P h k = absurd (subst (λ (
 cut-output T (Check report) (b ∷ []) s fs t old new P h k = absurd (subst (λ (x : List File). IsCut T x old new P) h.0 k)
 cut-output T (Gen seed size) [] s fs t old new P h k = absurd (subst (λ (x : List File). IsCut T x old new P) h.0 k)
 cut-output T (Contexts object memory schedule) (b ∷ g ∷ u ∷ []) s fs t old new P h k = absurd (subst (λ (x : List File). IsCut T x old new P) h.0 k)
+cut-output T (Trace source object memory steps calls line) (b ∷ g ∷ u ∷ []) s fs t old new P h k = absurd (subst (λ (x : List File). IsCut T x old new P) h.0 k)
 cut-output T (Peep object output) (b ∷ []) s fs t old new P h k = (output, (0, omega arith, refl), (cut-only T fs (file output h.saved) old new P h.saves k).0)
 cut-output T (Counts source memory output jumps) (b ∷ g ∷ []) s fs t old new P h k = (output, (0, omega arith, refl), (cut-only T fs (file output h.counts) old new P h.saves k).0)
 cut-output T _ _ s fs t old new P h k = absurd h
@@ -129,6 +130,7 @@ saved-elsewhere (Lint object) (b ∷ []) s fs t old new h k = same-all [] old ne
 saved-elsewhere (Check report) (b ∷ []) s fs t old new h k = same-all [] old new (nothing-saved fs old new h.0 k)
 saved-elsewhere (Gen seed size) [] s fs t old new h k = same-all [] old new (nothing-saved fs old new h.0 k)
 saved-elsewhere (Contexts object memory schedule) (b ∷ g ∷ u ∷ []) s fs t old new h k = same-all [] old new (nothing-saved fs old new h.0 k)
+saved-elsewhere (Trace source object memory steps calls line) (b ∷ g ∷ u ∷ []) s fs t old new h k = same-all [] old new (nothing-saved fs old new h.0 k)
 saved-elsewhere (Peep object output) (b ∷ []) s fs t old new h k = same-but old new output (saved-only fs (file output h.saved) old new h.saves k).elsewhere
 saved-elsewhere (Counts source memory output jumps) (b ∷ g ∷ []) s fs t old new h k = same-but old new output (saved-only fs (file output h.counts) old new h.saves k).elsewhere
 saved-elsewhere _ _ s fs t old new h k = absurd h
@@ -143,6 +145,7 @@ cut-elsewhere T (Lint object) (b ∷ []) s fs t old new P tells h k = absurd (su
 cut-elsewhere T (Check report) (b ∷ []) s fs t old new P tells h k = absurd (subst (λ (x : List File). IsCut T x old new P) h.0 k)
 cut-elsewhere T (Gen seed size) [] s fs t old new P tells h k = absurd (subst (λ (x : List File). IsCut T x old new P) h.0 k)
 cut-elsewhere T (Contexts object memory schedule) (b ∷ g ∷ u ∷ []) s fs t old new P tells h k = absurd (subst (λ (x : List File). IsCut T x old new P) h.0 k)
+cut-elsewhere T (Trace source object memory steps calls line) (b ∷ g ∷ u ∷ []) s fs t old new P tells h k = absurd (subst (λ (x : List File). IsCut T x old new P) h.0 k)
 cut-elsewhere T (Peep object output) (b ∷ []) s fs t old new P tells h k = same-but old new output ((cut-only T fs (file output h.saved) old new P h.saves k).1 tells)
 cut-elsewhere T (Counts source memory output jumps) (b ∷ g ∷ []) s fs t old new P tells h k = same-but old new output ((cut-only T fs (file output h.counts) old new P h.saves k).1 tells)
 cut-elsewhere T _ _ s fs t old new P tells h k = absurd h

@@ -2,7 +2,7 @@
 use Rattle.std.specs.Prelude.{◌≡◌, ◌⊎◌, ◌++◌, ℕ, List, [], ◌∷◌, ⊤}
 use Rattle.nv_outside.specs.Holding.{Holding, AppendsFront}
 use Rattle.machine_commands.specs.Assembly.{AsmMakes, AsmRefuses, HasAssembly, IsListed}
-use Rattle.command_line.specs.Command.{Command, Compile, Run, Exec, Asm, Dis, Lint, Check, Gen, Contexts, Peep, Counts}
+use Rattle.command_line.specs.Command.{Command, Compile, Run, Exec, Asm, Dis, Lint, Check, Gen, Contexts, Peep, Trace, Counts}
 use Rattle.nova_commands.specs.Checking.{CheckRefuses, IsChecked}
 use Rattle.nova_commands.specs.Entries.{CountsMake}
 use Rattle.nova_commands.specs.Executing.{ExecRefuses, IsExecuted, HasJob}
@@ -19,6 +19,7 @@ use Rattle.nova_commands.specs.Reading.{HasTyped}
 use Rattle.machine_commands.specs.Peeping.{PeepMakes}
 use Rattle.machine_commands.specs.Saving.{File, AreSaved, IsCut}
 use Rattle.machine_commands.specs.Scheduled.{ContextsRefuse, IsScheduled}
+use Rattle.nova_commands.specs.Tracing.{IsTraced, TraceRefuses}
 use Rattle.command_line.specs.declared.refusal.Refusal.{Refusal}
 use Rattle.command_line.specs.declared.status.Status.{Status}
 use Rattle.command_line.specs.declared.status.Status.TheVariants.{Done, ReadFault, WriteFault, NoMemory}
@@ -34,6 +35,7 @@ Makes (Lint object) (bytes ∷ []) status files text = (files ≡ []) × IsLinte
 Makes (Check report) (bytes ∷ []) status files text = (files ≡ []) × IsChecked bytes status text
 Makes (Gen seed size) [] status files text = (files ≡ []) × (status ≡ Done) × IsGenerated seed size text
 Makes (Contexts object memory schedule) (bytes ∷ given ∷ turns ∷ []) status files text = (files ≡ []) × IsScheduled bytes given turns status text
+Makes (Trace source object memory steps calls line) (source_text ∷ bytes ∷ given ∷ []) status files text = (files ≡ []) × IsTraced source_text bytes given steps calls line status text
 Makes (Peep object output) (bytes ∷ []) status files text = PeepMakes bytes output status files text
 Makes (Counts source memory output jumps) (bytes ∷ given ∷ []) status files text = CountsMake bytes given output jumps status files text
 Makes _ _ status files text = ⊥
@@ -46,6 +48,7 @@ Prints (Dis object) (bytes ∷ []) status text = IsListed bytes status text
 Prints (Lint object) (bytes ∷ []) status text = IsLinted bytes status text
 Prints (Check report) (bytes ∷ []) status text = IsChecked bytes status text
 Prints (Contexts object memory schedule) (bytes ∷ given ∷ turns ∷ []) status text = IsScheduled bytes given turns status text
+Prints (Trace source object memory steps calls line) (source_text ∷ bytes ∷ given ∷ []) status text = IsTraced source_text bytes given steps calls line status text
 Prints _ _ status text = ⊥
 
 -- the contents of the inputs of a command that saves a file are such as it can make it of: a program, code, weights, memories
@@ -75,6 +78,7 @@ Refuses (Lint object) (bytes ∷ []) e = LintRefuses bytes e
 Refuses (Check report) (bytes ∷ []) e = CheckRefuses bytes e
 Refuses (Gen seed size) [] e = GenRefuses seed size e
 Refuses (Contexts object memory schedule) (bytes ∷ given ∷ turns ∷ []) e = ContextsRefuse bytes given turns e
+Refuses (Trace source object memory steps calls line) (text ∷ bytes ∷ given ∷ []) e = TraceRefuses text bytes given steps calls e
 Refuses (Peep object output) (bytes ∷ []) e = LintRefuses bytes e
 Refuses (Counts source memory output jumps) (bytes ∷ given ∷ []) e = ExecRefuses bytes given e
 Refuses _ _ e = ⊥
@@ -89,6 +93,7 @@ MustRefuse (Dis object) (bytes ∷ []) e = IsBadObjectFor bytes e
 MustRefuse (Lint object) (bytes ∷ []) e = LintRefuses bytes e
 MustRefuse (Check report) (bytes ∷ []) e = CheckRefuses bytes e
 MustRefuse (Contexts object memory schedule) (bytes ∷ given ∷ turns ∷ []) e = ContextsRefuse bytes given turns e
+MustRefuse (Trace source object memory steps calls line) (text ∷ bytes ∷ given ∷ []) e = TraceRefuses text bytes given steps calls e
 MustRefuse (Peep object output) (bytes ∷ []) e = LintRefuses bytes e
 MustRefuse (Counts source memory output jumps) (bytes ∷ given ∷ []) e = ExecRefuses bytes given e
 MustRefuse _ _ e = ⊥

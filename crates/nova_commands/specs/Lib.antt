@@ -9,6 +9,7 @@ pub mod Building
 pub mod Executing
 pub mod Entries
 pub mod Generating
+pub mod Tracing
 pub mod Checking
 pub mod Answers
 pub mod inner

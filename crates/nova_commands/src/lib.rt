@@ -14,6 +14,7 @@ mod program;
 mod report;
 mod source;
 mod top;
+mod trace;
 
 pub use build::{CompileError, Compiled, compile_text};
 pub use compile::{CompileOutcome, object_of, outcome_of_report};

@@ -14,6 +14,7 @@ use crate::count::counts_bytes;
 use crate::execute::exec_bytes;
 use crate::generate::generate;
 use crate::report::check_bytes;
+use crate::trace::trace_bytes;
 use command_line::{Command, Refusal, Reply};
 use machine_commands::{
     Made, Outputs, assemble_bytes, contexts_bytes, lint_bytes, list_bytes, peep_bytes, run_bytes,
@@ -60,6 +61,7 @@ fn work_alone<'a>(alloc: Global, command: Command<'a>) -> Result<Made<'a>, Refus
         | Command::Dis(_)
         | Command::Lint(_)
         | Command::Check(_)
+        | Command::Trace(_, _, _, _)
         | Command::Contexts(_, _, _)
         | Command::Peep(_, _)
         | Command::Counts(_, _, _, _) => unreachable!(),
@@ -91,6 +93,7 @@ fn work_on<'a>(
         Command::Run(_, _, _)
         | Command::Exec(_, _, _)
         | Command::Gen(_, _)
+        | Command::Trace(_, _, _, _)
         | Command::Contexts(_, _, _)
         | Command::Counts(_, _, _, _) => unreachable!(),
     }
@@ -122,28 +125,32 @@ fn work_on_two<'a>(
         | Command::Lint(_)
         | Command::Check(_)
         | Command::Gen(_, _)
+        | Command::Trace(_, _, _, _)
         | Command::Contexts(_, _, _)
         | Command::Peep(_, _) => unreachable!(),
     }
 }
 
-// Does what a command with three inputs is for, of which the second is a memory text.
+// Does what a command with three inputs is for.
 fn work_on_three<'a>(
     alloc: Global,
     command: Command<'a>,
-    input: &Vec<u8>,
-    text: &Vec<u8>,
-    turns: &Vec<u8>,
+    first: &Vec<u8>,
+    second: &Vec<u8>,
+    third: &Vec<u8>,
 ) -> Result<Made<'a>, Refusal<'a>>
     requires limits { HasLimits command }
-    requires short { AreShort (inputs_of (command_as command)) (input.now.items ∷ text.now.items ∷ turns.now.items ∷ []) }
-    ensures made { IfOk result (λ m. Makes (command_as command.entry) (input.now.items ∷ text.now.items ∷ turns.now.items ∷ []) m.status (files_of m.outputs) m.text.items) }
+    requires short { AreShort (inputs_of (command_as command)) (first.now.items ∷ second.now.items ∷ third.now.items ∷ []) }
+    ensures made { IfOk result (λ m. Makes (command_as command.entry) (first.now.items ∷ second.now.items ∷ third.now.items ∷ []) m.status (files_of m.outputs) m.text.items) }
     ensures told { IfOk result (λ m. AreTold m.outputs) }
     ensures end { IfOk result (λ m. IsOutcome m.status) }
-    ensures refused { IfErr result (λ e. IsUncaused e ⊎ Refuses (command_as command.entry) (input.now.items ∷ text.now.items ∷ turns.now.items ∷ []) e) }
+    ensures refused { IfErr result (λ e. IsUncaused e ⊎ Refuses (command_as command.entry) (first.now.items ∷ second.now.items ∷ third.now.items ∷ []) e) }
 {
     match command {
-        Command::Contexts(_, _, _) => shown(contexts_bytes(alloc, input, text, turns)),
+        Command::Contexts(_, _, _) => shown(contexts_bytes(alloc, first, second, third)),
+        Command::Trace(_, _, _, tracing) => shown(trace_bytes(
+            alloc, first, second, third, tracing,
+        )),
         Command::Compile(_, _, _, _, None)
         | Command::Compile(_, _, _, _, Some(_))
         | Command::Run(_, _, _)

@@ -4,8 +4,9 @@ ghost use Rattle.nv_outside.specs.Calls.{AsksAtMost};
 ghost use Rattle.nv_outside.specs.Causes.{Rose};
 ghost use Rattle.nova_commands.specs.Calling.{calls_of};
 ghost use Rattle.nv_outside.specs.Holding.{AppendsFront};
+ghost use Rattle.nova_commands.specs.Tracing.{HoldAgreeing};
 ghost use Rattle.nova_commands.specs.Answers.{Shows, Ends, IsCaused, IsDone, IsStopped, CanMake, CanEnd, IsRefusable, IsPrinted, IsBegun, IsFree, IsOnly};
-ghost use Rattle.command_line.specs.Command.{command_of, texts_of, outputs_of, SomeFile, IfCommand, IfCompile, IfGen, ForCommand};
+ghost use Rattle.command_line.specs.Command.{command_of, texts_of, outputs_of, SomeFile, IfCommand, IfCompile, IfGen, ForCommand, IfTrace};
 ghost use Rattle.nova_commands.specs.Generating.{EndsGenerated, IsSmallMade};
 ghost use Rattle.command_line.specs.inner.Words.{command_as, HasLimits};
 ghost use Rattle.nova_commands.specs.Headline.{IsCompiled, IfWithout, IsReported, IsCompilable, IsUndisturbed};
@@ -37,6 +38,7 @@ use std::alloc::Global;
 /// | `lint OBJ` | prints whether OBJ's code is lawful |
 /// | `check REPORT` | checks a report by itself, and prints its verdict |
 /// | `contexts OBJ MEM SCHEDULE` | runs up to four contexts of OBJ's code on the memory text MEM by the schedule, and prints how each stands, whether they can disturb one another, and the memories |
+/// | `trace SRC OBJ MEM steps=N calls=N [line=N]` | runs the program of SRC with 1 to 100,000,000 calls and OBJ's code with as many steps on the memory text MEM, and prints which statement made each write, and through which calls, up to the first write of a line where one is given; or that the two differ |
 /// | `peep OBJ OUT` | saves OBJ without the needless instructions of its code as OUT |
 /// | `counts SRC MEM FILE steps=N` | runs the form of the program of SRC with 1 to 100,000,000 jumps on the memory text MEM, saves how often each of its labels was entered as FILE, and prints the outcome |
 /// | `gen SEED SIZE` | makes a source of 1 to 500 lines from a seed of 32 bits, compiles it, runs the code, and prints how long both are, the verdict on its banks, and the word |
@@ -71,6 +73,9 @@ pub fn run<F: Files, K: Sink>(
     // memory keep `compile` from that, and only the sink and memory `gen` on a small program.
     ensures complete { F.tells → IfCompile (command_of (texts_of words.now)) (λ source object report slots budget store weights. IsCompilable (F.held files.old) source slots store weights → IsUndisturbed (λ q. Rose (F.load_faults files.old q) (F.load_faults files.new q)) (λ q. Rose (F.save_faults files.old q) (F.save_faults files.new q)) (Rose (K.faults out.old) (K.faults out.new)) source object report weights → (result ≡ Status.Done) ⊎ (result ≡ Status.NoMemory)) }
     ensures made { IfGen (command_of (texts_of words.now)) (λ seed size. IsSmallMade seed size → ¬ Rose (K.faults out.old) (K.faults out.new) → (result ≡ Status.Done) ⊎ (result ≡ Status.NoMemory)) }
+
+    // Where the object is that of code that does what the source says, `trace` finds no difference.
+    ensures agreed { F.tells → IfTrace (command_of (texts_of words.now)) (λ source object. HoldAgreeing (F.held files.old) source object → result ≢ Status.Disagrees) }
 
     // What the command made of the contents of its inputs and saved, or why it is refused, and the text that was printed. A
     // store that tells holds these contents; over every other the answer is that for some contents.

@@ -123,7 +123,7 @@ fn push_usage(message_text: &mut Message, lines: &[&str]) -> Status {
     Status::Usage
 }
 
-const USAGE: [&str; 17] = [
+const USAGE: [&str; 18] = [
     "nova_explain SRC              where a source is faulty, or how large it is",
     "nova_explain type KIND        what `type KIND at FIRST AFTER` means, KIND from 1 to 24",
     "nova_explain syntax WORD      what `syntax WORD at BYTE` means: char, number, name, syntax, deep",
@@ -136,6 +136,7 @@ const USAGE: [&str; 17] = [
     "novac dis OBJ                 lists an object's code",
     "novac lint OBJ                looks at the rules of lawful code",
     "novac contexts OBJ MEM SCHEDULE  runs up to four contexts of an object's code on a memory text, by a schedule",
+    "novac trace SRC OBJ MEM steps=N calls=N  tells which statement of a source made each write, if the object writes the same; line=N may follow",
     "novac peep OBJ OUT            saves an object without the needless instructions of its code",
     "novac counts SRC MEM FILE steps=N  saves how often the labels of a source are entered in N jumps on a memory text",
     "novac check REPORT            checks a report, with its certificate",

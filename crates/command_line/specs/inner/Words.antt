@@ -1,7 +1,7 @@
 -- Commands as the code has them.
 use Rattle.std.specs.Prelude.{◌≤◌, ℕ, List, Option, option_map, ⊤}
 use Rattle.std.specs.Borrow.{Bor}
-use Rattle.command_line.specs.Command.{Command, Compile, Run, Exec, Asm, Dis, Lint, Check, Gen, Contexts, Peep, Counts, Options}
+use Rattle.command_line.specs.Command.{Command, Compile, Run, Exec, Asm, Dis, Lint, Check, Gen, Contexts, Peep, Trace, Counts, Options}
 use Rattle.command_line.specs.declared.command.Command.{Command as Spoken}
 use Rattle.command_line.specs.declared.command.Command.TheVariants as spoken
 use Rattle.command_line.specs.declared.command.Options.{Options as Chosen}
@@ -22,6 +22,7 @@ command_as (spoken.Check report) = Check report.now
 command_as (spoken.Gen seed size) = Gen seed size
 command_as (spoken.Contexts object memory schedule) = Contexts object.now memory.now schedule.now
 command_as (spoken.Peep object output) = Peep object.now output.now
+command_as (spoken.Trace source object memory t) = Trace source.now object.now memory.now t.steps t.calls t.line
 command_as (spoken.Counts source memory output jumps) = Counts source.now memory.now output.now jumps
 
 -- the numbers of a compilation, and the file of its weights
@@ -39,6 +40,7 @@ pub record AreInLimits (options : Chosen) : Type 0 where
 abbrev pub HasLimits : Spoken → Type 0
 HasLimits (spoken.Compile source object report options weights) = AreInLimits options
 HasLimits (spoken.Run object memory steps) = steps ≤ 100000000
+HasLimits (spoken.Trace source object memory t) = t.steps ≤ 100000000
 HasLimits (spoken.Counts source memory output jumps) = jumps ≤ 100000000
 HasLimits (spoken.Gen seed size) = (1 ≤ size) × (size ≤ 500)
 HasLimits _ = ⊤

@@ -5,6 +5,7 @@ use Rattle.command_line.specs.Command.{command_of, texts_of}
 use Rattle.command_line.specs.Lines.{usage_text, cannot_read, cannot_write}
 use Rattle.nova_commands.proofs.Completeness.{complete, made-complete, memory-complete, memory-made}
 use Rattle.nova_commands.proofs.Printing.{compiled, reported, generated, memory-generated, printed, begun, only-refused, only-shown, only-made, read-fault, write-fault, unchanged, elsewhere, all-same, memory-printed}
+use Rattle.nova_commands.proofs.Agreed.{agreed}
 use Rattle.command_line.proofs.Names.{words-apart}
 use Rattle.nova_commands.proofs.top.run.Goals as goal
 
@@ -103,3 +104,13 @@ returns-in-Ok-clause-made g c =
 
 pub returns-in-Err-clause-made : goal.returns-in-Err-clause-made
 returns-in-Err-clause-made g c = memory-made _ _ (command_of (texts_of c.args.words.now)) refl
+
+pub returns-in-Ok-clause-agreed : goal.returns-in-Ok-clause-agreed
+returns-in-Ok-clause-agreed g c = λ t.
+    agreed g.F.Files.tells g.K.Sink.tells (g.F.Files.held c.args.files.now) (g.F.Files.held c.reply.new.files) (λ (q : List ℕ). Rose (g.F.Files.load_faults c.args.files.now q) (g.F.Files.load_faults c.reply.new.files q))
+    (command_of (texts_of c.args.words.now)) c.print.result (g.K.Sink.written c.args.out.now) (g.K.Sink.written c.print.new.out) t (returns-in-Ok-clause-answered g c)
+
+pub returns-in-Err-clause-agreed : goal.returns-in-Err-clause-agreed
+returns-in-Err-clause-agreed g c = λ t.
+    agreed g.F.Files.tells g.K.Sink.tells (g.F.Files.held c.args.files.now) (g.F.Files.held c.reply.new.files) (λ (q : List ℕ). Rose (g.F.Files.load_faults c.args.files.now q) (g.F.Files.load_faults c.reply.new.files q))
+    (command_of (texts_of c.args.words.now)) _ (g.K.Sink.written c.args.out.now) _ t (returns-in-Err-clause-answered g c)
