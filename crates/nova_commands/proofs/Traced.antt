@@ -1,5 +1,5 @@
 -- What the pieces of the command `trace` come to.
-use Rattle.std.proofs.Common.{◌≡◌, ◌≢◌, ℕ, ◌⊎◌, inl, inr, List, Option, length, map, take, refl, sym, ap, ◌∙◌, subst}
+use Rattle.std.proofs.Common.{◌≡◌, ◌≢◌, ℕ, ◌⊎◌, inl, inr, List, Option, Result, Ok, Err, IfOk, IfErr, length, map, take, refl, sym, ap, ◌∙◌, subst}
 use Rattle.nv_base.specs.Log.{Log}
 use Rattle.nv_base.specs.Memories.{Memories}
 use Rattle.nv_base.specs.declared.outcome.Write.{Write}
@@ -13,12 +13,17 @@ use Rattle.nv_trace.specs.TraceText.{shown, trace_text}
 use Rattle.nv_trace.specs.Unlike.{AgreeAsFar, IsFirstUnlike}
 use Rattle.nv_trace.proofs.FirstMade.{plain-kept}
 use Rattle.uc_isa.specs.Code.{CodeView}
+use Rattle.uc_isa.specs.Lawful.{IsLawful}
+use Rattle.uc_object.specs.Object.{IsObject, code_of}
+use Rattle.uc_object.specs.declared.object.Object.{Object}
+use Rattle.nova_front.specs.Sources.{IsTypedSource}
 use Rattle.command_line.specs.Lines.{IsUncaused}
 use Rattle.command_line.specs.declared.refusal.Refusal.{Refusal}
+use Rattle.command_line.specs.declared.reply.Reply.{Reply}
 use Rattle.command_line.specs.declared.refusal.Refusal.TheVariants.{TraceParams, TraceWrite}
 use Rattle.command_line.specs.declared.status.Status.TheVariants.{Done}
 use Rattle.machine_commands.specs.Machine.{IsMemoryRefusedFor}
-use Rattle.nova_commands.specs.Tracing.{IsCompared, CodeRefuses, IsOtherFor, made_writes, code_writes}
+use Rattle.nova_commands.specs.Tracing.{IsCompared, IsTraced, CodeRefuses, ObjectRefuses, IsOtherFor, made_writes, code_writes}
 
 -- the trace of the source and the log of the code, each of a memory text that was read for it
 module _ (program : ProgramTree) (c : CodeView) (memory : List ℕ) (steps calls : ℕ) (trace : Kept) (log : Log) (p q : Memories) (args again : List ℕ) (given : Gives (main_words program) memory p args) (given_again : Gives (main_words program) memory q again)
@@ -66,3 +71,24 @@ pub other-params : (program : ProgramTree) (c : CodeView) (memory : List ℕ) (s
     → (e ≡ TraceParams a b) × (a ≢ b) → IsUncaused e ⊎ CodeRefuses program memory steps calls c e
 other-params program c memory steps calls a b p args e given is_a is_b h =
     inr (inr (p, args, given, subst (IsOtherFor program c steps calls args p) (sym h.0) (is_a, is_b, h.1)))
+
+-- ---- of the object of lawful code
+module _ (text bytes memory : List ℕ) (steps calls : ℕ) (line : Option ℕ) (program : ProgramTree) (o : Object) (c : CodeView) (is : c ≡ code_of o) (object : IsObject bytes o) (lawful : IsLawful c.list) where
+  pub traced-by : (answer : Result Reply Refusal) → IsTypedSource text program → IfOk answer (λ r. IsCompared program c text memory steps calls line r.status r.text.items) → IfOk answer (λ r. IsTraced text bytes memory steps calls line r.status r.text.items)
+  traced-by (Ok r) typed h = record {
+    program = program;
+    is_source = typed;
+    o = o;
+    object = object;
+    lawful = subst (λ (x : CodeView). IsLawful x.list) is lawful;
+    compared = subst (λ (x : CodeView). IsCompared program x text memory steps calls line r.status r.text.items) is h;
+  }
+  traced-by (Err e) typed h = tt
+
+  refused-code : (e : Refusal) → IsUncaused e ⊎ CodeRefuses program memory steps calls c e → IsUncaused e ⊎ ObjectRefuses program bytes memory steps calls e
+  refused-code e (inl h) = inl h
+  refused-code e (inr h) = inr (inr (o, object, subst (λ (x : CodeView). IsLawful x.list × CodeRefuses program memory steps calls x e) is (lawful, h)))
+
+  pub refused-by : (answer : Result Reply Refusal) → IfErr answer (λ e. IsUncaused e ⊎ CodeRefuses program memory steps calls c e) → IfErr answer (λ e. IsUncaused e ⊎ ObjectRefuses program bytes memory steps calls e)
+  refused-by (Ok r) h = tt
+  refused-by (Err e) h = refused-code e h

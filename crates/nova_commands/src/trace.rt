@@ -96,9 +96,10 @@ fn trace_code<'a>(
     let job = job_of(alloc, text, program.params())?;
     let log = log_of(alloc, code, job, tracing.steps)?;
     check_writes(&trace, &log)?;
+    let out = trace_text(alloc, source, &trace, log.kept().len(), tracing.line)?;
     Ok(Reply {
         status: Status::Done,
-        text: trace_text(alloc, source, &trace, log.kept().len(), tracing.line)?,
+        text: out,
     })
 }
 
