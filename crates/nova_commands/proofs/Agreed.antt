@@ -66,6 +66,7 @@ lint-never program b m steps calls o (TraceWrite i) is agrees d (inl (inr h)) = 
 lint-never program b m steps calls o e is agrees d (inr h) =
     let same = object-one b o h.0 is h.1 in
     other-never program (code_of h.0) m steps calls e (subst (λ (x : Object). Agrees (main_words program) (source program) (code_of x)) same agrees) d h.2.1
+lint-never program b m steps calls o _ is agrees d (inl h) = absurd d
 
 source-never : (t b m : List ℕ) (steps calls : ℕ) (e : Refusal) → (program : ProgramTree) (o : Object) → IsTypedSource t program → IsObject b o → Agrees (main_words program) (source program) (code_of o) → IsDifference e → TraceRefuses t b m steps calls e → ⊥
 source-never t b m steps calls (TraceParams p q) program o typed is agrees d (inl h) = h

@@ -104,6 +104,6 @@ never-other program c steps calls memory args p i agrees given h =
     let grows = engine-grows c args spill_base p in
     let k : IsFirstUnlike i (take kept_writes made) (take kept_writes (run steps)) = subst (λ l. IsFirstUnlike i l (code_writes c steps args p)) (made-plain program calls args p) h in
     elim (cases_lt w.0 steps) [
-      | inl less ↦ never-unlike kept_writes made (run steps) (run steps) i (prefix-trans made (run w.0) (run steps) w.1 (before-prefix _ _ (grows w.0 steps (omega arith)))) (prefix-itself (run steps)) k
-      | inr most ↦ never-unlike kept_writes made (run steps) (run w.0) i w.1 (before-prefix _ _ (grows steps w.0 most)) k
+      | inl less ↦ never-unlike kept_writes made (run steps) (run steps) i (prefix-trans made (run w.0) (run steps) w.1 (before-prefix (engine c args spill_base p w.0) (engine c args spill_base p steps) (grows w.0 steps (omega arith)))) (prefix-itself (run steps)) k
+      | inr most ↦ never-unlike kept_writes made (run steps) (run w.0) i w.1 (before-prefix (engine c args spill_base p steps) (engine c args spill_base p w.0) (grows steps w.0 most)) k
     ]

@@ -373,6 +373,8 @@ fault-input T held R c (UnlawfulLine p r) is h = absurd cc
 fault-input T held R c (StoreFull n) is h = absurd cc
 fault-input T held R c (BadWeights n) is h = absurd cc
 fault-input T held R c (BadSchedule n) is h = absurd cc
+fault-input T held R c (TraceParams code main) is h = absurd cc
+fault-input T held R c (TraceWrite n) is h = absurd cc
 
 read-end : (Tells : Type 0) (old new : Holding) (LR SR : List ℕ → Type 0) (c : Command) (s : Status) (text : List ℕ) → s ≡ status.ReadFault → HasEnded Tells old new LR SR c s text
     → StopsAt Tells old (inputs_of c) (λ i. LR i.name × (text ≡ cannot_read i.name))
