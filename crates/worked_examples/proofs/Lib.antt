@@ -1,0 +1,3 @@
+mod ShortCode
+mod ShortForms
+mod ShortTrees

@@ -1,0 +1,6 @@
+-- Short forms, by computing.
+use Rattle.std.proofs.Common.{refl}
+use Rattle.worked_examples.specs.Forms.{EntriesByJumps}
+
+pub entries_by_jumps : EntriesByJumps
+entries_by_jumps = record { start = λ p. refl; none = λ p. refl; one = λ p. refl; over = λ p. refl; again = λ p. refl }

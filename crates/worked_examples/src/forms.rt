@@ -1,0 +1,8 @@
+//! Short forms.
+ghost use Rattle.worked_examples.specs.Forms.{EntriesByJumps};
+
+/// How often labels are entered.
+#[tactic(auto, using(crate::proofs::ShortForms::entries_by_jumps))]
+pub fn entries_by_jumps()
+    ensures { EntriesByJumps }
+{}
