@@ -119,10 +119,6 @@ class CrowdedRow:
         return [] if good and not os.path.exists(os.path.join(at, "o")) else [f"{found}, {branches} branches"]
 
 
-# Programs of bench/packets whose search goes on for long; `bench/run NOVAC ZO_BENCH packets` compares their outcomes too.
-LONG_SEARCHES = ("connections.nova", "fragments.nova")
-
-
 class PacketRow:
     """The code of a program of bench/packets comes to the outcome of its meaning, and the report on it is true."""
 
@@ -419,5 +415,5 @@ def all_rows(top):
     rows += [("a packet's hex dump and back", there_and_back), ("forms of hex dumps", dumps), ("nothing stands twice that didn't", nothing_new_twice), ("capture files", captures), ("tables from a CSV file", tables)]
     sources = sorted(it for it in os.listdir(os.path.join(top, "examples")) if it.endswith(".nova"))
     packets = sorted(it for it in os.listdir(os.path.join(top, "bench", "packets")) if it.endswith(".nova"))
-    made = [PacketRow(it, top) for it in packets if it not in LONG_SEARCHES] + [MadeRow(seed, size, top) for seed, size in ((0, 2), (1, 60), (0, 500))]
+    made = [PacketRow(it, top) for it in packets] + [MadeRow(seed, size, top) for seed, size in ((0, 2), (1, 60), (0, 500))]
     return [ToolRow(name, body, top) for name, body in rows] + [ReportRow(it, top) for it in sources] + made + [CrowdedRow(top), SumRow(top)] + [SearchRow(it, top) for it in SEARCHES]
