@@ -1,10 +1,12 @@
-//! What is told of a program, in parts: the text that grows, types by number, costs, what is declared and what is wanted,
-//! names like another one, and a sentence on each kind of type fault.
+//! Parts of an explanation: what is found in a source with its excerpt, the text that grows, types by number, what is declared and
+//! what is expected, names like another one, and a sentence on each kind of type fault.
 #![tactic(auto)]
 
-pub mod cost;
 pub mod declared;
+mod excerpt;
 pub mod expected;
+pub mod finding;
+mod json;
 pub mod kinds;
 pub mod names;
 pub mod nearest;

@@ -68,6 +68,12 @@ impl Message {
         self.fail_if(other.is_short)
     }
 
+    /// Appends another text as a string of JSON, without the end of its last line.
+    pub fn string_of(&mut self, other: &Message) {
+        self.string(without_line_end(&other.text));
+        self.fail_if(other.is_short)
+    }
+
     /// Appends a text.
     pub fn put(&mut self, text: &str) {
         self.bytes(text.as_bytes())
@@ -130,4 +136,11 @@ pub fn part(bytes: &[u8], from: usize, to: usize) -> &[u8] {
     let to = to.min(bytes.len());
     let from = from.min(to);
     &bytes[from..to]
+}
+
+fn without_line_end(bytes: &[u8]) -> &[u8] {
+    match bytes.last() {
+        Some(byte) if *byte == b'\n' => part(bytes, 0, bytes.len().saturating_sub(1)),
+        _ => bytes,
+    }
 }

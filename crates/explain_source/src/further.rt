@@ -1,6 +1,7 @@
 //! The faults of further functions: each as if the bodies of the faulty functions before it were without fault.
 
 use crate::refusal::{Fault, explain_kind};
+use explain_parts::finding::{Finding, Form, Severity, Source};
 use explain_parts::text::{Message, part};
 use nv_ast::{Decl, Fun, Program, Span};
 use nv_base::NoMemory;
@@ -18,11 +19,11 @@ const BODY: &str = "raise a_body_that_is_left_out[]";
 const MOST_FAULTS: u32 = 12;
 
 /// Appends the fault of a kind at a span, and the first fault of each function after the one that has it.
-pub fn explain_all(
+pub fn push_all(
     alloc: Global,
     out: &mut Message,
-    name: &str,
-    bytes: &[u8],
+    form: Form,
+    source: Source,
     kind: u8,
     span: Span,
 ) {
@@ -32,48 +33,48 @@ pub fn explain_all(
         let Some((kind, span)) = next else {
             return;
         };
-        next = push_next(alloc, out, name, bytes, &mut bodies, kind, span);
+        if form.is_text() && !bodies.is_empty() {
+            out.line("");
+        }
+        push_one(alloc, out, form, source, &bodies, kind, span);
+        next = next_fault(alloc, out, source.bytes, &mut bodies, span);
     }
 }
 
-// Appends a fault of the text whose faulty bodies so far are replaced, and gives the next one.
-fn push_next(
+// The fault after the one at a span, whose body is replaced too.
+fn next_fault(
     alloc: Global,
     out: &mut Message,
-    name: &str,
     bytes: &[u8],
     bodies: &mut Vec<Span>,
-    kind: u8,
     span: Span,
 ) -> Option<(u8, Span)> {
-    push_told(alloc, out, name, bytes, bodies, kind, span);
     let body = body_around(alloc, out, bytes, original_span(bytes, bodies, span))?;
     out.keep(bodies, body);
     fault_of(alloc, out, bytes, bodies)
 }
 
 // Appends a fault of the text whose faulty bodies so far are replaced.
-fn push_told(
+fn push_one(
     alloc: Global,
     out: &mut Message,
-    name: &str,
-    bytes: &[u8],
+    form: Form,
+    source: Source,
     bodies: &[Span],
     kind: u8,
     span: Span,
 ) {
-    if !bodies.is_empty() {
-        out.line("");
-    }
-    let text = patched(alloc, out, bytes, bodies);
+    let text = patched(alloc, out, source.bytes, bodies);
+    let mut it = Finding::new(alloc, Severity::Error);
     let fault = Fault {
-        source: bytes,
+        source: source.bytes,
         bodies,
         bytes: &text,
         kind,
         span,
     };
-    explain_kind(alloc, out, name, fault)
+    explain_kind(alloc, &mut it, fault);
+    it.push(alloc, out, form, source)
 }
 
 // The first fault of the text whose faulty bodies are replaced.

@@ -2,19 +2,11 @@
 #![tactic(auto)]
 
 mod elsewhere;
-pub mod excerpt;
-mod expected;
-mod expression_slips;
 mod fields;
-mod foreign;
 mod further;
-mod head_slips;
 mod narrow;
-pub mod place;
 mod refusal;
 pub mod sizes;
-mod slip;
-mod slips;
 mod source;
 
-pub use source::{push_fault, push_short_sizes, push_sizes};
+pub use source::{push_fault, push_fault_as, push_short_sizes, push_sizes, push_too_long};

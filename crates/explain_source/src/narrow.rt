@@ -1,7 +1,7 @@
 //! The part of a faulty expression, declaration or statement that is at fault.
 
-use crate::place::Place;
 use explain_parts::text::{Message, part};
+use explain_syntax::place::Place;
 use nv_ast::Span;
 use nv_text::{MOST_BYTES, Token, tokens};
 use std::alloc::Global;

@@ -1,11 +1,11 @@
 //! The sizes of a program without a fault.
 
 use crate::fields::FieldLister;
-use explain_parts::cost::Cost;
 use explain_parts::text::Message;
 use explain_walk::Walk;
 use nv_ast::{Decl, Fun, LayoutText, Name, Program, Span, Typed};
 use std::alloc::Global;
+use type_costs::cost::Cost;
 
 /// Appends the sizes of a program: of the whole, and of each declaration.
 pub fn push_typed_sizes(alloc: Global, out: &mut Message, name: &str, typed: &Typed) {

@@ -1,40 +1,32 @@
 //! Blocks and patterns in a walk, and the words that the lets of a block hold.
 
 use crate::walk::{ExprFacts, Walk};
-use explain_parts::cost::Cost;
 use explain_parts::expected::{ExpectedType, Why};
-use explain_parts::names::add_names;
 use explain_parts::types::WORD;
 use indexmap::IndexMap;
 use nv_ast::{Kind, Name, Pat, Stmt};
+use nv_base::NoMemory;
+use type_costs::cost::Cost;
+use type_costs::needs::{Step, greatest_need};
 
-// A statement of a block: how many variables were written before it, its need, and of a let the pattern
-// and the words of its value.
+// A statement of a block, with its size.
 #[derive(Clone, Copy)]
-struct Step<'a> {
-    before: usize,
-    need: u64,
+struct Statement<'a> {
+    step: Step<'a>,
     size: u64,
-    pattern: Option<&'a Pat>,
-    words: u64,
 }
 
-// What a let holds: its words, and the place after the last one where a variable of its pattern is written.
-#[derive(Clone, Copy)]
-struct OpenNeed {
-    words: u64,
-    until: usize,
-}
-
-impl<'a> Step<'a> {
+impl<'a> Statement<'a> {
     // Where a walk is over.
-    fn none() -> Step<'a> {
-        Step {
-            before: 0,
-            need: 0,
+    fn none() -> Statement<'a> {
+        Statement {
+            step: Step {
+                before: 0,
+                need: 0,
+                pattern: None,
+                words: 0,
+            },
             size: 0,
-            pattern: None,
-            words: 0,
         }
     }
 }
@@ -51,9 +43,9 @@ impl<'a> Walk<'a> {
         let mut steps = Vec::new(self.alloc);
         let mut size: u64 = 0;
         for statement in statements {
-            let step = self.statement(statement);
-            size = size.saturating_add(step.size);
-            self.note.keep(&mut steps, step);
+            let part = self.statement(statement);
+            size = size.saturating_add(part.size);
+            self.note.keep(&mut steps, part.step);
         }
         let before = self.written.len();
         let result = self.expr(ExpectedType::Anything, last);
@@ -61,12 +53,12 @@ impl<'a> Walk<'a> {
         let need = self.block_need(first, &steps, before, result.cost.need);
         ExprFacts {
             value: result.value,
-            cost: result.cost.of_block(size, need),
+            cost: block_cost(result.cost, size, need),
         }
     }
 
     #[cycle(walk)]
-    fn statement(&mut self, statement: &'a Stmt) -> Step<'a> {
+    fn statement(&mut self, statement: &'a Stmt) -> Statement<'a> {
         match statement {
             Stmt::Let(_, _, _) => self.binding(statement),
             Stmt::Store(_, _, _, _) => self.store(statement),
@@ -74,9 +66,9 @@ impl<'a> Walk<'a> {
     }
 
     #[cycle(walk)]
-    fn binding(&mut self, statement: &'a Stmt) -> Step<'a> {
+    fn binding(&mut self, statement: &'a Stmt) -> Statement<'a> {
         let Stmt::Let(p, e, span) = statement else {
-            return Step::none();
+            return Statement::none();
         };
         let before = self.written.len();
         let part = self.expr(ExpectedType::Value, e);
@@ -86,19 +78,20 @@ impl<'a> Walk<'a> {
             self.is_over = true;
         }
         self.bind(p, t);
-        Step {
+        let step = Step {
             before,
             need: part.cost.words.saturating_add(part.cost.need),
-            size: part.cost.size.saturating_add(1),
             pattern: Some(p),
             words: part.cost.words,
-        }
+        };
+        let size = part.cost.size.saturating_add(1);
+        Statement { step, size }
     }
 
     #[cycle(walk)]
-    fn store(&mut self, statement: &'a Stmt) -> Step<'a> {
+    fn store(&mut self, statement: &'a Stmt) -> Statement<'a> {
         let Stmt::Store(mem, a, e, span) = statement else {
-            return Step::none();
+            return Statement::none();
         };
         let before = self.written.len();
         let address = self.expr(ExpectedType::Typed(WORD, Why::Address), a);
@@ -108,50 +101,26 @@ impl<'a> Walk<'a> {
             self.is_over = true;
         }
         let parts = Cost::node(0, address.cost.beside(stored.cost));
-        Step {
+        let step = Step {
             before,
             need: parts.need,
-            size: parts.size,
             pattern: None,
             words: 0,
-        }
+        };
+        let size = parts.size;
+        Statement { step, size }
     }
 
     // The greatest need of a block's parts, each with the words that earlier lets hold for it and what
     // follows. Its variables are those written from `first` on, those of its tail from `last` on.
     fn block_need(&mut self, first: usize, steps: &[Step<'a>], last: usize, tail_need: u64) -> u64 {
         let ends = self.last_places(first);
-        self.need_with(&ends, steps, last, tail_need)
-    }
-
-    // The same with the places after the last ones of the variables.
-    fn need_with(
-        &mut self,
-        ends: &IndexMap<&'a Name, usize>,
-        steps: &[Step<'a>],
-        last: usize,
-        tail_need: u64,
-    ) -> u64 {
-        let mut held = Vec::new(self.alloc);
-        let mut most: u64 = 0;
-        for step in steps {
-            most = most.max(pending(&held, step.before).saturating_add(step.need));
-            self.hold(ends, &mut held, step);
-        }
-        most.max(pending(&held, last).saturating_add(tail_need))
-    }
-
-    // Adds what a let holds.
-    fn hold(
-        &mut self,
-        ends: &IndexMap<&'a Name, usize>,
-        held: &mut Vec<OpenNeed>,
-        step: &Step<'a>,
-    ) {
-        if let Some(p) = step.pattern {
-            let words = step.words;
-            let until = self.last_place(ends, p);
-            self.note.keep(held, OpenNeed { words, until });
+        match greatest_need(self.alloc, &ends, steps, last, tail_need) {
+            Ok(need) => need,
+            Err(NoMemory) => {
+                self.note.fail();
+                0
+            }
         }
     }
 
@@ -165,13 +134,6 @@ impl<'a> Walk<'a> {
             }
         }
         ends
-    }
-
-    // The place after the last one where a name of a pattern is written, or 0.
-    fn last_place(&mut self, ends: &IndexMap<&'a Name, usize>, p: &'a Pat) -> usize {
-        let mut names = Vec::new(self.alloc);
-        add_names(&mut self.note, p, &mut names);
-        last_of(ends, &names)
     }
 
     /// Binds the variables of a pattern at a type.
@@ -194,24 +156,14 @@ impl<'a> Walk<'a> {
     }
 }
 
-// The last of the places after some names, or 0.
-fn last_of<'a>(ends: &IndexMap<&'a Name, usize>, names: &[&'a Name]) -> usize {
-    let mut until: usize = 0;
-    for name in names {
-        if let Some(end) = ends.get(name) {
-            until = until.max(*end);
-        }
+// What a block costs whose tail costs this and whose statements have this size, with the greatest need of its parts.
+fn block_cost(tail: Cost, size: u64, need: u64) -> Cost {
+    Cost {
+        words: tail.words,
+        size: size
+            .saturating_add(tail.size)
+            .saturating_add(tail.words)
+            .saturating_add(1),
+        need: need.saturating_add(2),
     }
-    until
-}
-
-// The words that are held for what is written from a place on.
-fn pending(held: &[OpenNeed], place: usize) -> u64 {
-    let mut words: u64 = 0;
-    for h in held {
-        if h.until > place {
-            words = words.saturating_add(h.words);
-        }
-    }
-    words
 }

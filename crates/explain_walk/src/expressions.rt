@@ -1,12 +1,12 @@
 //! Expressions in a walk.
 
 use crate::walk::{ExprFacts, Function, Walk};
-use explain_parts::cost::Cost;
 use explain_parts::expected::{ExpectedType, Why};
 use explain_parts::operators::{operand_of, result_of};
 use explain_parts::types::{BOOL, Part, WORD};
 use nv_ast::{Expr, Fun, Kind, Name, Span};
 use nv_base::Mem;
+use type_costs::cost::Cost;
 
 impl<'a> Walk<'a> {
     /// The body of a function: its size and its need.
@@ -218,8 +218,11 @@ impl<'a> Walk<'a> {
         if known.is_none() {
             return self.over();
         }
-        let behind = self.costs.get(name).unwrap_or(Cost::NONE);
-        self.found(Some(function.result), parts.beside(behind.called()))
+        let called = Cost {
+            words: 0,
+            ..self.costs.get(name).unwrap_or(Cost::NONE)
+        };
+        self.found(Some(function.result), parts.beside(called))
     }
 
     #[cycle(walk)]
@@ -233,7 +236,7 @@ impl<'a> Walk<'a> {
         let part = self.expr(ExpectedType::Typed(packed, Why::Packed(layout)), inner);
         self.found(
             Some(shape.record),
-            part.cost.beside(Cost::of_fields(shape.fields)),
+            part.cost.beside(fields_cost(shape.fields)),
         )
     }
 
@@ -247,7 +250,7 @@ impl<'a> Walk<'a> {
         let expected = ExpectedType::Typed(shape.record, Why::Unpacked(layout));
         let part = self.expr(expected, inner);
         let t = self.types.of_words(shape.packed_words());
-        self.found(Some(t), part.cost.beside(Cost::of_fields(shape.fields)))
+        self.found(Some(t), part.cost.beside(fields_cost(shape.fields)))
     }
 
     #[cycle(walk)]
@@ -310,5 +313,13 @@ impl<'a> Walk<'a> {
         }
         let t = self.types.of_words(n);
         self.found(Some(t), part.cost)
+    }
+}
+
+// What the fields of an unpack or a pack cost.
+fn fields_cost(fields: u64) -> Cost {
+    Cost {
+        size: fields.saturating_mul(4),
+        ..Cost::NONE
     }
 }

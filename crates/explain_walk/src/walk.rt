@@ -1,12 +1,12 @@
 //! A walk over a program, up to a fault or over the whole of it. It finds the types and sizes that are told of both.
 //! What it finds goes into the text that is printed; where the fault lies, `check` has said before.
 
-use explain_parts::cost::Cost;
 use explain_parts::declared::{Declared, Scope};
 use explain_parts::text::Message;
 use explain_parts::types::{BOOL, Part, Types};
 use nv_ast::{Decl, Fun, Name, Program, Span, TyText};
 use std::alloc::Global;
+use type_costs::cost::Cost;
 
 /// A function: the tuple of its parameters' types, and its result's type.
 #[derive(Clone, Copy)]

@@ -2,8 +2,9 @@
 
 use crate::status::Status;
 use explain_pages::page_of;
+use explain_parts::finding::Form;
 use explain_parts::text::Message;
-use explain_source::{push_fault, push_sizes};
+use explain_source::{push_fault_as, push_short_sizes, push_sizes, push_too_long};
 use nv_base::NoMemory;
 use nv_outside::{Files, Loaded, Put, Sink};
 use nv_text::MOST_BYTES;
@@ -32,6 +33,14 @@ fn printed<K: Sink>(status: Status, text: &[u8], out: &mut K) -> Status {
     }
 }
 
+// How much is told of a source, and in which form.
+#[derive(Clone, Copy)]
+enum Report {
+    Short,
+    Verbose,
+    Json,
+}
+
 // Appends the text of what the words say, and gives its status.
 fn answer<F: Files>(
     alloc: Global,
@@ -44,9 +53,22 @@ fn answer<F: Files>(
         return Status::Told;
     }
     if words.len() == 1 {
-        push_source(alloc, words[0].as_str(), files, message_text)
-    } else {
-        push_usage(message_text, &USAGE)
+        return push_source(alloc, words[0].as_str(), files, message_text, Report::Short);
+    }
+    if words.len() == 2 {
+        if let Some(report) = report_of(words[0].as_str()) {
+            return push_source(alloc, words[1].as_str(), files, message_text, report);
+        }
+    }
+    push_usage(message_text, &USAGE)
+}
+
+// The report that an option asks for.
+fn report_of(word: &str) -> Option<Report> {
+    match word.as_bytes() {
+        b"--verbose" => Some(Report::Verbose),
+        b"--json" => Some(Report::Json),
+        _ => None,
     }
 }
 
@@ -83,29 +105,43 @@ fn push_source<F: Files>(
     name: &str,
     files: &mut F,
     message_text: &mut Message,
+    report: Report,
 ) -> Status {
+    let form = form_of(report);
     let mut bytes = Vec::new(alloc);
     match files.load(name, MOST_BYTES as u64, &mut bytes) {
-        Loaded::Done => push_explained(alloc, message_text, name, &bytes),
-        Loaded::TooLong => push_too_long(message_text, name),
+        Loaded::Done => push_explained(alloc, message_text, form, name, &bytes, report),
+        Loaded::TooLong => push_too_long(alloc, message_text, form, name),
         Loaded::Failed => return push_unread(message_text, name),
         Loaded::NoMemory => message_text.fail(),
     }
     Status::Told
 }
 
-// Appends the fault of a source, or its sizes.
-fn push_explained(alloc: Global, message_text: &mut Message, name: &str, bytes: &[u8]) {
-    if !push_fault(alloc, message_text, name, bytes) {
-        push_sizes(alloc, message_text, name, bytes);
+fn form_of(report: Report) -> Form {
+    match report {
+        Report::Json => Form::Json,
+        _ => Form::Text,
     }
 }
 
-// Appends that a source has too many bytes.
-fn push_too_long(message_text: &mut Message, name: &str) {
-    message_text.put(name);
-    message_text.line(": the source has more than 262,144 bytes (too large 262144)");
-    message_text.line("Every name and blank counts. Take out what `main` doesn't need.")
+// Appends the fault of a source, or its sizes.
+fn push_explained(
+    alloc: Global,
+    message_text: &mut Message,
+    form: Form,
+    name: &str,
+    bytes: &[u8],
+    report: Report,
+) {
+    if push_fault_as(alloc, message_text, form, name, bytes) {
+        return;
+    }
+    match report {
+        Report::Short => push_short_sizes(alloc, message_text, name, bytes),
+        Report::Verbose => push_sizes(alloc, message_text, name, bytes),
+        Report::Json => {}
+    }
 }
 
 // Appends that a source can't be read.
@@ -123,8 +159,10 @@ fn push_usage(message_text: &mut Message, lines: &[&str]) -> Status {
     Status::Usage
 }
 
-const USAGE: [&str; 18] = [
+const USAGE: [&str; 20] = [
     "nova_explain SRC              where a source is faulty, or how large it is",
+    "nova_explain --verbose SRC    the same, with the sizes of each declaration",
+    "nova_explain --json SRC       each fault as an object of JSON on a line of its own",
     "nova_explain type KIND        what `type KIND at FIRST AFTER` means, KIND from 1 to 24",
     "nova_explain syntax WORD      what `syntax WORD at BYTE` means: char, number, name, syntax, deep",
     "nova_explain status NUMBER    what a status of novac means",

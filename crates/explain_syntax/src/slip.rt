@@ -62,3 +62,9 @@ impl Slip {
         })
     }
 }
+
+/// Of an `=` or an arrow that would change a value.
+pub const NO_ASSIGNMENT: &str = "nothing is assigned";
+
+/// What stands in place of a changed field.
+pub const RECORD_ANEW: &str = "A changed record is made anew: `let h = { a = 5, b = h.b };`.";

@@ -178,6 +178,20 @@ impl<'a, 't> Place<'a, 't> {
         !open.is(0, "{")
     }
 
+    /// Whether the token is in the declaration of a layout.
+    pub fn is_in_layout(&self) -> bool {
+        for n in (0..self.index).rev() {
+            let place = self.moved(n);
+            if place.is(0, "layout") {
+                return true;
+            }
+            if place.is_among(0, &["fun", "exception"]) {
+                return false;
+            }
+        }
+        false
+    }
+
     fn is_in_square_brackets(&self) -> bool {
         let Some(open) = self.open_bracket() else {
             return false;

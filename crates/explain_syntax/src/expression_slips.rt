@@ -46,6 +46,15 @@ fn shift_slip(place: &Place) -> Option<Slip> {
 fn operand_slip(place: &Place) -> Option<Slip> {
     match place.text(0) {
         b">" if place.is(1, "<") => Slip::before(1, "there is no `<>`", "Write `!=`."),
+        b">" if place.is(1, "-") => Slip::before(
+            1,
+            "there is no `->`",
+            "A store is `sram(ADDRESS) <- VALUE;`, and a dot takes a field.",
+        ),
+        b"|" | b"||" if place.is_among(1, &["=", "(", "[", ","]) => Slip::titled(
+            "there are no closures",
+            "A function is declared at the top: `fun f[x: word]: word { x + 1 }`.",
+        ),
         b"-" if place.next_is("-") => Slip::help(
             "A comment begins with `//`. There is no unary minus: write `0 - x`.",
         ),
@@ -94,17 +103,27 @@ fn operator_slip(place: &Place) -> Option<Slip> {
         return Slip::titled("a comparison stands alone", "Write `1 < x && x < 3`.");
     }
     match place.text(0) {
+        b"(" if place.is(2, ".") => Slip::help(
+            "There are no methods: a dot takes a record's field, and a call is `f[x, 1]`.",
+        ),
         b"(" if place.is_word(1) => Slip::help(
             "Parameters and arguments stand in `[ ]`, as in `f[1, 2]`.",
         ),
         b"[" => Slip::help(
             "There are no arrays: the parts of a tuple are named by a pattern, `let (a, b) = t;`.",
         ),
-        b"," if !place.is_in_brackets() => Slip::help(
-            "Several values stand in round brackets: `(a, b)`.",
+        b"," => comma_slip(place),
+        b"if" if !place.is_on_new_line() => Slip::help(
+            "An `if` begins with its condition: `if (x == 0) 1 else 2`.",
         ),
         b"~" | b"!" => Slip::help(
             "`~` and `!` stand before an operand, and an operator between two.",
+        ),
+        b"{"
+            if place.is_word(1)
+                && place.later(1).is_word(0)
+                && place.later(2).is_among(0, &["=", ":"]) => Slip::help(
+            "A record has no name before it: `{ a = 1, b = 2 }`.",
         ),
         b"{" => Slip::help(
             "Braces are for functions, `try` and records. An arm has none, and a block as a value stands in round brackets.",
@@ -112,3 +131,31 @@ fn operator_slip(place: &Place) -> Option<Slip> {
         _ => None,
     }
 }
+
+// A comma after a value that stands alone.
+fn comma_slip(place: &Place) -> Option<Slip> {
+    let Some(open) = place.open_bracket() else {
+        return None;
+    };
+    if open.is(0, "{") {
+        return Slip::help(if place.later(1).is_word(0) && place.later(2).is(0, "=") {
+            "Each variable has a `let` of its own: `let a = 1; let b = 2;`."
+        } else {
+            "Several values stand in round brackets: `(a, b)`."
+        });
+    }
+    if !open.is(0, "(") {
+        return None;
+    }
+    if open.is_among(1, &MEMORIES) || open.is(1, "]") && open.is_among(4, &MEMORIES) {
+        return Slip::help(
+            "An address is one word: a store is `sram(ADDRESS) <- VALUE;`, and a fetch `sram[COUNT](ADDRESS)`.",
+        );
+    }
+    if open.is(1, "]") && open.is_among(4, &["unpack", "pack"]) {
+        return Slip::help("Several words are a tuple: `unpack[l]((w0, w1))`.");
+    }
+    None
+}
+
+const MEMORIES: [&str; 3] = ["sram", "sdram", "scratch"];

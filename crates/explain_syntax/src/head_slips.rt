@@ -2,7 +2,7 @@
 
 use crate::expected::Expected;
 use crate::place::Place;
-use crate::slip::Slip;
+use crate::slip::{NO_ASSIGNMENT, RECORD_ANEW, Slip};
 
 const ACCESS: &str = "A fetch is `sram[COUNT](ADDRESS)`, a store `sram(ADDRESS) <- VALUE;`.";
 
@@ -17,6 +17,12 @@ pub fn head_slip(place: &Place, expected: &Expected) -> Option<Slip> {
     if let Some(slip) = access_slip(place, expected) {
         return Some(slip);
     }
+    if let Some(slip) = handler_slip(place, expected) {
+        return Some(slip);
+    }
+    if let Some(slip) = layout_slip(place, expected) {
+        return Some(slip);
+    }
     if let Some(slip) = named_slip(place, expected) {
         return Some(slip);
     }
@@ -28,6 +34,9 @@ pub fn head_slip(place: &Place, expected: &Expected) -> Option<Slip> {
 
 // After a whole expression.
 fn late_slip(place: &Place, expected: &Expected) -> Option<Slip> {
+    if place.is(0, "<-") && place.is(2, ".") {
+        return Slip::titled(NO_ASSIGNMENT, RECORD_ANEW);
+    }
     if place.is(0, "<-") && expected.has("+") {
         return Slip::help(
             "A store is a statement that begins with `sram(ADDRESS) <-`, without a count.",
@@ -69,10 +78,54 @@ fn access_slip(place: &Place, expected: &Expected) -> Option<Slip> {
     if place.is(2, "raise") {
         return Slip::help("Values stand in `[ ]`, also where there are none: `raise E[]`.");
     }
+    None
+}
+
+// Handlers, and `..`.
+fn handler_slip(place: &Place, expected: &Expected) -> Option<Slip> {
     if place.is(1, "handle") || place.is(2, "handle") {
         return Slip::help(
             "A handler is `handle E[x] { .. }`, with one pattern for each value of the exception.",
         );
+    }
+    if expected.has("handle") {
+        return Slip::help("A `try` has a handler: `try { .. } handle E[] { .. }`.");
+    }
+    if place.is(0, "handle") && place.is(1, "}") {
+        return Slip::help(
+            "A `try` has one handler. Put it into another `try`: `try { try { .. } handle E[] { .. } } handle F[] { .. }`.",
+        );
+    }
+    if place.is(0, ".") && (place.is(1, ".") || place.next_is(".")) {
+        return Slip::titled(
+            "there is no `..`",
+            "A record has all its fields, as in `{ a = 1, b = h.b }`. A range is `1 <= x && x < 5`.",
+        );
+    }
+    None
+}
+
+// Between the braces of a layout.
+fn layout_slip(place: &Place, expected: &Expected) -> Option<Slip> {
+    if !expected.has("x") || !place.is_in_layout() {
+        return None;
+    }
+    if place.is(1, "=") {
+        return Slip::help("A layout is `layout l = { a: 8, b: 24 };`.");
+    }
+    if place.is(1, ":") && place.is_among(0, &["word", "bool"]) {
+        return Slip::help("A field has a number of bits: `a: 32`.");
+    }
+    if !place.is_among(1, &["{", ",", "|"]) {
+        return None;
+    }
+    if place.is_number(0) || place.is(0, "_") {
+        return Slip::help(
+            "Bits without a name are a gap, joined by `##`: `{ a: 8 } ## {8} ## { b: 16 }`.",
+        );
+    }
+    if place.is_among(0, &["word", "bool"]) {
+        return Slip::help("A field is its name, a colon and its bits: `a: 8`.");
     }
     None
 }
@@ -87,6 +140,11 @@ fn named_slip(place: &Place, expected: &Expected) -> Option<Slip> {
     if place.is(1, "try") {
         return Slip::help("Write `try { .. } handle E[] { .. }`.");
     }
+    if place.is(3, "exception") && place.is(1, "[") && place.next_is(":") {
+        return Slip::help(
+            "The values of an exception have types and no names: `exception E[word];`.",
+        );
+    }
     if place.is(2, "exception") {
         return Slip::help(
             "An exception has a list of types, which may be empty: `exception E[];`.",
@@ -95,6 +153,11 @@ fn named_slip(place: &Place, expected: &Expected) -> Option<Slip> {
     if place.is(2, "layout") {
         return Slip::help("A layout is `layout l = { a: 8, b: 24 };`.");
     }
+    function_slip(place, expected)
+}
+
+// In the head of a function.
+fn function_slip(place: &Place, expected: &Expected) -> Option<Slip> {
     if place.is_among(2, &["fun", "and"]) {
         return Slip::help(if place.is(0, "(") {
             "Parameters and arguments stand in `[ ]`, as in `f[1, 2]`."
@@ -112,7 +175,11 @@ fn named_slip(place: &Place, expected: &Expected) -> Option<Slip> {
         && !expected.has("bool")
         && place.open_bracket().is_none()
     {
-        return Slip::help(HEAD);
+        return Slip::help(if place.is(0, ";") {
+            "A function is declared once, with its body. Functions that call each other are joined by `and`."
+        } else {
+            HEAD
+        });
     }
     None
 }
@@ -185,6 +252,9 @@ fn sign_slip(place: &Place, expected: &Expected) -> Option<Slip> {
         ),
         b"|" if expected.has(",") => Slip::help(
             "Alternatives stand in an overlay: `v: overlay { a: 8 | b: 8 }`.",
+        ),
+        b"=" if expected.has("]") => Slip::help(
+            "A parameter has no default: each call gives all arguments.",
         ),
         b"+" if expected.has("##") => Slip::help("Layouts are joined by `##`."),
         _ => None,

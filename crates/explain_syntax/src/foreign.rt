@@ -36,6 +36,12 @@ const TYPED: &str =
 
 const FUNCTION: &str = "A function is `fun f[x: word]: word { x }`.";
 
+const NO_OUTPUT: &str = "nothing is printed";
+
+const OUTCOME: &str = "A run ends with the value of `main` and with what the memories hold.";
+
+const SEEN: &str = "Leave the word out: all that follows sees what is declared.";
+
 const BITS: &str = "A header is a layout: `layout l = { a: 8, b: 24 };`.";
 
 const ONE_TEXT: &str = "A program is one text: nothing is imported.";
@@ -48,7 +54,7 @@ const HANDLER: &str =
 // Each table has words of other languages, each with a sentence on it, which may be empty, and what helps.
 
 // Words that begin a statement, before the token.
-const STATEMENTS: [(&str, &str, &str); 17] = [
+const STATEMENTS: [(&str, &str, &str); 20] = [
     (
         "return",
         "there is no `return`: the last expression is the value",
@@ -78,6 +84,13 @@ const STATEMENTS: [(&str, &str, &str); 17] = [
     ),
     ("then", NO_THEN, CHOICE),
     ("elif", NO_ELIF, CHOICES),
+    (
+        "assert",
+        "there is no `assert`",
+        "Raise an exception: `if (c) x else raise E[]`.",
+    ),
+    ("print", NO_OUTPUT, OUTCOME),
+    ("printf", NO_OUTPUT, OUTCOME),
 ];
 
 // Words that declare a variable, before its name.
@@ -98,7 +111,7 @@ const BINDINGS: [(&str, &str, &str); 13] = [
 ];
 
 // Operators that are words, after an operand.
-const OPERATORS: [(&str, &str, &str); 4] = [
+const OPERATORS: [(&str, &str, &str); 8] = [
     (
         "and",
         "there is no operator `and`",
@@ -119,6 +132,26 @@ const OPERATORS: [(&str, &str, &str); 4] = [
         "there is no operator `mod`",
         "A remainder by a power of two is a mask: `x & 7`.",
     ),
+    (
+        "div",
+        "there is no operator `div`",
+        "A quotient by a power of two is a shift: `x >> 3`.",
+    ),
+    (
+        "is",
+        "there is no operator `is`",
+        "Words are compared by `==` and `!=`.",
+    ),
+    (
+        "in",
+        "there is no operator `in`",
+        "A range is `1 <= x && x < 5`.",
+    ),
+    (
+        "as",
+        "there are no casts",
+        "Each number is a word. Of a bool write `if (b) 1 else 0`.",
+    ),
 ];
 
 // Words of choices.
@@ -137,7 +170,7 @@ const HANDLERS: [(&str, &str, &str); 3] = [
 ];
 
 // Words that begin a declaration.
-const DECLARATIONS: [(&str, &str, &str); 42] = [
+const DECLARATIONS: [(&str, &str, &str); 47] = [
     ("let", "", CONSTANT),
     ("const", "", CONSTANT),
     ("static", "", CONSTANT),
@@ -180,6 +213,11 @@ const DECLARATIONS: [(&str, &str, &str); 42] = [
     ("error", "", EXCEPTION),
     ("throw", "", EXCEPTION),
     ("raise", "", EXCEPTION),
+    ("pub", "", SEEN),
+    ("public", "", SEEN),
+    ("private", "", SEEN),
+    ("extern", "", SEEN),
+    ("inline", "", SEEN),
 ];
 
 // The slip of a word that is so many tokens before a place, if it is one of these.

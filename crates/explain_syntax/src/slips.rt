@@ -5,7 +5,7 @@ use crate::expression_slips::expression_slip;
 use crate::foreign::{declaration_slip, word_slip};
 use crate::head_slips::head_slip;
 use crate::place::Place;
-use crate::slip::{Mark, Slip};
+use crate::slip::{Mark, NO_ASSIGNMENT, RECORD_ANEW, Slip};
 
 /// The slip at a place, or what is said in general.
 pub fn slip_at(place: &Place, expected: &Expected) -> Slip {
@@ -110,8 +110,6 @@ fn statement_slip(place: &Place, expected: &Expected) -> Option<Slip> {
     None
 }
 
-const NO_ASSIGNMENT: &str = "nothing is assigned";
-
 const BIND_AGAIN: &str =
     "Bind the name again: `let x = x + 1;`. What changes from turn to turn of a loop is a parameter.";
 
@@ -130,17 +128,17 @@ fn assignment_slip(place: &Place, expected: &Expected) -> Option<Slip> {
     if !expected.has("+") {
         return None;
     }
-    if place.next_is(">") {
+    if place.next_is(">") || place.next_is("!") {
         return Slip::help("The comparisons are `==`, `!=`, `<`, `<=`, `>` and `>=`.");
+    }
+    if let Some(slip) = named_value_slip(place) {
+        return Some(slip);
     }
     if is_in_condition(place) {
         return Slip::help("`==` compares words. `=` is for `let` and the fields of records.");
     }
     if place.is(2, ".") {
-        return Slip::titled(
-            NO_ASSIGNMENT,
-            "A changed record is made anew: `let h = { a = 5, b = h.b };`.",
-        );
+        return Slip::titled(NO_ASSIGNMENT, RECORD_ANEW);
     }
     if place.is(1, "]") {
         return Slip::titled(
@@ -149,6 +147,18 @@ fn assignment_slip(place: &Place, expected: &Expected) -> Option<Slip> {
         );
     }
     Slip::titled(NO_ASSIGNMENT, BIND_AGAIN)
+}
+
+// Arguments and packed fields with names, outside a record.
+fn named_value_slip(place: &Place) -> Option<Slip> {
+    let open = place.open_bracket()?;
+    if open.is(0, "[") {
+        return Slip::help("Arguments have no names: they are in the order of the parameters.");
+    }
+    if open.is(0, "(") && open.is(1, "]") && open.is(4, "pack") {
+        return Slip::help("The fields of `pack` are a record: `pack[l]({ a = 1, b = 2 })`.");
+    }
+    None
 }
 
 const OPERATORS: [&str; 8] = ["+", "-", "&", "|", "^", "<<", ">>", "<<<"];
@@ -282,22 +292,34 @@ fn kind_help(place: &Place, expected: &Expected) -> &'static str {
     }
 }
 
-/// What to write in place of the first byte of this, which begins no token.
-pub fn byte_advice(rest: &[u8], at: usize) -> &'static str {
+/// What to write in place of the first byte of `rest`, which begins no token, after the bytes of `front`.
+pub fn byte_advice(front: &[u8], rest: &[u8]) -> &'static str {
     if rest.starts_with(b"/*") {
         "A comment is `// ..` up to the line's end. There is no `/* .. */`."
     } else if rest.starts_with(b"#def") {
         "A constant is a function without parameters: `fun limit[]: word { 1500 }`."
     } else if rest.starts_with(b"#i") || rest.starts_with(b"#p") {
         "A program is one text: nothing is imported, and there are no macros."
-    } else if at == 0 && rest.starts_with(b"\xef\xbb\xbf") {
+    } else if front.is_empty() && rest.starts_with(b"\xef\xbb\xbf") {
         "A byte order mark stands before the program. Save the text without it."
+    } else if rest.starts_with(b"*") && !ends_with_operand(front) {
+        "There are no pointers: an address is a word, and `sram[1](at)` fetches the word there."
     } else {
         match rest.first() {
             Some(byte) => single_byte_advice(*byte),
             None => "",
         }
     }
+}
+
+// Whether the last byte that isn't blank ends a name, a number or a bracket.
+fn ends_with_operand(front: &[u8]) -> bool {
+    for byte in front.iter().rev() {
+        if !byte.is_ascii_whitespace() {
+            return byte.is_ascii_alphanumeric() || matches!(*byte, b'_' | b')' | b']');
+        }
+    }
+    false
 }
 
 fn single_byte_advice(byte: u8) -> &'static str {
