@@ -4,6 +4,7 @@ pub mod Lists
 pub mod WindowRuns
 pub mod Sound
 pub mod ZeroTests
+pub mod RepeatedTests
 pub mod Settled
 pub mod Replaced
 pub mod Puts

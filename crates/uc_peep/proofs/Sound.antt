@@ -1,4 +1,4 @@
--- Three rules are sound.
+-- Rules are sound by which an instruction goes.
 use Rattle.std.proofs.Common.{◌≡◌, ℕ, zero, suc, ◌<◌, ◌⊎◌, inl, inr, ⊎_elim, Bool, true, false, not, ◌&&◌, ◌||◌, List, [], ◌∷◌, length, get_or, set, Option, Some, None, nat_eq, if◌then◌else◌, refl, sym, ap, ◌∙◌, subst, arith, eqb-true, ltb-true}
 use Rattle.std.specs.Prelude.{nat_lt}
 use Rattle.std.proofs.lemmas.Bool.{false≢true}
@@ -129,7 +129,7 @@ copy-puts : (d : Dst) (x : Src) (e : Engine) (p : Memories) → IsEngine e → P
 copy-puts d x e p h = puts-flags d (operand x e) (operand x e) false e h
 
 -- a register holds after a copy what its operand held where it is the target, and else what it held
-copied : (d : Dst) (x : Src) (e : Engine) (p : Memories) (r : Register) → IsEngine e → IsRegister r
+pub copied : (d : Dst) (x : Src) (e : Engine) (p : Memories) (r : Register) → IsEngine e → IsRegister r
     → ((target_register d ≡ Some r) × (register r (effect (Un d Copy x) e p).engine ≡ register (source_register x) e)) ⊎ (register r (effect (Un d Copy x) e p).engine ≡ register r e)
 copied d x e p r h there = by (is_target d (In r)) refl
   where
@@ -221,12 +221,13 @@ first-any : (a b : Bool) → (a || false) ≡ true → (a || (b || false)) ≡ t
 first-any true b h = refl
 first-any false b h = absurd (false≢true h)
 
-shortened : (i j : Instr) (set : ℕ) → IsText (i ∷ j ∷ []) → copies_back i j ≡ true → IsShorter (i ∷ j ∷ []) set (i ∷ [])
-shortened i j set text h = record {
+-- of two instructions the second goes where it changes nothing that is live
+pub second-gone : (i j : Instr) (set : ℕ) → IsText (i ∷ j ∷ []) → ((e : Engine) (p : Memories) → IsEngine e → HasSizes p → AgreeOn set (effect j (effect i e p).engine p).engine (effect i e p).engine) → IsShorter (i ∷ j ∷ []) set (i ∷ [])
+second-gone i j set text same = record {
   fewer = omega arith;
   straight = λ k d lt. one IsStraight (text.straight 0 i (omega arith)) k d lt;
   lawful = λ k d lt. one IsFormed (text.lawful 0 i (omega arith)) k d lt;
-  same = λ e p eng sizes. record { by = λ s spot t. back-same i j (text.lawful 0 i (omega arith)) h e p eng sizes s spot };
+  same = λ e p h sizes. same e p h sizes;
   reads = λ s t. first-any (reads i s) (reads j s) t;
   writes = λ s t. first-any (writes i s) (writes j s) t;
   weight = omega arith;
@@ -241,5 +242,6 @@ back_sound [] set shorter text e = cc
 back_sound (i ∷ []) set shorter text e = cc
 back_sound (i ∷ j ∷ []) set shorter text e =
     let g = given (copies_back i j) (i ∷ []) shorter e in
-    subst (IsShorter (i ∷ j ∷ []) set) g.1 (shortened i j set text g.0)
+    subst (IsShorter (i ∷ j ∷ []) set) g.1
+    (second-gone i j set text (λ f p h sizes. record { by = λ s spot t. back-same i j (text.lawful 0 i (omega arith)) g.0 f p h sizes s spot }))
 back_sound (i ∷ j ∷ k ∷ ws) set shorter text e = cc

@@ -8,11 +8,12 @@ use Rattle.uc_isa.specs.declared.instruction.Instr.{Instr}
 use Rattle.uc_isa.specs.declared.instruction.Instr.TheVariants.{Alu, Un, Immed, Br, Read, Write, Halt}
 use Rattle.uc_isa.specs.declared.instruction.UnOp.TheVariants.{Copy, Not, Shl, Shr, Rol}
 use Rattle.uc_peep.specs.Kept.{compacted, kept_of}
-use Rattle.uc_peep.specs.Needless.{dead_rule, idle_rule, back_rule, zero_rule, is_dead, is_idle, copies_back, compares_zero, tested}
+use Rattle.uc_peep.specs.Needless.{dead_rule, idle_rule, back_rule, zero_rule, repeated_rule, is_dead, is_idle, copies_back, compares_zero, tested, tests_again}
 use Rattle.uc_peep.specs.Rewrites.{Answers, Rewrites, IsWithout, Compares}
 use Rattle.uc_peep.specs.Rewrites.Rewrites.{Same, Replaced, Relocated, InTurn}
 use Rattle.uc_peep.specs.Rewrites.IsWithout.{Nothing, Gone, Tested, Stays}
 use Rattle.uc_peep.specs.Rules.{IsSomeOf}
+use Rattle.uc_peep.proofs.Sound.{given}
 use Rattle.uc_executions.specs.Relocated.{relocated}
 use Rattle.uc_executions.specs.StraightCode.{IsStraight}
 
@@ -105,7 +106,7 @@ rewrites-without A f a b (Replaced front window shorter rest set answer) = witho
 rewrites-without A f a b (Relocated to code) = without-relocated to code
 rewrites-without A f a b (InTurn first second third h g) = without-trans first second third (rewrites-without A f first second h) (rewrites-without A f second third g)
 
--- ---- the four rules
+-- ---- the five rules
 
 dead-straight : (i : Instr) (set : ℕ) → is_dead i set ≡ true → IsStraight i
 dead-straight (Alu d op x y) set h = tt
@@ -144,22 +145,17 @@ copies-straight (Read m r n x off) j h = absurd (false≢true h)
 copies-straight (Write m r n x off) j h = absurd (false≢true h)
 copies-straight (Halt k n) j h = absurd (false≢true h)
 
--- where a test decides whether there is an answer
-if-some : (b : Bool) (l shorter : List Instr) → (if b then Some l else None) ≡ Some shorter → (b ≡ true) × (l ≡ shorter)
-if-some true l shorter h = (refl, let e : l ≡ shorter = cc in e)
-if-some false l shorter h = absurd (let e : None ≡ Some shorter = h in cc)
-
 dead-without : (ws : List Instr) (set : ℕ) (shorter : List Instr) → dead_rule ws set ≡ Some shorter → IsWithout ws shorter
 dead-without [] set shorter h = absurd cc
 dead-without (i ∷ []) set shorter h =
-    let t = if-some (is_dead i set) [] shorter h in
+    let t = given (is_dead i set) [] shorter h in
     subst (IsWithout (i ∷ [])) t.1 (Gone i [] [] (dead-straight i set t.0) Nothing)
 dead-without (i ∷ j ∷ ws) set shorter h = absurd cc
 
 idle-without : (ws : List Instr) (set : ℕ) (shorter : List Instr) → idle_rule ws set ≡ Some shorter → IsWithout ws shorter
 idle-without [] set shorter h = absurd cc
 idle-without (i ∷ []) set shorter h =
-    let t = if-some (is_idle i set) [] shorter h in
+    let t = given (is_idle i set) [] shorter h in
     subst (IsWithout (i ∷ [])) t.1 (Gone i [] [] (idle-straight i set t.0) Nothing)
 idle-without (i ∷ j ∷ ws) set shorter h = absurd cc
 
@@ -167,7 +163,7 @@ back-without : (ws : List Instr) (set : ℕ) (shorter : List Instr) → back_rul
 back-without [] set shorter h = absurd cc
 back-without (i ∷ []) set shorter h = absurd cc
 back-without (i ∷ j ∷ []) set shorter h =
-    let t = if-some (copies_back i j) (i ∷ []) shorter h in
+    let t = given (copies_back i j) (i ∷ []) shorter h in
     subst (IsWithout (i ∷ j ∷ [])) t.1 (stays i (j ∷ []) [] (Gone j [] [] (copies-straight i j t.0) Nothing))
 back-without (i ∷ j ∷ k ∷ ws) set shorter h = absurd cc
 
@@ -198,22 +194,41 @@ zero-without : (ws : List Instr) (set : ℕ) (shorter : List Instr) → zero_rul
 zero-without [] set shorter h = absurd cc
 zero-without (i ∷ []) set shorter h = absurd cc
 zero-without (i ∷ j ∷ []) set shorter h =
-    let t = if-some (compares_zero i j set) (tested j ∷ []) shorter h in
+    let t = given (compares_zero i j set) (tested j ∷ []) shorter h in
     subst (IsWithout (i ∷ j ∷ [])) t.1 (compared-without i j set t.0)
 zero-without (i ∷ j ∷ k ∷ ws) set shorter h = absurd cc
 
-pub needless-without : (A B C D : Answers) (code code' : List Instr)
+tests-straight : (i j : Instr) (set : ℕ) → tests_again i j set ≡ true → IsStraight j
+tests-straight i (Alu d op x y) set h = tt
+tests-straight i (Un d op x) set h = tt
+tests-straight i (Immed d v k) set h = tt
+tests-straight i (Br cond target) set h = absurd (false≢true h)
+tests-straight i (Read m r n x off) set h = absurd (false≢true h)
+tests-straight i (Write m r n x off) set h = absurd (false≢true h)
+tests-straight i (Halt k n) set h = absurd (false≢true h)
+
+repeated-without : (ws : List Instr) (set : ℕ) (shorter : List Instr) → repeated_rule ws set ≡ Some shorter → IsWithout ws shorter
+repeated-without [] set shorter h = absurd cc
+repeated-without (i ∷ []) set shorter h = absurd cc
+repeated-without (i ∷ j ∷ []) set shorter h =
+    let t = given (tests_again i j set) (i ∷ []) shorter h in
+    subst (IsWithout (i ∷ j ∷ [])) t.1 (stays i (j ∷ []) [] (Gone j [] [] (tests-straight i j set t.0) Nothing))
+repeated-without (i ∷ j ∷ k ∷ ws) set shorter h = absurd cc
+
+pub needless-without : (A B C D E : Answers) (code code' : List Instr)
     → ((ws : List Instr) (set : ℕ) (o : Option (List Instr)) → A ws set o → o ≡ dead_rule ws set)
     → ((ws : List Instr) (set : ℕ) (o : Option (List Instr)) → B ws set o → o ≡ idle_rule ws set)
     → ((ws : List Instr) (set : ℕ) (o : Option (List Instr)) → C ws set o → o ≡ back_rule ws set)
     → ((ws : List Instr) (set : ℕ) (o : Option (List Instr)) → D ws set o → o ≡ zero_rule ws set)
-    → Rewrites (λ ws set o. (IsSomeOf o × A ws set o) ⊎ (A ws set None × ((IsSomeOf o × B ws set o) ⊎ (B ws set None × ((IsSomeOf o × C ws set o) ⊎ (C ws set None × D ws set o)))))) code code'
+    → ((ws : List Instr) (set : ℕ) (o : Option (List Instr)) → E ws set o → o ≡ repeated_rule ws set)
+    → Rewrites (λ ws set o. (IsSomeOf o × A ws set o) ⊎ (A ws set None × ((IsSomeOf o × B ws set o) ⊎ (B ws set None × ((IsSomeOf o × C ws set o) ⊎ (C ws set None × ((IsSomeOf o × D ws set o) ⊎ (D ws set None × E ws set o)))))))) code code'
     → IsWithout code code'
-needless-without A B C D code code' f g h d = rewrites-without _ each code code'
+needless-without A B C D E code code' f g h d r = rewrites-without _ each code code'
   where
     each : (ws : List Instr) (set : ℕ) (shorter : List Instr)
-        → (IsSomeOf (Some shorter) × A ws set (Some shorter)) ⊎ (A ws set None × ((IsSomeOf (Some shorter) × B ws set (Some shorter)) ⊎ (B ws set None × ((IsSomeOf (Some shorter) × C ws set (Some shorter)) ⊎ (C ws set None × D ws set (Some shorter)))))) → IsWithout ws shorter
+        → (IsSomeOf (Some shorter) × A ws set (Some shorter)) ⊎ (A ws set None × ((IsSomeOf (Some shorter) × B ws set (Some shorter)) ⊎ (B ws set None × ((IsSomeOf (Some shorter) × C ws set (Some shorter)) ⊎ (C ws set None × ((IsSomeOf (Some shorter) × D ws set (Some shorter)) ⊎ (D ws set None × E ws set (Some shorter)))))))) → IsWithout ws shorter
     each ws set shorter (inl a) = dead-without ws set shorter (sym (f ws set (Some shorter) a.1))
     each ws set shorter (inr (a, inl b)) = idle-without ws set shorter (sym (g ws set (Some shorter) b.1))
     each ws set shorter (inr (a, inr (b, inl c))) = back-without ws set shorter (sym (h ws set (Some shorter) c.1))
-    each ws set shorter (inr (a, inr (b, inr (c, z)))) = zero-without ws set shorter (sym (d ws set (Some shorter) z))
+    each ws set shorter (inr (a, inr (b, inr (c, inl z)))) = zero-without ws set shorter (sym (d ws set (Some shorter) z.1))
+    each ws set shorter (inr (a, inr (b, inr (c, inr (z, t))))) = repeated-without ws set shorter (sym (r ws set (Some shorter) t))

@@ -54,7 +54,7 @@ apart-target (dst.S k) x y h a = absurd (false≢true h)
 apart-target (dst.SD k) x y h a = absurd (false≢true h)
 apart-target dst.Nowhere x y h a = absurd (false≢true h)
 
-formed-test : (x : Src) → IsFormed (Un dst.Nowhere Copy x)
+pub formed-test : (x : Src) → IsFormed (Un dst.Nowhere Copy x)
 formed-test x = record { operands = tt; run_inside = tt; pairs = tt; numbers = tt; halt = tt }
 
 module _ (d : Dst) (v k : ℕ) (x y : Src) (set : ℕ) (puts : IsFormed (Immed d v k)) (compares : IsFormed (Alu dst.Nowhere Sub x y)) (none : v ≡ 0) (one : is_same d y ≡ true) (unseen : is_wanted d set ≡ false) (no_carry : has set Carry ≡ false) where

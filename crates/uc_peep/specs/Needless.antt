@@ -1,4 +1,4 @@
--- Needless instructions: four rules, as functions, and code in which none of them has an answer.
+-- Needless instructions: five rules, as functions, and code in which none of them has an answer.
 use Rattle.std.specs.Prelude.{◌≡◌, ◌+◌, ℕ, take, drop, Bool, false, not, ◌&&◌, ◌||◌, nat_eq, nat_lt, List, [], ◌∷◌, Option, Some, None, if◌then◌else◌}
 use Rattle.uc_isa.specs.declared.instruction.Dst.{Dst}
 use Rattle.uc_isa.specs.declared.instruction.Dst.TheVariants as dst
@@ -59,6 +59,26 @@ abbrev pub tested : Instr → Instr
 tested (Alu d op x y) = Un dst.Nowhere Copy x
 tested i = i
 
+-- two operands are one register
+abbrev pub is_same_source : Src → Src → Bool
+is_same_source (src.A k) (src.A j) = nat_eq k j && nat_lt k 16
+is_same_source (src.B k) (src.B j) = nat_eq k j && nat_lt k 16
+is_same_source (src.L k) (src.L j) = nat_eq k j && nat_lt k 8
+is_same_source (src.LD k) (src.LD j) = nat_eq k j && nat_lt k 8
+is_same_source _ _ = false
+
+-- the flag zero tells after the instruction whether the operand is zero: that is the result, or what was copied
+abbrev pub has_tested : Instr → Src → Bool
+has_tested (Alu d op y z) x = is_same d x
+has_tested (Un d Copy y) x = is_same d x || is_same_source y x
+has_tested (Un d op y) x = is_same d x
+has_tested _ x = false
+
+-- the second only tests what the first has tested, and the carry isn't live
+abbrev pub tests_again : Instr → Instr → ℕ → Bool
+tests_again i (Un dst.Nowhere Copy x) set = has_tested i x && not (has set Carry)
+tests_again i _ set = false
+
 abbrev pub dead_rule : List Instr → ℕ → Option (List Instr)
 dead_rule (i ∷ []) set = if is_dead i set then Some [] else None
 dead_rule _ set = None
@@ -75,8 +95,12 @@ abbrev pub zero_rule : List Instr → ℕ → Option (List Instr)
 zero_rule (i ∷ j ∷ []) set = if compares_zero i j set then Some (tested j ∷ []) else None
 zero_rule _ set = None
 
--- at no window any of the four rules has an answer, asked with exactly what is live after the window
+abbrev pub repeated_rule : List Instr → ℕ → Option (List Instr)
+repeated_rule (i ∷ j ∷ []) set = if tests_again i j set then Some (i ∷ []) else None
+repeated_rule _ set = None
+
+-- at no window any of the five rules has an answer, asked with exactly what is live after the window
 abbrev pub HasNoNeedless : List Instr → List ℕ → Type 0
 HasNoNeedless code starts = (p k : ℕ) → IsWindow code starts p k
     → (set : ℕ) × IsLiveAt code (p + k) set × (dead_rule (take k (drop p code)) set ≡ None) × (idle_rule (take k (drop p code)) set ≡ None) × (back_rule (take k (drop p code)) set ≡ None)
-    × (zero_rule (take k (drop p code)) set ≡ None)
+    × (zero_rule (take k (drop p code)) set ≡ None) × (repeated_rule (take k (drop p code)) set ≡ None)

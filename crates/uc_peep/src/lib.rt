@@ -8,6 +8,7 @@ mod live_set;
 mod liveness;
 mod needless;
 mod peephole;
+mod repeated_tests;
 mod shorter_code;
 mod window;
 mod windows;
