@@ -17,9 +17,10 @@ use Rattle.flow_ir.specs.declared.flow.Tree.{Tree, size-Tree}
 use Rattle.flow_ir.specs.declared.flow.Tree.TheVariants.{Let', Read', Write', If', Jump, Halt}
 use Rattle.flow_ir.specs.declared.flow.Tree.TheViews.{deep-Let', deep-Read', deep-Write', deep-If'}
 use Rattle.cps_rules.specs.Rules.{Answers, IsAnswered}
-use Rattle.cps_rules.specs.Substitution.{Names, renamed, all_renamed, prim_renamed}
+use Rattle.cps_rules.specs.Substitution.{Names, renamed, all_renamed, prim_renamed, look, AreNamed}
 use Rattle.cps_rules.specs.inner.Marks.{Set, Adds}
-use Rattle.cps_rules.specs.inner.Way.{look, IsFolded, AreNamed, IsScoped, IsDone, uses, kept_all}
+use Rattle.cps_rules.specs.Simplified.{uses}
+use Rattle.cps_rules.specs.inner.Way.{IsFolded, IsScoped, IsDone, kept_all}
 use Rattle.cps_rules.proofs.Down.{On, on_start, on_push, on_same, goes_let, goes_read, goes_write, goes_if, done_last, last_jump, last_halt}
 use Rattle.cps_rules.proofs.Members.{in-left}
 use Rattle.cps_rules.proofs.Renaming.{AllSound}

@@ -19,10 +19,10 @@ use Rattle.flow_ir.specs.declared.spine.Step.{Step}
 use Rattle.flow_ir.specs.declared.spine.Step.TheVariants as step
 use Rattle.flow_ir.specs.declared.flow.Tree.{Tree as FlowTree}
 use Rattle.cps_rules.specs.Rules.{Answers, IsAnswered}
-use Rattle.cps_rules.specs.Simplified.{is_same}
-use Rattle.cps_rules.specs.Substitution.{Names, renamed, all_renamed, prim_renamed}
+use Rattle.cps_rules.specs.Simplified.{is_same, uses}
+use Rattle.cps_rules.specs.Substitution.{Names, renamed, all_renamed, prim_renamed, IsNamed, AreNamed}
 use Rattle.cps_rules.specs.inner.Marks.{Set, Adds}
-use Rattle.cps_rules.specs.inner.Way.{IsNamed, AreNamed, uses, Simplified, same, kept, dropped, read, write, choice, jump, halt, used_in, kept_all, first_uses, Covers, AreFirsts, Fits, IsScoped, AreUsed, IsDone}
+use Rattle.cps_rules.specs.inner.Way.{Simplified, same, kept, dropped, read, write, choice, jump, halt, used_in, kept_all, first_uses, Covers, AreFirsts, Fits, IsScoped, AreUsed, IsDone}
 use Rattle.cps_rules.proofs.Back.{kept_one, kept_last, firsts_push, firsts_more, step_more, all_more}
 use Rattle.cps_rules.proofs.Means.{AreOwn, own_more, own_var, own_list}
 use Rattle.cps_rules.proofs.Members.{either, in-left, in-right, in-first, in-rest, in-not-out, out-both, stayed}

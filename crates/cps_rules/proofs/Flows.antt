@@ -24,9 +24,9 @@ use Rattle.flow_ir.specs.Wide.{live, wide}
 use Rattle.flow_ir.specs.declared.flow.Label.{Label as FlowLabel}
 use Rattle.cps_rules.specs.Rules.{Answers}
 use Rattle.cps_rules.specs.Simplified.{IsTidy, AreTidy}
-use Rattle.cps_rules.specs.Substitution.{Names}
+use Rattle.cps_rules.specs.Substitution.{Names, AreNamed}
 use Rattle.cps_rules.specs.inner.Marks.{Set}
-use Rattle.cps_rules.specs.inner.Way.{AreNamed, IsScoped, IsDone, IsScopedLabel, IsLabelDone, AreDone}
+use Rattle.cps_rules.specs.inner.Way.{IsScoped, IsDone, IsScopedLabel, IsLabelDone, AreDone}
 use Rattle.cps_rules.proofs.Down.{fits_live}
 use Rattle.cps_rules.proofs.Means.{AreOwn, means}
 use Rattle.cps_rules.proofs.Members.{first-or-rest, different-parts, different-join}
@@ -81,7 +81,7 @@ done_push A [] (n ∷ ms) l m h d = absurd h
 done_push A (k ∷ ls) [] l m h d = absurd h
 done_push A (k ∷ ls) (n ∷ ms) l m h d = (h.0, done_push A ls ms l m h.1 d)
 
-map_last : (ls : List FlowLabel) (l : FlowLabel) → map label_view (ls ++ l ∷ []) ≡ map label_view ls ++ label_view l ∷ []
+pub map_last : (ls : List FlowLabel) (l : FlowLabel) → map label_view (ls ++ l ∷ []) ≡ map label_view ls ++ label_view l ∷ []
 map_last [] l = refl
 map_last (k ∷ ls) l = ap (λ v. label_view k ∷ v) (map_last ls l)
 

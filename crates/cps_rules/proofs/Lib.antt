@@ -1,4 +1,5 @@
 pub mod Members
+pub mod Mentions
 pub mod Marking
 pub mod Renaming
 pub mod Scopes

@@ -20,7 +20,8 @@ use Rattle.flow_ir.specs.Meaning.{Next, does}
 use Rattle.flow_ir.specs.Wide.{live}
 use Rattle.cps_rules.specs.Rules.{Answers}
 use Rattle.cps_rules.specs.Substitution.{Names, renamed, all_renamed, prim_renamed}
-use Rattle.cps_rules.specs.inner.Way.{uses, Fits, Apart, Simplified, same, kept, dropped, read, write, choice, jump, halt}
+use Rattle.cps_rules.specs.Simplified.{uses}
+use Rattle.cps_rules.specs.inner.Way.{Fits, Apart, Simplified, same, kept, dropped, read, write, choice, jump, halt}
 use Rattle.cps_rules.proofs.Members.{either, first-or-rest, in-left, in-right, in-not-out}
 use Rattle.cps_rules.proofs.Renaming.{image_known, prim_image, Agrees, atom_agrees, atoms_agree, prim_agrees, AllSound, answered_word, answered_uses, answered_count, count_renamed}
 use Rattle.cps_rules.proofs.Scopes.{not_same, live_uses}

@@ -10,7 +10,8 @@ use Rattle.nv_base.proofs.Operands.{atom-known, atoms-known, prim-known, count_o
 use Rattle.flow_ir.specs.Tree.{Tree, Let, Read, Write, If, Jump, Halt, Label}
 use Rattle.flow_ir.specs.Formed.{defined, is_formed, is_label}
 use Rattle.flow_ir.specs.Wide.{live}
-use Rattle.cps_rules.specs.inner.Way.{uses, Fits, Apart, IsScopedLabel}
+use Rattle.cps_rules.specs.Simplified.{uses}
+use Rattle.cps_rules.specs.inner.Way.{Fits, Apart, IsScopedLabel}
 use Rattle.cps_rules.proofs.Members.{either, first-or-rest, in-left, in-right, in-first, in-rest, out-both, out-join, in-or-out, in-not-out, stays, stayed, apart-turned, different-parts}
 
 -- what isn't known twice is another variable

@@ -11,9 +11,9 @@ use Rattle.nv_base.proofs.Sets.{same-number}
 use Rattle.flow_ir.specs.Formed.{defined, is_label, is_entry, is_flow}
 use Rattle.flow_ir.specs.Tree.{Tree, Let, If, Label}
 use Rattle.cps_rules.specs.Rules.{Answers, IsAnswered}
-use Rattle.cps_rules.specs.Simplified.{Defines, AreSimplified}
+use Rattle.cps_rules.specs.Simplified.{Defines, AreSimplified, uses}
 use Rattle.cps_rules.specs.Substitution.{Names, prim_renamed}
-use Rattle.cps_rules.specs.inner.Way.{Counted, uses, Simplified, same, kept, dropped, read, write, choice, jump, halt, IsScopedLabel, IsLabelDone, AreDone}
+use Rattle.cps_rules.specs.inner.Way.{Counted, Simplified, same, kept, dropped, read, write, choice, jump, halt, IsScopedLabel, IsLabelDone, AreDone}
 use Rattle.cps_rules.proofs.Flows.{AllScoped, all_scoped}
 use Rattle.cps_rules.proofs.Members.{either, first-or-rest, in-or-out}
 use Rattle.cps_rules.proofs.Renaming.{AreAlike}

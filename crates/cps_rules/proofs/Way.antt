@@ -12,7 +12,8 @@ use Rattle.flow_ir.specs.Formed.{defined}
 use Rattle.flow_ir.specs.Wide.{live}
 use Rattle.cps_rules.specs.Rules.{Answers, IsAnswered}
 use Rattle.cps_rules.specs.Substitution.{Names, renamed, all_renamed, prim_renamed}
-use Rattle.cps_rules.specs.inner.Way.{uses, Simplified, same, kept, dropped, read, write, choice, jump, halt}
+use Rattle.cps_rules.specs.Simplified.{uses}
+use Rattle.cps_rules.specs.inner.Way.{Simplified, same, kept, dropped, read, write, choice, jump, halt}
 use Rattle.cps_rules.proofs.Members.{either, first-or-rest, in-left, in-right, in-first, in-rest, in-not-out, stays, stayed, different-parts, different-join}
 use Rattle.cps_rules.proofs.Renaming.{image, image_from, image_of, image_within, image_both, atom_image, all_image, prim_image, AreAlike, atom_alike, all_alike, prim_alike, AllSound, answered_uses}
 use Rattle.cps_rules.proofs.Scopes.{live_uses}

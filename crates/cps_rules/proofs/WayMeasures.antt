@@ -20,7 +20,7 @@ use Rattle.cps_rules.proofs.Way.{live_image, behind_read}
 
 -- ---- widths
 
-fewer : (σ : Names) (a b : List ℕ) → Within a (image σ b) → different a ≤ different b
+pub fewer : (σ : Names) (a b : List ℕ) → Within a (image σ b) → different a ≤ different b
 fewer σ a b h = let one = different-below a (image σ b) h in let two = image_different σ b in omega arith
 
 atom_covered : (σ : Names) (a : Atom) → Within (image σ (atom_vars a)) (atom_vars (renamed σ a))
@@ -46,14 +46,14 @@ without_image σ a b bs h =
     (false_from_ne_true (is_in f.source (all_vars bs)) (λ i. in-not-out y (all_vars (all_renamed σ bs)) (all_covered σ bs y (image_of σ (all_vars bs) y f.source i f.var)) parts.1)))
     f.var
 
-operands_image : (σ : Names) (a b : List ℕ) (bs : List Atom) → Within a (image σ b) → operands_wide a (all_renamed σ bs) ≤ operands_wide b bs
+pub operands_image : (σ : Names) (a b : List ℕ) (bs : List Atom) → Within a (image σ b) → operands_wide a (all_renamed σ bs) ≤ operands_wide b bs
 operands_image σ a b [] h = fewer σ a b h
 operands_image σ a b (c ∷ bs) h =
     let le = fewer σ (without a (all_vars (all_renamed σ (c ∷ bs)))) (without b (all_vars (c ∷ bs))) (without_image σ a b (c ∷ bs) h) in
     let e = all_length σ bs in
     omega arith
 
-let_image : (σ : Names) (a b : List ℕ) → Within a (image σ b) → let_wide a ≤ let_wide b
+pub let_image : (σ : Names) (a b : List ℕ) → Within a (image σ b) → let_wide a ≤ let_wide b
 let_image σ a b h = let le = fewer σ a b h in omega arith
 
 own_image : (σ : Names) (xs : List ℕ) → ((y : ℕ) → is_in y xs ≡ true → σ y ≡ Var y) → Within xs (image σ xs)

@@ -5,7 +5,8 @@ ghost use Rattle.std.specs.Prelude.{◌≡◌, ◌++◌, ◌∷◌, [], OnOk, If
 ghost use Rattle.flow_ir.specs.View.{tree_view};
 ghost use Rattle.nv_base.specs.Words.{HasPrimCount};
 ghost use Rattle.cps_rules.specs.inner.Marked.{is_marked};
-ghost use Rattle.cps_rules.specs.inner.Way.{Counted, look, IsFolded, IsScoped, IsDone};
+ghost use Rattle.cps_rules.specs.Substitution.{look};
+ghost use Rattle.cps_rules.specs.inner.Way.{Counted, IsFolded, IsScoped, IsDone};
 
 use crate::marks::Marks;
 use crate::names::{name, name_all, renamed, renamed_all, renamed_args, renamed_prim};

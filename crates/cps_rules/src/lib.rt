@@ -3,10 +3,11 @@
 
 mod fold;
 mod marks;
-mod names;
+pub mod names;
 mod program;
 mod rewrite;
 mod spine;
+pub mod uses;
 
 pub use program::simplify;
 pub use rewrite::{Both, Rewrite, Rule};

@@ -2,14 +2,13 @@
 
 ghost use Rattle.std.specs.Prelude.{◌≡◌, OnOk, IfOk};
 ghost use Rattle.cps_rules.specs.Substitution as substitution;
-ghost use Rattle.cps_rules.specs.Substitution.{all_renamed, prim_renamed};
-ghost use Rattle.cps_rules.specs.inner.Way.{look, IsNamed, AreNamed};
+ghost use Rattle.cps_rules.specs.Substitution.{all_renamed, prim_renamed, look, IsNamed, AreNamed};
 
 use nv_base::{Args, Atom, NoMemory, Prim};
 use std::alloc::Global;
 
-// What stands for a variable.
-fn named(names: &[Atom], x: u32) -> Atom
+/// What stands for a variable.
+pub fn name_of(names: &[Atom], x: u32) -> Atom
     ensures { result ≡ look names.now x }
 {
     let i = x as usize;
@@ -47,7 +46,7 @@ pub fn renamed(names: &[Atom], a: Atom) -> Atom
     ensures { result ≡ substitution.renamed (look names.now) a }
 {
     match a {
-        Atom::Var(x) => named(names, x),
+        Atom::Var(x) => name_of(names, x),
         Atom::Lit(v) => Atom::Lit(v),
     }
 }

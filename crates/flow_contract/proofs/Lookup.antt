@@ -1,13 +1,9 @@
--- Parts of trees, labels of a flow, and numbers.
-use Rattle.std.proofs.Common.{◌≡◌, ℕ, zero, suc, ◌<◌, ◌≤◌, Bool, true, false, nat_eq, ◌||◌, List, [], ◌∷◌, Some, refl, sym, ap, length, slice_get, arith}
+-- Labels of a flow, and numbers.
+use Rattle.std.proofs.Common.{◌≡◌, ℕ, zero, suc, ◌<◌, Bool, true, false, nat_eq, ◌||◌, List, [], ◌∷◌, Some, refl, sym, length, slice_get, arith}
 use Rattle.std.proofs.lemmas.Bool.{false≢true, false_from_ne_true}
 use Rattle.nv_base.specs.Sets.{is_in}
 use Rattle.nv_base.proofs.Sets.{same-number}
 use Rattle.flow_ir.specs.Tree.{Label}
-use Rattle.flow_ir.specs.declared.flow.Tree.{Tree, size-Tree}
-
-pub smaller : (cur node rest part : Tree) → cur ≡ node → rest ≡ part → size-Tree part ≤ size-Tree node → size-Tree rest ≤ size-Tree cur
-smaller cur node rest part is e le = let a = ap size-Tree is in let b = ap size-Tree e in omega (arith, a, b, le)
 
 pub there : (ls : List Label) (l : ℕ) → l < length ls → (m : Label) × (slice_get ls l ≡ Some m)
 there [] l lt = absurd (omega arith)

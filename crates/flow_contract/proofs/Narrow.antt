@@ -2,64 +2,27 @@
 use Rattle.std.proofs.Common.{◌≡◌, ℕ, ◌+◌, ◌≤◌, Bool, true, false, nat_eq, List, [], ◌∷◌, ◌++◌, Some, refl, sym, ap, subst, ◌∙◌, not, ◌||◌, length, slice_get, arith}
 use Rattle.std.specs.List.{range_with_len}
 use Rattle.std.proofs.lemmas.Bool.{and_parts, not-true, false≢true, false_from_ne_true}
-use Rattle.nv_base.specs.declared.term.Atom.{Atom}
-use Rattle.nv_base.specs.declared.term.Atom.TheVariants.{Var, Lit}
+use Rattle.nv_base.specs.declared.term.Atom.TheVariants.{Var}
 use Rattle.nv_base.specs.Words.{atom_vars, prim_vars}
 use Rattle.nv_base.specs.Sets.{is_in, all_different, all_vars, different, without, Within}
-use Rattle.nv_base.specs.Measures.{operands_wide, let_wide}
-use Rattle.nv_base.proofs.Sets.{same-number, different-below, within-both}
-use Rattle.flow_ir.specs.Tree.{Tree, Let, Read, Write, If, Jump, Halt, Label}
+use Rattle.nv_base.proofs.Sets.{same-number, within-both}
+use Rattle.flow_ir.specs.Tree.{Tree, If, Label}
 use Rattle.flow_ir.specs.Formed.{defined}
 use Rattle.flow_ir.specs.Wide.{live, tree_wide}
 use Rattle.cps_rules.specs.Substitution.{Names, renamed, all_renamed, prim_renamed}
-use Rattle.cps_rules.specs.inner.Way.{Fits, IsScopedLabel}
+use Rattle.cps_rules.specs.inner.Way.{Fits}
 use Rattle.cps_rules.proofs.Down.{fits_live}
-use Rattle.cps_rules.proofs.Members.{either, first-or-rest, in-first, in-rest, in-left, in-right, in-not-out, stays, stayed, different-parts}
-use Rattle.cps_rules.proofs.Renaming.{image, image_from, image_of, image_within, image_both, image_different, atom_image, all_image, prim_image, all_length}
+use Rattle.cps_rules.proofs.WayMeasures.{fewer, operands_image, let_image}
+use Rattle.cps_rules.proofs.Members.{first-or-rest, in-first, in-rest, in-left, in-right, in-not-out, stays, stayed, different-parts}
+use Rattle.cps_rules.proofs.Renaming.{image, image_from, image_of, image_within, image_both, atom_image, all_image, prim_image}
 use Rattle.flow_contract.specs.inner.Copied.{named, all_named, numbered, Numbering, Copied, kept, read, write, choice, swapped, first, second, jump, halt, inside}
 use Rattle.flow_contract.proofs.Naming.{named_case, named_here, named_else, numbered_in, numbered_out, operands_in}
 use Rattle.flow_contract.proofs.Landing.{AllInScope}
 
--- ---- images and widths
+-- ---- after new numbers
 
-fewer : (σ : Names) (a b : List ℕ) → Within a (image σ b) → different a ≤ different b
-fewer σ a b h = let one = different-below a (image σ b) h in let two = image_different σ b in omega arith
-
-covered : (σ : Names) (bs : List Atom) → Within (image σ (all_vars bs)) (all_vars (all_renamed σ bs))
-covered σ [] = λ y e. absurd (false≢true e)
-covered σ (b ∷ bs) =
-    λ y e.
-    let f = image_from σ (atom_vars b ++ all_vars bs) y e in
-    either f.source (atom_vars b) (all_vars bs) f.among (λ p. in-left y (atom_vars (renamed σ b)) (all_vars (all_renamed σ bs)) (one b y (image_of σ (atom_vars b) y f.source p f.var)))
-    (λ p. in-right y (atom_vars (renamed σ b)) (all_vars (all_renamed σ bs)) (covered σ bs y (image_of σ (all_vars bs) y f.source p f.var)))
-  where
-    one : (a : Atom) → Within (image σ (atom_vars a)) (atom_vars (renamed σ a))
-    one (Var x) = λ y e. either y (atom_vars (σ x)) [] e (λ p. p) (λ p. absurd (false≢true p))
-    one (Lit v) = λ y e. absurd (false≢true e)
-
-without_image : (σ : Names) (a b : List ℕ) (bs : List Atom) → Within a (image σ b) → Within (without a (all_vars (all_renamed σ bs))) (image σ (without b (all_vars bs)))
-without_image σ a b bs h =
-    λ y e.
-    let parts = stayed y a (all_vars (all_renamed σ bs)) e in
-    let f = image_from σ b y (h y parts.0) in
-    image_of σ (without b (all_vars bs)) y f.source
-    (stays f.source b (all_vars bs) f.among (false_from_ne_true (is_in f.source (all_vars bs)) (λ i. in-not-out y (all_vars (all_renamed σ bs)) (covered σ bs y (image_of σ (all_vars bs) y f.source i f.var)) parts.1)))
-    f.var
-
-operands_image : (σ : Names) (a b : List ℕ) (bs : List Atom) → Within a (image σ b) → operands_wide a (all_renamed σ bs) ≤ operands_wide b bs
-operands_image σ a b [] h = fewer σ a b h
-operands_image σ a b (c ∷ bs) h =
-    let le = fewer σ (without a (all_vars (all_renamed σ (c ∷ bs)))) (without b (all_vars (c ∷ bs))) (without_image σ a b (c ∷ bs) h) in
-    let e = all_length σ bs in
-    omega arith
-
-let_image : (σ : Names) (a b : List ℕ) → Within a (image σ b) → let_wide a ≤ let_wide b
-let_image σ a b h = let le = fewer σ a b h in omega arith
-
--- ---- behind new numbers
-
-behind_kept : (σ : Names) (n x : ℕ) (us ts : List ℕ) → Within us (image (named σ x (Var n)) ts) → Within (without us (n ∷ [])) (image σ (without ts (x ∷ [])))
-behind_kept σ n x us ts h =
+after_kept : (σ : Names) (n x : ℕ) (us ts : List ℕ) → Within us (image (named σ x (Var n)) ts) → Within (without us (n ∷ [])) (image σ (without ts (x ∷ [])))
+after_kept σ n x us ts h =
     λ y e.
     let parts = stayed y us (n ∷ []) e in
     let f = image_from (named σ x (Var n)) ts y (h y parts.0) in
@@ -71,8 +34,8 @@ behind_kept σ n x us ts h =
     or_none true e = e
     or_none false e = refl
 
-behind_read : (σ : Names) (n : ℕ) (xs us ts : List ℕ) → Within us (image (numbered σ n xs) ts) → Within (without us (range_with_len n (length xs))) (image σ (without ts xs))
-behind_read σ n xs us ts h =
+after_read : (σ : Names) (n : ℕ) (xs us ts : List ℕ) → Within us (image (numbered σ n xs) ts) → Within (without us (range_with_len n (length xs))) (image σ (without ts xs))
+after_read σ n xs us ts h =
     λ y e.
     let ys = range_with_len n (length xs) in
     let parts = stayed y us ys e in
@@ -104,10 +67,10 @@ module _ (labels : List Label) (s : Numbering) (scoped : AllInScope labels) wher
   pub copy_live : (known : List ℕ) (σ : Names) (n k : ℕ) (t u : Tree) → Copied labels s σ n t u k → Fits known t → Within (live u) (image σ (live t))
   copy_live known σ n k t u (kept σ' n' k' x p t' u' rest) fits =
       image_both σ (prim_vars (prim_renamed σ p)) (without (live u') (n ∷ [])) (prim_vars p) (without (live t') (x ∷ [])) (prim_image σ p)
-      (behind_kept σ n x (live u') (live t') (copy_live (x ∷ known) (named σ x (Var n)) (n + 1) k t' u' rest fits.3))
+      (after_kept σ n x (live u') (live t') (copy_live (x ∷ known) (named σ x (Var n)) (n + 1) k t' u' rest fits.3))
   copy_live known σ n k t u (read σ' n' k' m xs a t' u' rest) fits =
       image_both σ (atom_vars (renamed σ a)) (without (live u') (range_with_len n (length xs))) (atom_vars a) (without (live t') xs) (atom_image σ a)
-      (behind_read σ n xs (live u') (live t') (copy_live (xs ++ known) (numbered σ n xs) (n + length xs) k t' u' rest fits.2))
+      (after_read σ n xs (live u') (live t') (copy_live (xs ++ known) (numbered σ n xs) (n + length xs) k t' u' rest fits.2))
   copy_live known σ n k t u (write σ' n' k' m a bs t' u' rest) fits =
       image_both σ (all_vars (all_renamed σ (a ∷ bs))) (live u') (all_vars (a ∷ bs)) (live t') (all_image σ (a ∷ bs)) (copy_live known σ n k t' u' rest fits.1)
   copy_live known σ n k t u (choice σ' n' j k' c a b t1 t2 u1 u2 left right) fits =
@@ -141,7 +104,7 @@ module _ (labels : List Label) (s : Numbering) (scoped : AllInScope labels) wher
       let parts = different-parts xs (defined t') d in
       let lives = copy_live (xs ++ known) τ (n + length xs) k t' u' rest fits.2 in
       let after_it = copy_wide most all once (xs ++ known) τ (n + length xs) k t' u' rest fits.2 parts.1 (omega (arith, le)) in
-      let here = operands_image σ (without (live u') ys) (without (live t') xs) (a ∷ []) (behind_read σ n xs (live u') (live t') lives) in
+      let here = operands_image σ (without (live u') ys) (without (live t') xs) (a ∷ []) (after_read σ n xs (live u') (live t') lives) in
       let after = fewer τ (ys ++ live u') (xs ++ live t') (image_both τ ys (live u') xs (live t') (all_stand xs σ n parts.0) lives) in
       omega (arith, here, after_it, after, le)
   copy_wide most all once known σ n k t u (write σ' n' k' m a bs t' u' rest) fits d le =

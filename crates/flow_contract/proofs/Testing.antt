@@ -11,7 +11,8 @@ use Rattle.flow_ir.specs.declared.flow.Label.{Label as FlowLabel}
 use Rattle.flow_ir.specs.declared.flow.Tree.{Tree, size-Tree}
 use Rattle.flow_ir.specs.declared.flow.Tree.TheVariants.{Let', Read', Write', If', Jump, Halt}
 use Rattle.flow_ir.specs.declared.flow.Tree.TheViews.{deep-Let', deep-Read', deep-Write', deep-If'}
-use Rattle.flow_contract.proofs.Lookup.{smaller, there}
+use Rattle.cps_rules.proofs.Mentions.{smaller}
+use Rattle.flow_contract.proofs.Lookup.{there}
 use Rattle.flow_contract.specs.Contracted.{jumps_to, all_jumps_to, is_bare, is_literal, is_undecided, AreContracted}
 use Rattle.flow_contract.specs.inner.Sizes.{at, fits, all_fit}
 

@@ -28,6 +28,7 @@ use Rattle.cps_rules.specs.inner.Way.{IsScopedLabel}
 use Rattle.cps_rules.proofs.Members.{in-left, different-parts}
 use Rattle.cps_rules.proofs.Renaming.{Agrees}
 use Rattle.cps_rules.proofs.Scopes.{label_fits}
+use Rattle.cps_rules.proofs.Flows.{map_last}
 use Rattle.flow_contract.specs.inner.Copied.{numbered, Numbering, Copied, IsCopied, AreCopied, none, stays, goes}
 use Rattle.flow_contract.proofs.Naming.{range_append, range_different}
 use Rattle.flow_contract.proofs.Landing.{Below, below_numbered, agrees_numbered, AllInScope, Comes, does_comes, comes_jump}
@@ -243,10 +244,6 @@ push_goes : (labels : List Label) (s : Numbering) (i k j : ℕ) (ls ms : List La
 push_goes labels s i k j ls ms l (none i' k') e f = let here : i ≡ j = omega arith in goes i k l [] [] (ap s.stays here ∙ f) (none (suc i) k)
 push_goes labels s i k j ls ms l (stays i' k' l' m' ls' ms' t' c' rest) e f = stays i k l' m' (ls' ++ l ∷ []) ms' t' c' (push_goes labels s (suc i) (suc k) j ls' ms' l rest (omega arith) f)
 push_goes labels s i k j ls ms l (goes i' k' l' ls' ms' g rest) e f = goes i k l' (ls' ++ l ∷ []) ms g (push_goes labels s (suc i) k j ls' ms l rest (omega arith) f)
-
-map_last : (ls : List FlowLabel) (l : FlowLabel) → map label_view (ls ++ l ∷ []) ≡ map label_view ls ++ label_view l ∷ []
-map_last [] l = refl
-map_last (k ∷ ls) l = ap (λ v. label_view k ∷ v) (map_last ls l)
 
 taken : (labels : List FlowLabel) (i : ℕ) → i < length labels → length (map label_view (take i labels)) ≡ i
 taken labels i lt = length-map (take i labels) label_view ∙ length-take-le i labels (omega arith)

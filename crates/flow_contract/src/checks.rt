@@ -73,7 +73,8 @@ fn is_bare(i: usize, t: &Tree) -> bool
     }
 }
 
-fn is_literal(a: Atom) -> bool
+/// Whether an operand is a literal.
+pub fn is_literal(a: Atom) -> bool
     ensures { result ≡ spec.is_literal a }
 {
     match a {

@@ -9,4 +9,5 @@ mod plan;
 mod program;
 mod sizes;
 
+pub use checks::is_literal;
 pub use program::contract;

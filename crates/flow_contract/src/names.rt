@@ -1,42 +1,17 @@
 // Which operand stands for each variable, and how that is given up again.
 
-ghost use Rattle.std.specs.Prelude.{◌≡◌, ◌+◌, ◌++◌, ◌∷◌, [], OnOk, IfOk, length};
+ghost use Rattle.std.specs.Prelude.{◌≡◌, ◌+◌, OnOk, IfOk, length};
 ghost use Rattle.std.specs.List.{range_with_len};
-ghost use Rattle.cps_rules.specs.Substitution as substitution;
-ghost use Rattle.cps_rules.specs.Substitution.{all_renamed, prim_renamed};
-ghost use Rattle.cps_rules.specs.inner.Way.{look, IsNamed};
+ghost use Rattle.cps_rules.specs.Substitution.{look};
 ghost use Rattle.nv_base.specs.declared.term.Atom.TheVariants.{Var};
 ghost use Rattle.flow_contract.specs.inner.Copied as inner;
 ghost use Rattle.flow_contract.specs.inner.Copied.{numbered, all_named, undone};
 
-use nv_base::{Args, Atom, NoMemory, Prim};
+use cps_rules::names::{name, name_of};
+use nv_base::{Atom, NoMemory};
 use std::alloc::Global;
 
-// What stands for a variable.
-fn stands(names: &[Atom], x: u32) -> Atom
-    ensures { result ≡ look names.now x }
-{
-    let i = x as usize;
-    if i < names.len() {
-        names[i]
-    } else {
-        Atom::Lit(0)
-    }
-}
-
-// From now on `a` stands for `x`.
-fn name(names: &mut Vec<Atom>, x: u32, a: Atom) -> Result<(), NoMemory>
-    ensures { OnOk result (IsNamed (look names.old.items) x a (look names.new.items)) }
-{
-    let i = x as usize;
-    while names.len() <= i {
-        names.push(Atom::Lit(0))?;
-    }
-    names[i] = a;
-    Ok(())
-}
-
-/// The same, and what stood for it is saved.
+/// From now on `a` stands for `x`, and what stood for it is saved.
 pub fn set(
     names: &mut Vec<Atom>,
     saved: &mut Vec<(u32, Atom)>,
@@ -46,7 +21,7 @@ pub fn set(
     ensures names { OnOk result (look names.new.items ≡ inner.named (look names.old.items) x a) }
     ensures saved { OnOk result (undone saved.new.items (look names.new.items) ≡ undone saved.old.items (look names.old.items)) }
 {
-    let old = stands(names, x);
+    let old = name_of(names, x);
     saved.push((x, old))?;
     name(names, x, a)
 }
@@ -138,47 +113,4 @@ pub fn set_operands(
         set(names, saved, *x, operand_at(words, i))?;
     }
     Ok(())
-}
-
-/// An operand with what stands for its variable.
-pub fn renamed(names: &[Atom], a: Atom) -> Atom
-    ensures { result ≡ substitution.renamed (look names.now) a }
-{
-    match a {
-        Atom::Var(x) => stands(names, x),
-        Atom::Lit(v) => Atom::Lit(v),
-    }
-}
-
-/// A primitive with what stands for its variables.
-pub fn renamed_prim(names: &[Atom], p: Prim) -> Prim
-    ensures { result ≡ prim_renamed (look names.now) p }
-{
-    match p {
-        Prim::Same(a) => Prim::Same(renamed(names, a)),
-        Prim::Una(op, a) => Prim::Una(op, renamed(names, a)),
-        Prim::Bin(op, a, b) => Prim::Bin(op, renamed(names, a), renamed(names, b)),
-    }
-}
-
-/// Operands with what stands for their variables.
-pub fn renamed_all(alloc: Global, names: &[Atom], atoms: &[Atom]) -> Result<Vec<Atom>, NoMemory>
-    ensures { IfOk result (λ v. v.items ≡ all_renamed (look names.now) atoms.now) }
-{
-    let mut v = Vec::new(alloc);
-    for a in atoms {
-        v.push(renamed(names, *a))?;
-    }
-    Ok(v)
-}
-
-/// The same as a short list.
-pub fn renamed_args(alloc: Global, names: &[Atom], atoms: &[Atom]) -> Result<Args, NoMemory>
-    ensures { IfOk result (λ v. v.items ≡ all_renamed (look names.now) atoms.now) }
-{
-    let mut v = Args::new(alloc);
-    for a in atoms {
-        v.push(renamed(names, *a))?;
-    }
-    Ok(v)
 }

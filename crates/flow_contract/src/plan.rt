@@ -1,8 +1,9 @@
-// Which labels are put in the place of jumps, and the numbers of those that stay. This is a wish: whatever it
+// Which labels are put in the place of jumps, and the numbers of those that stay. A plan is only a wish: whatever it
 // says, the copies mean the same, or there are none.
 
 ghost use Rattle.std.specs.Prelude.{◌≡◌};
-ghost use Rattle.flow_contract.specs.inner.Numbered.{numbering};
+ghost use Rattle.flow_contract.specs.inner.Numbered.{numbering, rank_of};
+ghost use Rattle.flow_contract.specs.inner.Sizes as sizes;
 
 use flow_ir::{Label, Tree};
 use nv_base::NoMemory;
@@ -23,7 +24,9 @@ pub struct Plan {
 
 impl Plan {
     /// The rank of a label, 0 where it isn't put in the place of jumps.
-    pub fn rank(&self, l: u32) -> u32 {
+    pub fn rank(&self, l: u32) -> u32
+        ensures { result ≡ rank_of self.now l }
+    {
         at(&self.ranks, l)
     }
 
@@ -51,7 +54,8 @@ impl Plan {
         }
     }
 
-    /// The plan for these labels.
+    /// The plan for these labels. It needs no contract: each plan gives copies with the same outcomes, or none, and
+    /// `contract` tests that its result is contracted.
     pub fn new(alloc: Global, labels: &[Label]) -> Result<Plan, NoMemory> {
         let mut jumps = Jumps::new(alloc, labels)?;
         let mut weights = vec![in alloc; 0u32; labels.len()]?;
@@ -72,11 +76,11 @@ impl Plan {
 }
 
 // The number at a place, or 0.
-fn at(numbers: &[u32], l: u32) -> u32 {
-    match numbers.get(l as usize) {
-        Some(n) => *n,
-        None => 0,
-    }
+fn at(numbers: &[u32], l: u32) -> u32
+    ensures { result ≡ sizes.at numbers.now l }
+{
+    let i = l as usize;
+    if i < numbers.len() { numbers[i] } else { 0 }
 }
 
 // The number at a place, or none.
@@ -384,7 +388,7 @@ fn lighter(t: &Tree, plan: &Plan, rank: u32, room: u32) -> u32 {
 }
 
 /// Whether there is more code in the first of two trees, both in a label of this rank. It looks at no more than
-/// twice the lesser one.
+/// twice the lesser one. It needs no contract: in either order of the arms a copy means the same.
 pub fn is_heavier(a: &Tree, b: &Tree, plan: &Plan, rank: u32) -> bool {
     let mut room: u32 = 8;
     for _ in 0..29 {

@@ -1,6 +1,6 @@
 // How much code there is.
 
-ghost use Rattle.std.specs.Prelude.{◌≡◌, ◌+◌, true, IfOk, map};
+ghost use Rattle.std.specs.Prelude.{◌≡◌, ◌+◌, true, IfOk, map, min};
 ghost use Rattle.nv_base.specs.Measures.{IsAtMost, a_node, a_jump, a_label, both};
 ghost use Rattle.flow_ir.specs.Bulk.{tree_bulk, bulk};
 ghost use Rattle.flow_ir.specs.View.{tree_view, label_view};
@@ -21,7 +21,9 @@ pub struct Sizes {
 
 impl Sizes {
     /// More rounds than it takes to contract what has these sizes.
-    pub fn rounds(&self) -> usize {
+    pub fn rounds(&self) -> usize
+        ensures { result ≡ min ((bulk_of self.now).labels + (bulk_of self.now).nodes) usize.MAX }
+    {
         self.labels.saturating_add(self.nodes)
     }
 }

@@ -18,7 +18,7 @@ use Rattle.flow_ir.specs.declared.flow.Tree.TheViews.{deep-Let', deep-Read', dee
 use Rattle.flow_ir.specs.declared.spine.Step.{Step}
 use Rattle.flow_ir.specs.declared.spine.Step.TheVariants as step
 use Rattle.cps_rules.proofs.Members.{either, first-or-rest}
-use Rattle.flow_contract.proofs.Lookup.{smaller}
+use Rattle.cps_rules.proofs.Mentions.{smaller}
 use Rattle.flow_prune.specs.inner.Pruned.{kept_words, params_in, pruned, Clear}
 use Rattle.flow_prune.proofs.Keeping.{without_last, kept_none}
 

@@ -4,6 +4,7 @@ use Rattle.nv_base.specs.declared.term.Atom.{Atom}
 use Rattle.nv_base.specs.Words.{atom_vars, prim_vars}
 use Rattle.nv_base.specs.Sets.{is_in, all_vars, different, without, Within}
 use Rattle.nv_base.specs.Measures.{operands_wide, let_wide, a_node, both}
+use Rattle.nv_base.proofs.Measures.{operands-more}
 use Rattle.nv_base.proofs.Sets.{different-below, within-behind_same, within-without_same, within-both}
 use Rattle.flow_ir.specs.Tree.{Tree, Let, Read, Write, If, Jump, Halt, Label}
 use Rattle.flow_ir.specs.Wide.{live, tree_wide}
@@ -11,10 +12,6 @@ use Rattle.flow_ir.specs.Bulk.{tree_bulk}
 use Rattle.cps_rules.proofs.Members.{in-left, in-right}
 use Rattle.flow_prune.specs.inner.Pruned.{kept_words, params_in, pruned}
 use Rattle.flow_prune.proofs.Keeping.{kept_within, kept_shorter}
-
-operands_less : (a b : List ℕ) (bs : List Atom) → Within a b → operands_wide a bs ≤ operands_wide b bs
-operands_less a b [] h = different-below a b h
-operands_less a b (c ∷ bs) h = let le = different-below (without a (all_vars (c ∷ bs))) (without b (all_vars (c ∷ bs))) (within-without_same a b (all_vars (c ∷ bs)) h) in omega arith
 
 let_less : (a b : List ℕ) → Within a b → let_wide a ≤ let_wide b
 let_less a b h = let le = different-below a b h in omega arith
@@ -49,16 +46,16 @@ module _ (labels : List Label) (gone : ℕ → List ℕ) where
   wide_less (Read m xs a t) =
       let u = pruned labels gone t in
       let le = wide_less t in
-      let here = operands_less (without (live u) xs) (without (live t) xs) (a ∷ []) (within-without_same (live u) (live t) xs (live_less t)) in
+      let here = operands-more (without (live u) xs) (without (live t) xs) (a ∷ []) (within-without_same (live u) (live t) xs (live_less t)) in
       let after = different-below (xs ++ live u) (xs ++ live t) (within-behind_same xs (live u) (live t) (live_less t)) in
       omega arith
-  wide_less (Write m a bs t) = let le = wide_less t in let here = operands_less (live (pruned labels gone t)) (live t) (a ∷ bs) (live_less t) in omega arith
+  wide_less (Write m a bs t) = let le = wide_less t in let here = operands-more (live (pruned labels gone t)) (live t) (a ∷ bs) (live_less t) in omega arith
   wide_less (If c a b t1 t2) =
       let u1 = pruned labels gone t1 in
       let u2 = pruned labels gone t2 in
       let one = wide_less t1 in
       let two = wide_less t2 in
-      let here = operands_less (live u1 ++ live u2) (live t1 ++ live t2) (a ∷ b ∷ []) (within-both (live u1) (live u2) (live t1 ++ live t2) (λ y i. in-left y (live t1) (live t2) (live_less t1 y i)) (λ y i. in-right y (live t1) (live t2) (live_less t2 y i))) in
+      let here = operands-more (live u1 ++ live u2) (live t1 ++ live t2) (a ∷ b ∷ []) (within-both (live u1) (live u2) (live t1 ++ live t2) (λ y i. in-left y (live t1) (live t2) (live_less t1 y i)) (λ y i. in-right y (live t1) (live t2) (live_less t2 y i))) in
       omega arith
   wide_less (Jump l bs) = let ps = params_in (slice_get labels l) in handed_less (kept_words (gone l) ps bs) bs (kept_shorter (gone l) ps bs)
   wide_less (Halt e bs) = omega arith

@@ -17,8 +17,9 @@ use Rattle.flow_ir.specs.Tree.{Label}
 use Rattle.flow_ir.specs.View.{label_view}
 use Rattle.flow_ir.specs.Wide.{tree_wide, wide}
 use Rattle.flow_ir.specs.declared.flow.Label.{Label as FlowLabel}
-use Rattle.cps_rules.specs.inner.Way.{uses}
+use Rattle.cps_rules.specs.Simplified.{uses}
 use Rattle.cps_rules.proofs.Members.{different-parts, different-join, stays, stayed}
+use Rattle.cps_rules.proofs.Flows.{map_last}
 use Rattle.flow_prune.specs.inner.Pruned.{kept_words, params_in, pruned, Clear, IsPruned, ArePruned}
 use Rattle.flow_prune.proofs.Keeping.{kept_length, kept_all, without_none, without_shorter, without_different}
 use Rattle.flow_prune.proofs.Same.{does_same, entry_agrees}
@@ -151,10 +152,6 @@ push_label labels gone i j [] [] l m a e p = let here : j ≡ i = omega arith in
 push_label labels gone i j [] (n ∷ ms) l m a e p = absurd a
 push_label labels gone i j (k ∷ ls) [] l m a e p = absurd a
 push_label labels gone i j (k ∷ ls) (n ∷ ms) l m a e p = (a.0, push_label labels gone (suc i) j ls ms l m a.1 (omega arith) p)
-
-map_last : (ls : List FlowLabel) (l : FlowLabel) → map label_view (ls ++ l ∷ []) ≡ map label_view ls ++ label_view l ∷ []
-map_last [] l = refl
-map_last (k ∷ ls) l = ap (λ v. label_view k ∷ v) (map_last ls l)
 
 pub label_next : (whole : List Label) (gone : ℕ → List ℕ) (labels : List FlowLabel) (i j : ℕ) (d l m : FlowLabel) (ms ms' : List FlowLabel) → i < length labels → j ≡ i → l ≡ get_or labels i d → ArePruned whole gone 0 (map label_view (take i labels)) (map label_view ms) → IsPruned whole gone j (label_view l) (label_view m)
     → ms' ≡ ms ++ m ∷ [] → ArePruned whole gone 0 (map label_view (take (i + 1) labels)) (map label_view ms')

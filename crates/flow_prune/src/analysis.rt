@@ -16,7 +16,8 @@ pub struct Ranking {
 }
 
 impl Ranking {
-    /// The ranks of the parameters of these labels.
+    /// The ranks of the parameters of these labels. It needs no contract: `prune` gives no flow whose ranks don't show
+    /// that each parameter is wanted.
     pub fn new(alloc: Global, labels: &[Label]) -> Result<Ranking, NoMemory> {
         let mut wanted = Ranking {
             ranks: Vec::new(alloc),
@@ -246,7 +247,8 @@ fn is_idle(waits: &[bool], l: u32) -> bool {
     }
 }
 
-/// For each label but 0 the parameters that nothing wants.
+/// For each label but 0 the parameters that nothing wants. It needs no contract: `prune` gives no flow without a
+/// parameter that is used.
 pub fn unwanted(alloc: Global, labels: &[Label]) -> Result<Vec<Vec<u32>>, NoMemory> {
     let ranking = Ranking::new(alloc, labels)?;
     let mut table = Vec::new(alloc);

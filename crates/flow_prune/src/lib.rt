@@ -5,6 +5,5 @@ mod analysis;
 mod checks;
 mod program;
 mod pruning;
-pub mod uses;
 
 pub use program::prune;

@@ -119,8 +119,8 @@ fn count_nodes(t: &Tree) -> u64 {
 }
 
 /// The single-use form of a flat program, which has its outcomes. It holds no more values at once than the
-/// program is wide, and its size and the length of its code are bounded by the program's width and bulk. Want
-/// of memory is also the answer where a form would need 2^32 labels or variables.
+/// program is wide, and its size and the length of its code are bounded by the program's width and bulk. Memory
+/// exhaustion is also the answer where a form would need 2^32 labels or variables.
 pub fn middle(alloc: Global, f: &FlatProgram) -> Result<Ssu, NoMemory>
     ensures kept { IfOk result (λ s. KeepsOutcomes (flat_params f.now.funs.items f.now.main) (ssu_params (labels_view s)) (flat_meaning f.now.funs.items f.now.main) (ssu_meaning (labels_view s))) }
     ensures single { IfOk result (λ s. single (labels_view s) ≡ true) }

@@ -3,25 +3,15 @@
 ghost use Rattle.std.specs.Prelude.{◌≡◌, true, All, map};
 ghost use Rattle.cps_rules.specs.Simplified as simplified;
 ghost use Rattle.cps_rules.specs.Simplified.{EachLet};
-ghost use Rattle.flow_contract.specs.Contracted as contracted;
 ghost use Rattle.flow_ir.specs.View.{tree_view, label_view};
 ghost use Rattle.nova_middle.specs.Rules as rules;
 ghost use Rattle.nova_middle.specs.inner.Simple.{IsLeft, IsSimple};
 
 use crate::rules::{leaves_first, leaves_nothing, leaves_second};
+use cps_rules::uses::mentions;
+use flow_contract::is_literal;
 use flow_ir::{Label, Tree};
-use flow_prune::uses::mentions;
-use nv_base::{Atom, Prim};
-
-// Whether an operand is a literal.
-fn is_literal(a: Atom) -> bool
-    ensures { result ≡ contracted.is_literal a }
-{
-    match a {
-        Atom::Var(_) => false,
-        Atom::Lit(_) => true,
-    }
-}
+use nv_base::Prim;
 
 // Whether a rule answers a primitive.
 fn is_answered(p: Prim) -> bool

@@ -1,8 +1,8 @@
 -- How a tree is simplified: on the way down with names in place, on the way back without the definitions that nothing uses.
-use Rattle.std.specs.Prelude.{◌≡◌, ℕ, nat_eq, true, false, ◌||◌, if◌then◌else◌, List, [], ◌∷◌, ◌++◌, slice_index_or, ◌⊎◌, ⊤}
+use Rattle.std.specs.Prelude.{◌≡◌, ℕ, true, false, ◌||◌, if◌then◌else◌, List, [], ◌∷◌, ◌++◌, ◌⊎◌, ⊤}
 use Rattle.nv_base.specs.declared.term.Mem.{Mem}
 use Rattle.nv_base.specs.declared.term.Atom.{Atom}
-use Rattle.nv_base.specs.declared.term.Atom.TheVariants.{Var, Lit}
+use Rattle.nv_base.specs.declared.term.Atom.TheVariants.{Var}
 use Rattle.nv_base.specs.declared.term.Cmp.{Cmp}
 use Rattle.nv_base.specs.declared.term.Primitive.{Primitive}
 use Rattle.nv_base.specs.declared.term.Primitive.TheVariants.{Same}
@@ -15,22 +15,9 @@ use Rattle.flow_ir.specs.declared.spine.Step.TheVariants as step
 use Rattle.flow_ir.specs.Spine.{put}
 use Rattle.flow_ir.specs.View.{tree_view}
 use Rattle.cps_rules.specs.Rules.{Answers, IsAnswered}
-use Rattle.cps_rules.specs.Substitution.{Names, renamed, all_renamed, prim_renamed}
-use Rattle.cps_rules.specs.Simplified.{is_same, EachLet}
+use Rattle.cps_rules.specs.Substitution.{Names, renamed, all_renamed, prim_renamed, IsNamed}
+use Rattle.cps_rules.specs.Simplified.{is_same, EachLet, uses}
 use Rattle.cps_rules.specs.inner.Marks.{Set, Adds}
-
--- ---- names
-
-abbrev pub look : List Atom → Names
-look atoms x = slice_index_or atoms x (Lit 0)
-
--- the second names are the first, but that a stands for x
-pub record IsNamed (σ : Names) (x : ℕ) (a : Atom) (τ : Names) : Type 0 where
-  pub at : (y : ℕ) → τ y ≡ (if nat_eq y x then a else σ y)
-
--- the second names are the first, but that each of these variables stands for itself
-pub record AreNamed (σ : Names) (xs : List ℕ) (τ : Names) : Type 0 where
-  pub at : (y : ℕ) → τ y ≡ (if is_in y xs then Var y else σ y)
 
 -- ---- what is answered
 
@@ -39,15 +26,6 @@ abbrev pub Counted : Answers → Answers
 Counted A p a = HasPrimCount p × A p a
 
 -- ---- the whole way
-
--- all variables that a tree uses, its own among them
-abbrev pub uses : Tree → List ℕ
-uses (Let x a t) = prim_vars a ++ uses t
-uses (Read m xs a t) = atom_vars a ++ uses t
-uses (Write m a bs t) = all_vars (a ∷ bs) ++ uses t
-uses (If c a b t u) = all_vars (a ∷ b ∷ []) ++ (uses t ++ uses u)
-uses (Jump l bs) = all_vars bs
-uses (Halt e bs) = all_vars bs
 
 -- the second tree is the first one simplified, where σ stands for the variables
 pub data Simplified (A : Answers) (σ : Names) : Tree → Tree → Type 0 where

@@ -1,5 +1,5 @@
 use Rattle.std.proofs.Common.{◌≡◌, ℕ, ◌+◌, ◌-◌, vec_len}
-use Rattle.cps_rules.specs.inner.Way.{look}
+use Rattle.cps_rules.specs.Substitution.{look}
 use Rattle.cps_rules.proofs.names.name.Given as goal
 
 abbrev pub invariant-loop-names : goal.invariant-loop-names

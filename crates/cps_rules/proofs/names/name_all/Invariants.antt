@@ -1,5 +1,5 @@
 use Rattle.std.proofs.Common.{take}
-use Rattle.cps_rules.specs.inner.Way.{look, AreNamed}
+use Rattle.cps_rules.specs.Substitution.{look, AreNamed}
 use Rattle.cps_rules.proofs.names.name_all.Given as goal
 
 abbrev pub invariant-loop-x : goal.invariant-loop-x

@@ -1,6 +1,5 @@
 use Rattle.std.proofs.Common.{◌≡◌, take}
-use Rattle.cps_rules.specs.Substitution.{all_renamed}
-use Rattle.cps_rules.specs.inner.Way.{look}
+use Rattle.cps_rules.specs.Substitution.{all_renamed, look}
 use Rattle.cps_rules.proofs.names.renamed_args.Given as goal
 
 abbrev pub invariant-loop-a : goal.invariant-loop-a

@@ -4,7 +4,7 @@ ghost use Rattle.std.specs.Prelude.{◌≡◌};
 ghost use Rattle.nv_base.specs.Sets.{is_in, all_vars};
 ghost use Rattle.nv_base.specs.Words.{atom_vars, prim_vars};
 ghost use Rattle.flow_ir.specs.View.{tree_view};
-ghost use Rattle.cps_rules.specs.inner.Way.{uses};
+ghost use Rattle.cps_rules.specs.Simplified.{uses};
 
 use flow_ir::Tree;
 use nv_base::{Atom, Prim};

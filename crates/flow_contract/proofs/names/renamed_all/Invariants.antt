@@ -1,7 +1,0 @@
-use Rattle.std.proofs.Common.{◌≡◌, take}
-use Rattle.cps_rules.specs.Substitution.{all_renamed}
-use Rattle.cps_rules.specs.inner.Way.{look}
-use Rattle.flow_contract.proofs.names.renamed_all.Given as goal
-
-abbrev pub invariant-loop-a : goal.invariant-loop-a
-invariant-loop-a l = l.v.items ≡ all_renamed (look l.names) (take l.a-index l.atoms)
