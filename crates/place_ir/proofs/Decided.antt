@@ -16,6 +16,8 @@ use Rattle.placement.specs.Uses.{accesses, Value, place_values, values, reads_at
 use Rattle.placement.specs.Fits.{IsHoused, wants_home, IsServed, KeepsRead, FitsAt, at_operand, use_operand, Fits}
 use Rattle.ssu_liveness.specs.inner.Numbers.{values_among}
 use Rattle.placement_checks.specs.inner.NodeLookups.{nowhere, place_at, place_node, value_in}
+use Rattle.placement.specs.Order.{IsInOrder}
+use Rattle.placement.proofs.Ordered.{lists-in-order}
 use Rattle.placement_checks.specs.inner.Checks.{all_below, has_home, value_fits, access_fits, live_fits, keeps_read, word_fits, operands_fit, passes_fit, point_fits, rise, is_wanted, firsts_fit, serves_fit, is_there, lists_fit, use_fits, does_fit, found}
 use Rattle.ssu_liveness.proofs.Scoped.{in-itself, in-either}
 use Rattle.placement.proofs.Sound.{Each, entry_params, Sound, uses_among, sound-points}
@@ -229,6 +231,14 @@ wanted-homes labels p [] h = refl
 wanted-homes labels p (w ∷ hs) h =
     and_from (is_wanted labels p w.var) (list_all (λ z. is_wanted labels p z.var) hs) (h w.var (or_left (nat_eq w.var w.var) (is_in w.var (map (λ z. z.var) hs)) (in-itself w.var)))
     (wanted-homes labels p hs (λ x e. h x (or_right (nat_eq x w.var) (is_in x (map (λ z. z.var) hs)) e)))
+
+-- where the lists are as they should, they are in order
+pub lists-ordered : (labels : List Label) (p : Plan) → single labels ≡ true → lists_fit labels p ≡ true → IsInOrder p
+lists-ordered labels p h e =
+    let ps = points labels in
+    let l = list-parts labels p e in
+    lists-in-order labels p (rise-from (map (λ h. h.var) p.homes) l.rises) (firsts-from (map (λ f. f.point) p.firsts) 0 ps l.firsts)
+    (serves-listed (value_in labels) 0 ps p.serves (named-points labels h) l.serves) (rise-from (map (λ q. q.point) p.passes) l.passes_rise)
 
 pub fits-from : (labels : List Label) (p : Plan) → single labels ≡ true → does_fit labels p ≡ true → Fits labels p
 fits-from labels p h d =

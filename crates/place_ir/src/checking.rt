@@ -7,6 +7,7 @@ ghost use Rattle.ssu_ir.specs.Points.{points};
 ghost use Rattle.ssu_ir.specs.Single.{single};
 ghost use Rattle.ssu_ir.specs.View.{labels_view};
 ghost use Rattle.placement.specs.Fits.{Fits};
+ghost use Rattle.placement.specs.Order.{IsInOrder};
 ghost use Rattle.placement.specs.Plan.{plan_view};
 ghost use Rattle.placement_checks.specs.inner.Checks as checks;
 ghost use Rattle.placement_checks.specs.inner.Checks.{found};
@@ -33,9 +34,13 @@ pub fn fits(s: &Ssu, p: &Placement) -> bool
 }
 
 fn does_fit(s: &Ssu, p: &Placement) -> bool
+    requires { single (labels_view s.now) ≡ true }
     ensures { result ≡ checks.does_fit (labels_view s.now) (plan_view p.now) }
 {
-    lists_fit(s, p) && (uses_fit(s, p) && points_fit(s, p))
+    if !lists_fit(s, p) {
+        return false;
+    }
+    uses_fit(s, p) && points_fit(s, p)
 }
 
 /// Whether homes, accesses, serves and passes are listed as they should.
@@ -48,6 +53,7 @@ fn lists_fit(s: &Ssu, p: &Placement) -> bool
 
 /// Whether the tests hold at each point.
 fn points_fit(s: &Ssu, p: &Placement) -> bool
+    requires { IsInOrder (plan_view p.now) }
     ensures { result ≡ checks.all_below (checks.point_fits (labels_view s.now) (plan_view p.now)) (length (points (labels_view s.now))) }
 {
     for k in 0..count(s) {
@@ -59,6 +65,7 @@ fn points_fit(s: &Ssu, p: &Placement) -> bool
 }
 
 fn point_fits(s: &Ssu, p: &Placement, k: u128) -> bool
+    requires { IsInOrder (plan_view p.now) }
     ensures { result ≡ checks.point_fits (labels_view s.now) (plan_view p.now) k }
 {
     values_fit(s, p, k)

@@ -7,6 +7,7 @@ ghost use Rattle.ssu_ir.specs.Points.{place_values};
 ghost use Rattle.ssu_ir.specs.View.{labels_view};
 ghost use Rattle.placement.specs.Fits as rules;
 ghost use Rattle.placement.specs.Fits.{general_places};
+ghost use Rattle.placement.specs.Order.{IsInOrder};
 ghost use Rattle.placement.specs.Plan.{plan_view};
 ghost use Rattle.placement_checks.specs.inner.Checks as checks;
 ghost use Rattle.placement_checks.specs.inner.Checks.{found, use_view, word_place};
@@ -14,12 +15,11 @@ ghost use Rattle.placement_checks.specs.inner.NodeLookups.{place_at, place_node}
 
 use nv_base::Mem;
 use placement::{Place, Placement};
-use placement_checks::lookups::{copied_of, defined_of, first_of, pass_of, serve_of};
 use placement_checks::pieces::use_count;
 use placement_checks::points::{has, is_above, node_at, values_at};
 use placement_checks::registers::{
-    Word, among, different_groups, has_slot, in_read_run, in_write_run, is_first, is_general,
-    is_slot, is_through, same, same_word,
+    Word, among, different_groups, has_slot, in_read_run, in_write_run, is_first, is_through,
+    same_word,
 };
 use placement_checks::words::{
     Use, is_below, is_early, is_used, is_used_below, stays, use_of, word_of,
@@ -54,6 +54,7 @@ fn is_known(s: &Ssu, k: u128, x: u32) -> bool
 
 /// Whether no two live values at a point share a place.
 pub fn keeps_held(s: &Ssu, p: &Placement, k: u128) -> bool
+    requires { IsInOrder (plan_view p.now) }
     ensures { result ≡ list_all (λ h. checks.live_fits (labels_view s.now) (plan_view p.now) k h.var) (plan_view p.now).homes }
 {
     for h in &p.homes {
@@ -65,6 +66,7 @@ pub fn keeps_held(s: &Ssu, p: &Placement, k: u128) -> bool
 }
 
 fn live_fits(s: &Ssu, p: &Placement, k: u128, x: u32) -> bool
+    requires { IsInOrder (plan_view p.now) }
     ensures { result ≡ checks.live_fits (labels_view s.now) (plan_view p.now) k x }
 {
     !is_before(s, p, k, x) || (passes_by(s, p, k, x) && is_apart(s, p, k, x))
@@ -72,16 +74,18 @@ fn live_fits(s: &Ssu, p: &Placement, k: u128, x: u32) -> bool
 
 /// Whether no slot comes through the read register in which a value stays.
 fn passes_by(s: &Ssu, p: &Placement, k: u128, x: u32) -> bool
+    requires { IsInOrder (plan_view p.now) }
     ensures { result ≡ checks.passes_by (labels_view s.now) (plan_view p.now) k x }
 {
-    match pass_of(p, k).0 {
+    match p.pass_of(k).0 {
         None => true,
-        Some(r) => !(same(Place::L(r), defined_of(p, x)) && stays(s, p, x)),
+        Some(r) => !(Place::L(r).is(p.defined_of(x)) && stays(s, p, x)),
     }
 }
 
 /// Whether a value shares no place with another that is live at a point.
 fn is_apart(s: &Ssu, p: &Placement, k: u128, x: u32) -> bool
+    requires { IsInOrder (plan_view p.now) }
     ensures { result ≡ list_all (λ h. checks.may_meet (labels_view s.now) (plan_view p.now) k x h.var) (plan_view p.now).homes }
 {
     for h in &p.homes {
@@ -93,6 +97,7 @@ fn is_apart(s: &Ssu, p: &Placement, k: u128, x: u32) -> bool
 }
 
 fn may_meet(s: &Ssu, p: &Placement, k: u128, x: u32, y: u32) -> bool
+    requires { IsInOrder (plan_view p.now) }
     ensures { result ≡ checks.may_meet (labels_view s.now) (plan_view p.now) k x y }
 {
     x == y || (values_apart(s, p, x, y) || !is_before(s, p, k, y))
@@ -100,20 +105,23 @@ fn may_meet(s: &Ssu, p: &Placement, k: u128, x: u32, y: u32) -> bool
 
 /// Whether two values share no general register, no slot and no read register in which they stay.
 fn values_apart(s: &Ssu, p: &Placement, x: u32, y: u32) -> bool
+    requires { IsInOrder (plan_view p.now) }
     ensures { result ≡ checks.values_apart (labels_view s.now) (plan_view p.now) x y }
 {
     general_apart(p, x, y)
-        && !(same(defined_of(p, x), defined_of(p, y)) && (stays(s, p, x) && stays(s, p, y)))
+        && !(p.defined_of(x).is(p.defined_of(y)) && (stays(s, p, x) && stays(s, p, y)))
 }
 
 fn general_apart(p: &Placement, x: u32, y: u32) -> bool
+    requires { IsInOrder (plan_view p.now) }
     ensures { result ≡ checks.general_apart (plan_view p.now) x y }
 {
-    !is_shared(p, y, defined_of(p, x)) && none_shared(p, y, copied_of(p, x))
+    !is_shared(p, y, p.defined_of(x)) && none_shared(p, y, p.copied_of(x))
 }
 
 /// Whether none of these places is a general register or slot of a value.
 fn none_shared(p: &Placement, y: u32, qs: &[Place]) -> bool
+    requires { IsInOrder (plan_view p.now) }
     ensures { result ≡ list_all (λ q. not (checks.is_shared (plan_view p.now) y q)) qs.now }
 {
     for q in qs {
@@ -125,26 +133,29 @@ fn none_shared(p: &Placement, y: u32, qs: &[Place]) -> bool
 }
 
 fn is_shared(p: &Placement, y: u32, q: Place) -> bool
+    requires { IsInOrder (plan_view p.now) }
     ensures { result ≡ checks.is_shared (plan_view p.now) y q }
 {
-    is_general(q) && (same(q, defined_of(p, y)) || among(copied_of(p, y), q))
+    q.is_general() && (q.is(p.defined_of(y)) || among(p.copied_of(y), q))
 }
 
 // ---- accesses
 
 /// Whether the words of an access have registers.
 pub fn access_fits(s: &Ssu, p: &Placement, k: u128) -> bool
+    requires { IsInOrder (plan_view p.now) }
     ensures { result ≡ checks.access_fits (plan_view p.now) k (place_node (place_at (labels_view s.now) k)) }
 {
     match node_at(s, k) {
-        Some(SsuNode::Read(m, xs, _, _)) => is_first(*m, xs.len(), first_of(p, k)),
-        Some(SsuNode::Write(m, _, xs, _)) => is_first(*m, xs.len(), first_of(p, k)),
+        Some(SsuNode::Read(m, xs, _, _)) => is_first(*m, xs.len(), p.first_of(k)),
+        Some(SsuNode::Write(m, _, xs, _)) => is_first(*m, xs.len(), p.first_of(k)),
         _ => true,
     }
 }
 
 /// Whether a read fills no register in which another value stays.
 pub fn keeps_read(s: &Ssu, p: &Placement, k: u128) -> bool
+    requires { IsInOrder (plan_view p.now) }
     ensures { result ≡ checks.keeps_read (labels_view s.now) (plan_view p.now) k (place_node (place_at (labels_view s.now) k)) }
 {
     match node_at(s, k) {
@@ -154,6 +165,7 @@ pub fn keeps_read(s: &Ssu, p: &Placement, k: u128) -> bool
 }
 
 fn spares_all(s: &Ssu, p: &Placement, k: u128, m: Mem, xs: &[u32]) -> bool
+    requires { IsInOrder (plan_view p.now) }
     ensures { result ≡ list_all (λ h. checks.spares (labels_view s.now) (plan_view p.now) k m xs.now h.var) (plan_view p.now).homes }
 {
     for h in &p.homes {
@@ -165,10 +177,11 @@ fn spares_all(s: &Ssu, p: &Placement, k: u128, m: Mem, xs: &[u32]) -> bool
 }
 
 fn spares(s: &Ssu, p: &Placement, k: u128, m: Mem, xs: &[u32], x: u32) -> bool
+    requires { IsInOrder (plan_view p.now) }
     ensures { result ≡ checks.spares (labels_view s.now) (plan_view p.now) k m xs.now x }
 {
     has(xs, x)
-        || (!in_read_run(defined_of(p, x), m, first_of(p, k), xs.len())
+        || (!in_read_run(p.defined_of(x), m, p.first_of(k), xs.len())
             || !(stays(s, p, x) && is_after(s, p, k, x)))
 }
 
@@ -176,6 +189,7 @@ fn spares(s: &Ssu, p: &Placement, k: u128, m: Mem, xs: &[u32], x: u32) -> bool
 
 /// Whether the words that wait after a point have registers of their own.
 pub fn keeps_waiting(s: &Ssu, p: &Placement, k: u128) -> bool
+    requires { IsInOrder (plan_view p.now) }
     ensures { result ≡ list_all (checks.word_fits (labels_view s.now) (plan_view p.now) k) (found (labels_view s.now) (plan_view p.now)) }
 {
     for serve in &p.serves {
@@ -187,6 +201,7 @@ pub fn keeps_waiting(s: &Ssu, p: &Placement, k: u128) -> bool
 }
 
 fn word_fits(s: &Ssu, p: &Placement, k: u128, u: Use) -> bool
+    requires { IsInOrder (plan_view p.now) }
     ensures { result ≡ checks.word_fits (labels_view s.now) (plan_view p.now) k (use_view u) }
 {
     !waits(s, p, k, u) || (is_free(s, p, k, word_of(p, u)) && is_alone(s, p, k, u))
@@ -194,6 +209,7 @@ fn word_fits(s: &Ssu, p: &Placement, k: u128, u: Use) -> bool
 
 /// Whether the word of a use waits after a point.
 fn waits(s: &Ssu, p: &Placement, k: u128, u: Use) -> bool
+    requires { IsInOrder (plan_view p.now) }
     ensures { result ≡ checks.waits (labels_view s.now) (plan_view p.now) k (use_view u) }
 {
     is_early(p, u) && (is_below(s, k, u.point as u128) && is_known(s, k, u.value))
@@ -201,22 +217,25 @@ fn waits(s: &Ssu, p: &Placement, k: u128, u: Use) -> bool
 
 /// Whether no slot goes through the register of a word at a point, and no write uses it.
 fn is_free(s: &Ssu, p: &Placement, k: u128, w: Word) -> bool
+    requires { IsInOrder (plan_view p.now) }
     ensures { result ≡ checks.is_free (plan_view p.now) k (place_node (place_at (labels_view s.now) k)) (word_place w) }
 {
-    !is_through(w, pass_of(p, k).1) && !is_written(s, p, k, w)
+    !is_through(w, p.pass_of(k).1) && !is_written(s, p, k, w)
 }
 
 fn is_written(s: &Ssu, p: &Placement, k: u128, w: Word) -> bool
+    requires { IsInOrder (plan_view p.now) }
     ensures { result ≡ checks.is_written (plan_view p.now) k (place_node (place_at (labels_view s.now) k)) (word_place w) }
 {
     match node_at(s, k) {
-        Some(SsuNode::Write(m, _, xs, _)) => in_write_run(w, *m, first_of(p, k), xs.len()),
+        Some(SsuNode::Write(m, _, xs, _)) => in_write_run(w, *m, p.first_of(k), xs.len()),
         _ => false,
     }
 }
 
 /// Whether no other word that waits has the register of this one.
 fn is_alone(s: &Ssu, p: &Placement, k: u128, u: Use) -> bool
+    requires { IsInOrder (plan_view p.now) }
     ensures { result ≡ list_all (checks.is_other (labels_view s.now) (plan_view p.now) k (use_view u)) (found (labels_view s.now) (plan_view p.now)) }
 {
     for serve in &p.serves {
@@ -228,6 +247,7 @@ fn is_alone(s: &Ssu, p: &Placement, k: u128, u: Use) -> bool
 }
 
 fn is_other(s: &Ssu, p: &Placement, k: u128, u: Use, v: Use) -> bool
+    requires { IsInOrder (plan_view p.now) }
     ensures { result ≡ checks.is_other (labels_view s.now) (plan_view p.now) k (use_view u) (use_view v) }
 {
     (u.point == v.point && u.operand == v.operand)
@@ -238,6 +258,7 @@ fn is_other(s: &Ssu, p: &Placement, k: u128, u: Use, v: Use) -> bool
 
 /// Whether the two operands of an instruction come from different groups of registers.
 pub fn operands_fit(s: &Ssu, p: &Placement, k: u128) -> bool
+    requires { IsInOrder (plan_view p.now) }
     ensures { result ≡ checks.operands_fit (plan_view p.now) k (place_node (place_at (labels_view s.now) k)) }
 {
     match node_at(s, k) {
@@ -248,20 +269,23 @@ pub fn operands_fit(s: &Ssu, p: &Placement, k: u128) -> bool
 }
 
 fn are_different(p: &Placement, k: u128) -> bool
+    requires { IsInOrder (plan_view p.now) }
     ensures { result ≡ checks.are_different (plan_view p.now) k }
 {
-    different_groups(serve_of(p, k, 0).1, serve_of(p, k, 1).1)
+    different_groups(p.serve_of(k, 0).1, p.serve_of(k, 1).1)
 }
 
 /// Whether registers for slots are named where they are wanted, and only where they may be.
 pub fn passes_fit(s: &Ssu, p: &Placement, k: u128) -> bool
+    requires { IsInOrder (plan_view p.now) }
     ensures { result ≡ checks.passes_fit (labels_view s.now) (plan_view p.now) k }
 {
-    let (l, w) = pass_of(p, k);
+    let (l, w) = p.pass_of(k);
     reads_fit(s, p, k, l) && writes_fit(s, p, k, w)
 }
 
 fn reads_fit(s: &Ssu, p: &Placement, k: u128, l: Option<u8>) -> bool
+    requires { IsInOrder (plan_view p.now) }
     ensures { result ≡ checks.reads_fit (labels_view s.now) (plan_view p.now) k l }
 {
     match l {
@@ -271,6 +295,7 @@ fn reads_fit(s: &Ssu, p: &Placement, k: u128, l: Option<u8>) -> bool
 }
 
 fn writes_fit(s: &Ssu, p: &Placement, k: u128, w: Option<u8>) -> bool
+    requires { IsInOrder (plan_view p.now) }
     ensures { result ≡ checks.writes_fit (labels_view s.now) (plan_view p.now) k w }
 {
     match w {
@@ -290,6 +315,7 @@ fn has_use(s: &Ssu, k: u128) -> bool
 
 /// Whether a use of a point is served from a slot.
 fn reads_slot(s: &Ssu, p: &Placement, k: u128) -> bool
+    requires { IsInOrder (plan_view p.now) }
     ensures { result ≡ checks.reads_slot (plan_view p.now) k (place_node (place_at (labels_view s.now) k)) }
 {
     match node_at(s, k) {
@@ -299,10 +325,11 @@ fn reads_slot(s: &Ssu, p: &Placement, k: u128) -> bool
 }
 
 fn any_from_slot(p: &Placement, k: u128, count: u128) -> bool
+    requires { IsInOrder (plan_view p.now) }
     ensures { result ≡ checks.any_from_slot (plan_view p.now) k count }
 {
     for i in 0..count {
-        if is_slot(serve_of(p, k, i).0) {
+        if p.serve_of(k, i).0.is_slot() {
             return true;
         }
     }
@@ -334,6 +361,7 @@ fn any_used(s: &Ssu, p: &Placement, xs: &[u32]) -> bool
 
 /// Whether one of these values is copied to a slot, or, as a result, comes into one.
 fn any_to_slot(s: &Ssu, p: &Placement, result_: bool, xs: &[u32]) -> bool
+    requires { IsInOrder (plan_view p.now) }
     ensures { result ≡ list_any (checks.to_slot (labels_view s.now) (plan_view p.now) result_) xs.now }
 {
     for x in xs {
@@ -345,7 +373,8 @@ fn any_to_slot(s: &Ssu, p: &Placement, result_: bool, xs: &[u32]) -> bool
 }
 
 fn to_slot(s: &Ssu, p: &Placement, result_: bool, x: u32) -> bool
+    requires { IsInOrder (plan_view p.now) }
     ensures { result ≡ checks.to_slot (labels_view s.now) (plan_view p.now) result_ x }
 {
-    (has_slot(copied_of(p, x)) || (result_ && is_slot(defined_of(p, x)))) && is_used(s, p, x)
+    (has_slot(p.copied_of(x)) || (result_ && p.defined_of(x).is_slot())) && is_used(s, p, x)
 }

@@ -40,17 +40,17 @@ uses-part R (p ∷ ps) k zero m q e f h =
 uses-part R (p ∷ ps) k (suc i) m q e f h = uses-part R ps (suc k) i m q (omega arith) f (each-right R (uses_at k 0 p.uses (place_roles p.place)) (uses_from (suc k) ps) h)
 
 -- no two uses are of one operand
-record FromOperand (k i : ℕ) (u : Use) : Type 0 where
-  here : u.point ≡ k
-  late : i ≤ u.operand
+pub record FromOperand (k i : ℕ) (u : Use) : Type 0 where
+  pub here : u.point ≡ k
+  pub late : i ≤ u.operand
 
-uses-from-operand : (k i : ℕ) (xs : List ℕ) (rs : List Role) → Each (FromOperand k i) (uses_at k i xs rs)
+pub uses-from-operand : (k i : ℕ) (xs : List ℕ) (rs : List Role) → Each (FromOperand k i) (uses_at k i xs rs)
 uses-from-operand k i [] rs = tt
 uses-from-operand k i (x ∷ xs) [] = tt
 uses-from-operand k i (x ∷ xs) (r ∷ rs) =
     (record { here = refl; late = omega arith }, each-weaker (FromOperand k (suc i)) (FromOperand k i) (uses_at k (suc i) xs rs) (λ u f. let l = f.late in record { here = f.here; late = omega arith }) (uses-from-operand k (suc i) xs rs))
 
-uses-from-point : (k : ℕ) (ps : List Point) → Each (λ u. k ≤ u.point) (uses_from k ps)
+pub uses-from-point : (k : ℕ) (ps : List Point) → Each (λ u. k ≤ u.point) (uses_from k ps)
 uses-from-point k [] = tt
 uses-from-point k (q ∷ ps) =
     each-append (λ u. k ≤ u.point) (uses_at k 0 q.uses (place_roles q.place)) (uses_from (suc k) ps)

@@ -11,3 +11,5 @@ pub mod Short
 pub mod Joined
 pub mod InSlots
 pub mod PartSteps
+pub mod Searched
+pub mod Ordered

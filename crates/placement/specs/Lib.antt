@@ -3,5 +3,6 @@ pub mod Plan
 pub mod InSlots
 pub mod Uses
 pub mod Fits
+pub mod Order
 pub mod Costs
 pub mod inner

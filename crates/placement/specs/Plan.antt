@@ -27,8 +27,11 @@ abbrev pub plan_view : Placement → Plan
 plan_view p = record { slots = p.slots; homes = map home_view p.homes.items; firsts = p.firsts.items; serves = p.serves.items; passes = p.passes.items }
 
 -- the home of a value; a value without one is never asked for
+abbrev pub homeless : ℕ → Home
+homeless x = record { var = x; defined = Slot 0; copied = [] }
+
 abbrev pub home_in : List Home → ℕ → Home
-home_in [] x = record { var = x; defined = Slot 0; copied = [] }
+home_in [] x = homeless x
 home_in (h ∷ hs) x = if nat_eq h.var x then h else home_in hs x
 
 abbrev pub home : Plan → ℕ → Home

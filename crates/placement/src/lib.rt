@@ -2,6 +2,7 @@
 //! slots alone.
 #![tactic(auto)]
 
+mod lookups;
 mod parts;
 mod parts_homes;
 mod parts_passes;
@@ -10,5 +11,6 @@ mod place;
 mod spill;
 mod used;
 
+pub use parts::point_number;
 pub use place::{First, Home, Pass, Place, PlaceError, Placement, Serve};
 pub use spill::spill_all;

@@ -93,8 +93,8 @@ fn spill_point(
     }
 }
 
-/// A point's number as it is kept.
-fn point_number(k: usize) -> Result<u32, NoMemory>
+/// The number of a point or of a place, as it is kept.
+pub fn point_number(k: usize) -> Result<u32, NoMemory>
     ensures { IfOk result (λ n. n ≡ k) }
 {
     match u32::try_from(k) {

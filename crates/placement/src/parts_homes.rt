@@ -5,7 +5,6 @@ ghost use Rattle.std.specs.HashMap.{get};
 ghost use Rattle.std.specs.List.Sorted.{IsPermutation, IsNonDecreasingBy};
 ghost use Rattle.ssu_ir.specs.Points.{At};
 ghost use Rattle.ssu_ir.specs.Slots.{node_of};
-ghost use Rattle.placement.specs.Fits as fits;
 ghost use Rattle.placement.specs.Plan.{home_view};
 ghost use Rattle.placement.specs.inner.Parts as parts;
 ghost use Rattle.placement.specs.inner.Parts.{bytes, in_byte, number_of, used_of, slot_home, fetched_home, homes_at, IsShort};
@@ -32,17 +31,6 @@ pub fn slot_of(slots: &Slots, x: u32) -> u8
     match slots.get(&x) {
         Some(n) => byte(*n),
         None => 0,
-    }
-}
-
-/// The register into which a word of a read comes.
-fn read_place(m: Mem, i: u8) -> Place
-    ensures { result ≡ fits.read_place m i }
-{
-    match m {
-        Mem::Sram => Place::L(i),
-        Mem::Sdram => Place::LD(i),
-        Mem::Scratch => Place::L(i),
     }
 }
 
@@ -81,7 +69,7 @@ fn fetched(
         let copied = Vec::from_array(alloc, [Place::Slot(slot_of(&given.slots, x))])?;
         homes.push(Home {
             var: x,
-            defined: read_place(m, i),
+            defined: Place::of_read(m, i),
             copied,
         })?;
     }

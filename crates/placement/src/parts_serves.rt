@@ -61,17 +61,6 @@ fn serve_two(
     serve(serves, given, point, 1, y, Place::A(15))
 }
 
-/// The register from which a word of a write goes.
-fn write_place(m: Mem, i: u8) -> Place
-    ensures { result ≡ fits.write_place m i }
-{
-    match m {
-        Mem::Sram => Place::S(i),
-        Mem::Sdram => Place::SD(i),
-        Mem::Scratch => Place::S(i),
-    }
-}
-
 /// The parameter of this number, or 0.
 fn param_at(xs: &[u32], i: usize) -> u32
     ensures { result ≡ fits.param_at (slice_get xs.now i) }
@@ -97,7 +86,7 @@ fn place_of(s: &Ssu, given: &SpillInputs, target: Target, i: u8) -> Place
     ensures { (j : ℕ) → result ≡ role_at (labels_view s.now) (number_of given.now) j (target_role target i) }
 {
     match target {
-        Target::Memory(m) => write_place(m, i),
+        Target::Memory(m) => Place::of_write(m, i),
         Target::Label(l) => Place::Slot(slot_of(&given.slots, parameter(s, l, i as usize))),
         Target::End => Place::A(i),
     }

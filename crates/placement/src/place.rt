@@ -1,9 +1,11 @@
 //! Places and placements.
 
 ghost use Rattle.std.specs.Prelude.{◌≡◌};
+ghost use Rattle.placement.specs.Fits as fits;
+ghost use Rattle.placement.specs.Places.{same_place};
 ghost use Rattle.placement.specs.declared.place.PlaceError.TheVariants.{NoMemory as WantOfMemory};
 
-use nv_base::NoMemory;
+use nv_base::{Mem, NoMemory};
 use std::alloc::{AllocError, AllocFailed};
 
 /// Where a word can stand: a register of a bank, by its number, or a slot, a scratch word of the compiler's.
@@ -23,6 +25,65 @@ pub enum Place {
     SD(u8),
     /// A slot.
     Slot(u8),
+}
+
+impl Place {
+    /// The register into which a word of a read comes.
+    pub fn of_read(m: Mem, i: u8) -> Place
+        ensures { result ≡ fits.read_place m i }
+    {
+        match m {
+            Mem::Sram => Place::L(i),
+            Mem::Sdram => Place::LD(i),
+            Mem::Scratch => Place::L(i),
+        }
+    }
+
+    /// The register from which a word of a write goes.
+    pub fn of_write(m: Mem, i: u8) -> Place
+        ensures { result ≡ fits.write_place m i }
+    {
+        match m {
+            Mem::Sram => Place::S(i),
+            Mem::Sdram => Place::SD(i),
+            Mem::Scratch => Place::S(i),
+        }
+    }
+
+    /// Whether it is this one.
+    pub fn is(self, other: Place) -> bool
+        ensures { result ≡ same_place self other }
+    {
+        self == other
+    }
+
+    /// Whether it is a slot.
+    pub fn is_slot(self) -> bool
+        ensures { result ≡ fits.is_slot self }
+    {
+        matches!(self, Place::Slot(_))
+    }
+
+    /// Whether it is a general register or a slot.
+    pub fn is_general(self) -> bool
+        ensures { result ≡ fits.is_general self }
+    {
+        matches!(self, Place::A(_) | Place::B(_) | Place::Slot(_))
+    }
+
+    /// Whether it is a register that is read into.
+    pub fn is_read(self) -> bool
+        ensures { result ≡ fits.is_read_register self }
+    {
+        matches!(self, Place::L(_) | Place::LD(_))
+    }
+
+    /// Whether it is a register that is written from.
+    pub fn is_written(self) -> bool
+        ensures { result ≡ fits.is_write_register self }
+    {
+        matches!(self, Place::S(_) | Place::SD(_))
+    }
 }
 
 /// The places of one value: where it is first put, and where copies of it are put directly behind.

@@ -1,7 +1,6 @@
 //! Points by their numbers, what a placement says there, and whether values have the homes that they want.
 #![tactic(auto)]
 
-pub mod lookups;
 pub mod pieces;
 pub mod points;
 pub mod registers;

@@ -21,62 +21,16 @@ pub enum Word {
     Other,
 }
 
-/// Whether two places are one.
-pub fn same(q: Place, r: Place) -> bool
-    ensures { result ≡ same_place q r }
-{
-    match q {
-        Place::A(i) => match r {
-            Place::A(j) => i == j,
-            _ => false
-        },
-        Place::B(i) => match r {
-            Place::B(j) => i == j,
-            _ => false
-        },
-        Place::L(i) => match r {
-            Place::L(j) => i == j,
-            _ => false
-        },
-        Place::LD(i) => match r {
-            Place::LD(j) => i == j,
-            _ => false
-        },
-        Place::S(i) => match r {
-            Place::S(j) => i == j,
-            _ => false
-        },
-        Place::SD(i) => match r {
-            Place::SD(j) => i == j,
-            _ => false
-        },
-        Place::Slot(i) => match r {
-            Place::Slot(j) => i == j,
-            _ => false
-        },
-    }
-}
-
 /// Whether a place is in a list.
 pub fn among(qs: &[Place], q: Place) -> bool
     ensures { result ≡ has_place q qs.now }
 {
     for r in qs {
-        if same(q, *r) {
+        if q.is(*r) {
             return true;
         }
     }
     false
-}
-
-/// Whether a place is a slot.
-pub fn is_slot(q: Place) -> bool
-    ensures { result ≡ rules.is_slot q }
-{
-    match q {
-        Place::Slot(_) => true,
-        _ => false,
-    }
 }
 
 /// Whether a slot is among places.
@@ -84,45 +38,11 @@ pub fn has_slot(qs: &[Place]) -> bool
     ensures { result ≡ list_any rules.is_slot qs.now }
 {
     for q in qs {
-        if is_slot(*q) {
+        if q.is_slot() {
             return true;
         }
     }
     false
-}
-
-/// Whether a place is a general register or a slot.
-pub fn is_general(q: Place) -> bool
-    ensures { result ≡ rules.is_general q }
-{
-    match q {
-        Place::A(_) => true,
-        Place::B(_) => true,
-        Place::Slot(_) => true,
-        _ => false,
-    }
-}
-
-/// Whether a place is a register that is read into.
-pub fn is_read_register(q: Place) -> bool
-    ensures { result ≡ rules.is_read_register q }
-{
-    match q {
-        Place::L(_) => true,
-        Place::LD(_) => true,
-        _ => false,
-    }
-}
-
-/// Whether a place is a register that is written from.
-pub fn is_write_register(q: Place) -> bool
-    ensures { result ≡ rules.is_write_register q }
-{
-    match q {
-        Place::S(_) => true,
-        Place::SD(_) => true,
-        _ => false,
-    }
 }
 
 /// Whether a value can be at home in a place, where there are N slots.
@@ -183,8 +103,8 @@ pub fn different_groups(q: Place, r: Place) -> bool
             Place::B(_) => false,
             _ => true
         },
-        Place::L(_) => !is_read_register(r),
-        Place::LD(_) => !is_read_register(r),
+        Place::L(_) => !r.is_read(),
+        Place::LD(_) => !r.is_read(),
         _ => true,
     }
 }
@@ -321,13 +241,13 @@ pub fn is_operand_at(l: Option<u8>, from: Place, at: Place) -> bool
     ensures { result ≡ checks.is_operand_at l from at }
 {
     match from {
-        Place::A(_) => same(from, at),
-        Place::B(_) => same(from, at) || same(at, Place::A(15)),
-        Place::L(_) => same(from, at) || same(at, Place::A(15)),
-        Place::LD(_) => same(from, at) || same(at, Place::A(15)),
+        Place::A(_) => from.is(at),
+        Place::B(_) => from.is(at) || at.is(Place::A(15)),
+        Place::L(_) => from.is(at) || at.is(Place::A(15)),
+        Place::LD(_) => from.is(at) || at.is(Place::A(15)),
         Place::S(_) => false,
         Place::SD(_) => false,
-        Place::Slot(_) => same(at, Place::A(15)) || is_read_through(l, at),
+        Place::Slot(_) => at.is(Place::A(15)) || is_read_through(l, at),
     }
 }
 
@@ -337,7 +257,7 @@ pub fn is_read_through(l: Option<u8>, at: Place) -> bool
 {
     match l {
         None => false,
-        Some(r) => same(at, Place::L(r)),
+        Some(r) => at.is(Place::L(r)),
     }
 }
 
@@ -346,13 +266,13 @@ pub fn is_address_at(from: Place, at: Place) -> bool
     ensures { result ≡ checks.is_address_at from at }
 {
     match from {
-        Place::A(_) => same(from, at),
-        Place::B(_) => same(from, at),
-        Place::L(_) => same(at, Place::A(15)),
-        Place::LD(_) => same(at, Place::A(15)),
+        Place::A(_) => from.is(at),
+        Place::B(_) => from.is(at),
+        Place::L(_) => at.is(Place::A(15)),
+        Place::LD(_) => at.is(Place::A(15)),
         Place::S(_) => false,
         Place::SD(_) => false,
-        Place::Slot(_) => same(at, Place::A(15)),
+        Place::Slot(_) => at.is(Place::A(15)),
     }
 }
 

@@ -4,18 +4,15 @@ ghost use Rattle.std.specs.Prelude.{◌≡◌, ◌+◌, nat_eq, nat_lt, nat_le, 
 ghost use Rattle.std.specs.List.{list_any, list_all};
 ghost use Rattle.ssu_ir.specs.View.{labels_view};
 ghost use Rattle.placement.specs.Fits as rules;
-ghost use Rattle.placement.specs.Places.{same_place};
+ghost use Rattle.placement.specs.Order.{IsInOrder};
 ghost use Rattle.placement.specs.Plan.{plan_view};
 ghost use Rattle.placement_checks.specs.inner.Checks as checks;
 ghost use Rattle.placement_checks.specs.inner.Checks.{word_place, use_view, found};
 ghost use Rattle.placement_checks.specs.inner.NodeLookups.{found_use, below_at};
 
-use crate::lookups::{copied_of, defined_of, first_of, pass_of, serve_of};
 use crate::pieces::{Role, item, use_name, use_role};
 use crate::points::{node_at, reaches, value_of};
-use crate::registers::{
-    Word, among, is_address_at, is_at, is_operand_at, is_read_register, is_write_register, same,
-};
+use crate::registers::{Word, among, is_address_at, is_at, is_operand_at};
 use nv_base::Mem;
 use placement::{Place, Placement, Serve};
 use ssu_ir::Ssu;
@@ -51,19 +48,23 @@ pub fn use_of(s: &Ssu, serve: &Serve) -> Use
 
 /// Whether a use is served from a write register.
 pub fn is_early(p: &Placement, u: Use) -> bool
+    requires { IsInOrder (plan_view p.now) }
     ensures { result ≡ rules.is_early (plan_view p.now) (use_view u) }
 {
-    is_write_register(serve_of(p, u.point as u128, u.operand as u128).0)
+    p.serve_of(u.point as u128, u.operand as u128)
+        .0
+        .is_written()
 }
 
 /// The write register of a written word.
 pub fn word_of(p: &Placement, u: Use) -> Word
+    requires { IsInOrder (plan_view p.now) }
     ensures { word_place result ≡ rules.word_register (plan_view p.now) (use_view u) }
 {
     match u.role {
         Role::Operand => Word::Other,
         Role::Address => Word::Other,
-        Role::Written(m, i) => word_at(m, first_of(p, u.point as u128) as u32 + i as u32),
+        Role::Written(m, i) => word_at(m, p.first_of(u.point as u128) as u32 + i as u32),
         Role::Argument(_, _) => Word::Other,
         Role::Ending(_) => Word::Other,
     }
@@ -93,6 +94,7 @@ pub fn is_used(s: &Ssu, p: &Placement, x: u32) -> bool
 
 /// Whether a use of a value is served from a read register.
 pub fn stays(s: &Ssu, p: &Placement, x: u32) -> bool
+    requires { IsInOrder (plan_view p.now) }
     ensures { result ≡ list_any (checks.is_kept (plan_view p.now) x) (found (labels_view s.now) (plan_view p.now)) }
 {
     for serve in &p.serves {
@@ -104,9 +106,10 @@ pub fn stays(s: &Ssu, p: &Placement, x: u32) -> bool
 }
 
 fn is_kept(p: &Placement, u: Use, x: u32) -> bool
+    requires { IsInOrder (plan_view p.now) }
     ensures { result ≡ checks.is_kept (plan_view p.now) x (use_view u) }
 {
-    u.value == x && is_read_register(serve_of(p, u.point as u128, u.operand as u128).0)
+    u.value == x && p.serve_of(u.point as u128, u.operand as u128).0.is_read()
 }
 
 /// How many uses a value has.
@@ -124,6 +127,7 @@ pub fn count_uses(s: &Ssu, p: &Placement, x: u32) -> usize
 
 /// How many uses of a value are put early.
 pub fn count_early(s: &Ssu, p: &Placement, x: u32) -> usize
+    requires { IsInOrder (plan_view p.now) }
     ensures { result ≡ count_by (checks.is_early_of (plan_view p.now) x) (found (labels_view s.now) (plan_view p.now)) }
 {
     let mut n = 0;
@@ -136,6 +140,7 @@ pub fn count_early(s: &Ssu, p: &Placement, x: u32) -> usize
 }
 
 fn is_early_of(p: &Placement, u: Use, x: u32) -> bool
+    requires { IsInOrder (plan_view p.now) }
     ensures { result ≡ checks.is_early_of (plan_view p.now) x (use_view u) }
 {
     u.value == x && is_early(p, u)
@@ -143,6 +148,7 @@ fn is_early_of(p: &Placement, u: Use, x: u32) -> bool
 
 /// Whether an early use of a value has its register at a place.
 pub fn is_put_at(s: &Ssu, p: &Placement, x: u32, q: Place) -> bool
+    requires { IsInOrder (plan_view p.now) }
     ensures { result ≡ list_any (checks.is_word_at (plan_view p.now) x q) (found (labels_view s.now) (plan_view p.now)) }
 {
     for serve in &p.serves {
@@ -154,6 +160,7 @@ pub fn is_put_at(s: &Ssu, p: &Placement, x: u32, q: Place) -> bool
 }
 
 fn is_word_at(p: &Placement, u: Use, x: u32, q: Place) -> bool
+    requires { IsInOrder (plan_view p.now) }
     ensures { result ≡ checks.is_word_at (plan_view p.now) x q (use_view u) }
 {
     is_early_of(p, u, x) && is_at(q, word_of(p, u))
@@ -161,6 +168,7 @@ fn is_word_at(p: &Placement, u: Use, x: u32, q: Place) -> bool
 
 /// Whether places are the registers of the early uses of a value, in order.
 pub fn words_fit(s: &Ssu, p: &Placement, x: u32, qs: &[Place]) -> bool
+    requires { IsInOrder (plan_view p.now) }
     ensures { result ≡ checks.words_fit (plan_view p.now) x qs.now (found (labels_view s.now) (plan_view p.now)) }
 {
     let mut rest = qs;
@@ -178,6 +186,7 @@ pub fn words_fit(s: &Ssu, p: &Placement, x: u32, qs: &[Place]) -> bool
 
 /// Whether each use is served from a home of its value, where it is wanted.
 pub fn uses_fit(s: &Ssu, p: &Placement) -> bool
+    requires { IsInOrder (plan_view p.now) }
     ensures { result ≡ list_all (checks.use_fits (labels_view s.now) (plan_view p.now)) (found (labels_view s.now) (plan_view p.now)) }
 {
     for serve in &p.serves {
@@ -189,24 +198,26 @@ pub fn uses_fit(s: &Ssu, p: &Placement) -> bool
 }
 
 fn use_fits(s: &Ssu, p: &Placement, u: Use) -> bool
+    requires { IsInOrder (plan_view p.now) }
     ensures { result ≡ checks.use_fits (labels_view s.now) (plan_view p.now) (use_view u) }
 {
-    let (from, at) = serve_of(p, u.point as u128, u.operand as u128);
+    let (from, at) = p.serve_of(u.point as u128, u.operand as u128);
     let home = is_home(p, u.value, from);
     match u.role {
-        Role::Operand => home && is_operand_at(pass_of(p, u.point as u128).0, from, at),
+        Role::Operand => home && is_operand_at(p.pass_of(u.point as u128).0, from, at),
         Role::Address => home && is_address_at(from, at),
-        Role::Written(_, _) => is_at(at, word_of(p, u)) && (home || same(from, at)),
-        Role::Argument(l, i) => home && same(at, defined_of(p, parameter(s, l, i))),
-        Role::Ending(i) => home && same(at, Place::A(i)),
+        Role::Written(_, _) => is_at(at, word_of(p, u)) && (home || from.is(at)),
+        Role::Argument(l, i) => home && at.is(p.defined_of(parameter(s, l, i))),
+        Role::Ending(i) => home && at.is(Place::A(i)),
     }
 }
 
 /// Whether a place is a home of a value that lasts.
 fn is_home(p: &Placement, x: u32, q: Place) -> bool
+    requires { IsInOrder (plan_view p.now) }
     ensures { result ≡ rules.is_home (plan_view p.now) x q }
 {
-    !is_write_register(q) && (same(q, defined_of(p, x)) || among(copied_of(p, x), q))
+    !q.is_written() && (q.is(p.defined_of(x)) || among(p.copied_of(x), q))
 }
 
 /// The parameter of a number of a label.
