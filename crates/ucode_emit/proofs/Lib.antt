@@ -50,7 +50,7 @@ pub mod Moving
 pub mod Spotted
 pub mod Cursored
 pub mod CanPieces
-pub mod HomesFound
+pub mod EachCopied
 pub mod Serving
 pub mod Whole
 pub mod Stood

@@ -15,7 +15,6 @@ ghost use Rattle.ucode_emit.specs.inner.Pieces.{Plain, moved};
 use crate::draft::{Draft, push_moves};
 use crate::emit_context::EmitContext;
 use crate::fetch::{fetches, push_fetches, served_at, words};
-use crate::homes::{copied, defined};
 use crate::moves::{Move, all_copied};
 use crate::registers::address;
 use nv_base::{Mem, NoMemory};
@@ -34,7 +33,7 @@ pub fn copy_each(
     ensures { OnOk result (moves.new.items ≡ moves.old.items ++ given.each_copied (plan_view p.now) s xs.now) }
 {
     for x in xs {
-        all_copied(moves, s, defined(p, *x), copied(p, *x))?;
+        all_copied(moves, s, p.defined_of(*x), p.copied_of(*x))?;
     }
     Ok(())
 }

@@ -1,38 +1,22 @@
 //! The moves that fetch a point's operands.
 
 ghost use Rattle.std.specs.Prelude.{◌≡◌, ◌++◌, map, OnOk};
-ghost use Rattle.placement.specs.Fits as fits;
 ghost use Rattle.ucode_emit.specs.inner.DraftItems as drafts;
 ghost use Rattle.ucode_emit.specs.inner.Given as given;
 ghost use Rattle.ucode_emit.specs.inner.EmitContext.{CanAll};
 ghost use Rattle.ucode_emit.specs.inner.Pieces.{moved};
 
 use crate::draft::{Draft, push_moves};
-use crate::moves::{Move, brought, is_slot, same_place};
+use crate::moves::{Move, brought};
 use nv_base::NoMemory;
 use placement::{Place, Serve};
 use std::alloc::Global;
-
-/// Whether a place is a register that is read into.
-fn is_read_register(p: Place) -> bool
-    ensures { result ≡ fits.is_read_register p }
-{
-    match p {
-        Place::L(_) => true,
-        Place::LD(_) => true,
-        Place::A(_) => false,
-        Place::B(_) => false,
-        Place::S(_) => false,
-        Place::SD(_) => false,
-        Place::Slot(_) => false,
-    }
-}
 
 // Fetches an operand that is wanted in the compiler's own register.
 fn own_fetch(moves: &mut Vec<Move>, l: Option<u8>, serve: Serve) -> Result<(), NoMemory>
     ensures { OnOk result (moves.new.items ≡ moves.old.items ++ drafts.own_fetch l serve) }
 {
-    if same_place(serve.at, Place::A(15)) {
+    if serve.at.is(Place::A(15)) {
         brought(moves, l, serve.from, serve.at)?;
     }
     Ok(())
@@ -42,7 +26,7 @@ fn own_fetch(moves: &mut Vec<Move>, l: Option<u8>, serve: Serve) -> Result<(), N
 fn slot_fetch(moves: &mut Vec<Move>, serve: Serve) -> Result<(), NoMemory>
     ensures { OnOk result (moves.new.items ≡ moves.old.items ++ drafts.slot_fetch serve) }
 {
-    if is_slot(serve.from) && is_read_register(serve.at) {
+    if serve.from.is_slot() && serve.at.is_read() {
         moves.push((serve.from, serve.at))?;
     }
     Ok(())

@@ -8,7 +8,6 @@ mod draft;
 mod drafted;
 mod emit_context;
 mod fetch;
-mod homes;
 pub mod laws;
 mod leave;
 mod moves;

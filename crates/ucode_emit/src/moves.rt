@@ -2,8 +2,6 @@
 
 ghost use Rattle.std.specs.Prelude.{◌≡◌, ◌++◌, OnOk};
 ghost use Rattle.placement.specs.declared.place.Place.TheVariants.{Slot};
-ghost use Rattle.placement.specs.Fits as fits;
-ghost use Rattle.placement.specs.Places as places;
 ghost use Rattle.ucode_emit.specs.inner.Pieces as pieces;
 
 use nv_base::NoMemory;
@@ -11,28 +9,6 @@ use placement::Place;
 
 /// A move of a word: from the first place to the second.
 pub type Move = (Place, Place);
-
-/// Whether two places are one.
-pub fn same_place(p: Place, q: Place) -> bool
-    ensures { result ≡ places.same_place p q }
-{
-    p == q
-}
-
-/// Whether a place is a slot.
-pub fn is_slot(p: Place) -> bool
-    ensures { result ≡ fits.is_slot p }
-{
-    match p {
-        Place::Slot(_) => true,
-        Place::A(_) => false,
-        Place::B(_) => false,
-        Place::L(_) => false,
-        Place::LD(_) => false,
-        Place::S(_) => false,
-        Place::SD(_) => false,
-    }
-}
 
 /// The register of a pass.
 pub fn named(r: Option<u8>) -> u8
@@ -74,7 +50,7 @@ pub fn bring(moves: &mut Vec<Move>, l: Option<u8>, from: Place, at: Place) -> Re
 pub fn brought(moves: &mut Vec<Move>, l: Option<u8>, from: Place, at: Place) -> Result<(), NoMemory>
     ensures { OnOk result (moves.new.items ≡ moves.old.items ++ pieces.brought l from at) }
 {
-    if !same_place(from, at) {
+    if !from.is(at) {
         bring(moves, l, from, at)?;
     }
     Ok(())
@@ -84,7 +60,7 @@ pub fn brought(moves: &mut Vec<Move>, l: Option<u8>, from: Place, at: Place) -> 
 pub fn copied(moves: &mut Vec<Move>, s: Option<u8>, from: Place, at: Place) -> Result<(), NoMemory>
     ensures { OnOk result (moves.new.items ≡ moves.old.items ++ pieces.copied s from at) }
 {
-    if is_slot(at) {
+    if at.is_slot() {
         let register = Place::S(named(s));
         moves.push((from, register))?;
         moves.push((register, at))?;
@@ -118,7 +94,7 @@ pub fn single_move(
 ) -> Result<(), NoMemory>
     ensures { OnOk result (moves.new.items ≡ moves.old.items ++ pieces.single_move l from at) }
 {
-    if is_slot(at) {
+    if at.is_slot() {
         bring(moves, l, from, Place::S(0))?;
         moves.push((Place::S(0), at))?;
     } else {

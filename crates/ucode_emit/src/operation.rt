@@ -16,8 +16,7 @@ ghost use Rattle.ucode_emit.specs.inner.Pieces.{moved};
 use crate::draft::{Draft, push_moves};
 use crate::emit_context::EmitContext;
 use crate::fetch::{push_fetches, served_at};
-use crate::homes::{copied, defined};
-use crate::moves::{Move, all_copied, is_slot, named};
+use crate::moves::{Move, all_copied, named};
 use crate::registers::{source, target};
 use nv_base::{Bin, NoMemory, Una};
 use placement::{Place, Placement};
@@ -28,7 +27,7 @@ use uc_isa::{Dst, Instr, UnOp};
 fn result_at(s: Option<u8>, home: Place) -> Place
     ensures { result ≡ given.result_at s home }
 {
-    if is_slot(home) {
+    if home.is_slot() {
         Place::S(named(s))
     } else {
         home
@@ -41,14 +40,14 @@ fn result_target(p: &Placement, s: Option<u8>, x: u32) -> Dst
     requires writable { IsWritable (given.result_at s (home (plan_view p.now) x).defined) }
     ensures { result ≡ pieces.target (given.result_at s (home (plan_view p.now) x).defined) }
 {
-    target(result_at(s, defined(p, x)))
+    target(result_at(s, p.defined_of(x)))
 }
 
 // Brings a result on to a slot.
 fn to_slot(moves: &mut Vec<Move>, s: Option<u8>, home: Place) -> Result<(), NoMemory>
     ensures { OnOk result (moves.new.items ≡ moves.old.items ++ given.slot_moves s home) }
 {
-    if is_slot(home) {
+    if home.is_slot() {
         moves.push((Place::S(named(s)), home))?;
     }
     Ok(())
@@ -67,9 +66,9 @@ fn push_result(
     ensures { OnOk result (code.new ≡ code.old ++ map draft (moved (given.result_moves (plan_view p.now) s x))) }
 {
     let mut moves = Vec::new(alloc);
-    let home = defined(p, x);
+    let home = p.defined_of(x);
     to_slot(&mut moves, s, home)?;
-    all_copied(&mut moves, s, home, copied(p, x))?;
+    all_copied(&mut moves, s, home, p.copied_of(x))?;
     push_moves(code, &moves)
 }
 

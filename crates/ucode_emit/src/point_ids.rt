@@ -9,6 +9,7 @@ ghost use Rattle.ucode_emit.specs.inner.Marks.{marks, tree_marks};
 ghost use Rattle.ucode_emit.specs.inner.EmittedPoints.{point_mark, IsEmittedPoint, on_stack, Pops, Counts, entries_of_points};
 
 use nv_base::NoMemory;
+use placement::point_number;
 use ssu_ir::{NodeId, Ssu, SsuNode, walk};
 use std::alloc::Global;
 
@@ -17,16 +18,6 @@ use std::alloc::Global;
 pub enum EmittedPoint {
     Entry(usize),
     Node(NodeId, u32),
-}
-
-/// The number of a point or of a place, where it fits.
-pub fn number(k: usize) -> Result<u32, NoMemory>
-    ensures { IfOk result (λ n. n ≡ k) }
-{
-    match u32::try_from(k) {
-        Ok(n) => Ok(n),
-        Err(_) => Err(NoMemory),
-    }
 }
 
 /// The sum, where it fits.
@@ -166,7 +157,7 @@ fn push_entry(entries: &mut Vec<u32>, point_id: EmittedPoint, k: usize) -> Resul
     ensures { OnOk result (entries.new.items ≡ entries.old.items ++ entries_of_points k (point_id ∷ [])) }
 {
     match point_id {
-        EmittedPoint::Entry(_) => entries.push(number(k)?)?,
+        EmittedPoint::Entry(_) => entries.push(point_number(k)?)?,
         EmittedPoint::Node(_, _) => {}
     }
     Ok(())

@@ -8,7 +8,6 @@ ghost use Rattle.ucode_emit.specs.inner.EmitContext.{ends};
 ghost use Rattle.ucode_emit.specs.inner.Pieces as pieces;
 ghost use Rattle.ucode_emit.specs.inner.Ready.{IsSequence};
 
-use crate::homes::defined;
 use crate::moves::Move;
 use nv_base::NoMemory;
 use par_move::sequence;
@@ -41,7 +40,7 @@ fn entry_moves(alloc: Global, p: &Placement, params: &[u32]) -> Result<Vec<Move>
     let mut moves = Vec::new(alloc);
     let mut register = 0;
     for x in params {
-        moves.push((Place::A(register), defined(p, *x)))?;
+        moves.push((Place::A(register), p.defined_of(*x)))?;
         register += 1;
     }
     Ok(moves)

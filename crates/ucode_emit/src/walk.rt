@@ -19,10 +19,10 @@ use crate::draft::Draft;
 use crate::emit_context::EmitContext;
 use crate::moves::Move;
 use crate::piece::{push_front, push_node};
-use crate::point_ids::{EmittedPoint, entries_of, number, plus, point_ids_of};
+use crate::point_ids::{EmittedPoint, entries_of, plus, point_ids_of};
 use crate::sequences::{operands, sequences_of};
 use nv_base::NoMemory;
-use placement::Placement;
+use placement::{Placement, point_number};
 use ssu_ir::{Ssu, SsuNode};
 use std::alloc::Global;
 
@@ -130,7 +130,7 @@ fn push_point(
 {
     let point_id = points.point_ids[k];
     let n = operands(s, point_id)?;
-    let point = number(k)?;
+    let point = point_number(k)?;
     let to = branch(s, point_id, point, &points.entries)?;
     let emit_context = EmitContext {
         point,
@@ -163,7 +163,7 @@ pub fn push_points(
         passes: 0,
     };
     for k in 0..points.point_ids.len() {
-        places.push(number(code.list().len())?)?;
+        places.push(point_number(code.list().len())?)?;
         push_point(alloc, code, &mut cursor, s, p, points, k)?;
     }
     Ok(places)

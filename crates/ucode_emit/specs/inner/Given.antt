@@ -21,10 +21,6 @@ use Rattle.ucode_emit.specs.inner.DraftItems.{fetches, each_fetch, word_fetch}
 use Rattle.ucode_emit.specs.inner.EmitContext.{CanAll}
 use Rattle.ucode_emit.specs.inner.Pieces.{Item, Plain, Branch, moved, named, all_copied, single_moves, un_op, source, target, address_of, shift_of}
 
--- what a value without a home has
-abbrev pub homeless : ℕ → Home
-homeless x = record { var = x; defined = Slot 0; copied = [] }
-
 -- ---- operands
 
 -- where the operand of a number is wanted

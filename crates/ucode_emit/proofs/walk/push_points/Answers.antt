@@ -32,7 +32,7 @@ loop-k-preserved c =
     let k = c.loop-k.k in
     let within = below_marks s points.point_ids.items k c.requires.known.point_ids (omega (arith, points.point_ids.ok.0)) in
     record {
-      drafted = drafted_more (labels_view s) (plan_view c.args.p.now) (moves_of points.sequences.items) k c.loop-k.code c.push_point.new.code c.loop-k.places.items c.push.new.self.items c.in_ok-number.field-0 within
-          c.loop-k.invariant.drafted c.in_ok-push_point.ensures.code (c.in_ok-number.ensures ∙ ap length c.list.ensures) c.in_ok-push.ensures.items;
+      drafted = drafted_more (labels_view s) (plan_view c.args.p.now) (moves_of points.sequences.items) k c.loop-k.code c.push_point.new.code c.loop-k.places.items c.push.new.self.items c.in_ok-point_number.field-0 within
+          c.loop-k.invariant.drafted c.in_ok-push_point.ensures.code (c.in_ok-point_number.ensures ∙ ap length c.list.ensures) c.in_ok-push.ensures.items;
       emit_context = c.in_ok-push_point.ensures.cursor;
     }
