@@ -25,7 +25,7 @@ IsAlike _ _ = ⊥
 
 -- The second object is the first with other code and starts. That code is lawful and no longer, does what the first does with the same
 -- visits of the starts, and its moves cost no more, whatever the labels weigh; it is code of the same sources. At no window of it
--- does one of the five rules for needless instructions have an answer.
+-- does one of the six rules for needless instructions have an answer.
 pub record IsWithoutNeedless (o q : Object) : Type 0 where
   pub alike : IsAlike o q
   pub params : (code_of q).params ≡ (code_of o).params

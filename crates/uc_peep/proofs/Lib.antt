@@ -5,6 +5,7 @@ pub mod WindowRuns
 pub mod Sound
 pub mod ZeroTests
 pub mod RepeatedTests
+pub mod HeldLiterals
 pub mod Settled
 pub mod Replaced
 pub mod Puts

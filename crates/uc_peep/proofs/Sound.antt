@@ -46,7 +46,7 @@ free-register (Some q) set r w h = by (same_register r q) refl
     by false e = e
 free-register None set r w h = refl
 
-flagless : (o : Option Register) → (is_some_register o Zero ≡ false) × (is_some_register o Carry ≡ false)
+pub flagless : (o : Option Register) → (is_some_register o Zero ≡ false) × (is_some_register o Carry ≡ false)
 flagless (Some q) = (refl, refl)
 flagless None = (refl, refl)
 

@@ -1,5 +1,5 @@
 -- What is kept where windows are replaced by some of their instructions.
-use Rattle.std.proofs.Common.{◌≡◌, ℕ, ◌⊎◌, inl, inr, Bool, true, false, List, [], ◌∷◌, ◌++◌, map, Option, Some, None, if◌then◌else◌, refl, sym, ap, subst}
+use Rattle.std.proofs.Common.{◌≡◌, ℕ, ◌⊎◌, inl, inr, Bool, true, false, List, [], ◌&&◌, ◌∷◌, ◌++◌, map, Option, Some, None, refl, sym, ap, subst}
 use Rattle.std.proofs.lemmas.Bool.{false≢true}
 use Rattle.nv_base.specs.declared.term.Bin.TheVariants.{Add, Sub, And, Or, Xor}
 use Rattle.uc_isa.specs.declared.instruction.Src.{Src}
@@ -8,12 +8,12 @@ use Rattle.uc_isa.specs.declared.instruction.Instr.{Instr}
 use Rattle.uc_isa.specs.declared.instruction.Instr.TheVariants.{Alu, Un, Immed, Br, Read, Write, Halt}
 use Rattle.uc_isa.specs.declared.instruction.UnOp.TheVariants.{Copy, Not, Shl, Shr, Rol}
 use Rattle.uc_peep.specs.Kept.{compacted, kept_of}
-use Rattle.uc_peep.specs.Needless.{dead_rule, idle_rule, back_rule, zero_rule, repeated_rule, is_dead, is_idle, copies_back, compares_zero, tested, tests_again}
+use Rattle.uc_peep.specs.Needless.{dead_rule, idle_rule, back_rule, zero_rule, repeated_rule, is_dead, is_idle, copies_back, compares_zero, tested, tests_again, held_rule, puts_again}
 use Rattle.uc_peep.specs.Rewrites.{Answers, Rewrites, IsWithout, Compares}
 use Rattle.uc_peep.specs.Rewrites.Rewrites.{Same, Replaced, Relocated, InTurn}
 use Rattle.uc_peep.specs.Rewrites.IsWithout.{Nothing, Gone, Tested, Stays}
 use Rattle.uc_peep.specs.Rules.{IsSomeOf}
-use Rattle.uc_peep.proofs.Sound.{given}
+use Rattle.uc_peep.proofs.Sound.{both, given}
 use Rattle.uc_executions.specs.Relocated.{relocated}
 use Rattle.uc_executions.specs.StraightCode.{IsStraight}
 
@@ -106,7 +106,7 @@ rewrites-without A f a b (Replaced front window shorter rest set answer) = witho
 rewrites-without A f a b (Relocated to code) = without-relocated to code
 rewrites-without A f a b (InTurn first second third h g) = without-trans first second third (rewrites-without A f first second h) (rewrites-without A f second third g)
 
--- ---- the five rules
+-- ---- the six rules
 
 dead-straight : (i : Instr) (set : ℕ) → is_dead i set ≡ true → IsStraight i
 dead-straight (Alu d op x y) set h = tt
@@ -215,20 +215,50 @@ repeated-without (i ∷ j ∷ []) set shorter h =
     subst (IsWithout (i ∷ j ∷ [])) t.1 (stays i (j ∷ []) [] (Gone j [] [] (tests-straight i j set t.0) Nothing))
 repeated-without (i ∷ j ∷ k ∷ ws) set shorter h = absurd cc
 
-pub needless-without : (A B C D E : Answers) (code code' : List Instr)
+again-straight : (i m l : Instr) → puts_again i m l ≡ true → IsStraight l
+again-straight i m (Alu d op x y) h = tt
+again-straight i m (Un d op x) h = tt
+again-straight i m (Immed d v k) h = tt
+again-straight (Immed d v k) m (Br b t) h = absurd (false≢true h)
+again-straight (Immed d v k) m (Read r q n x off) h = absurd (false≢true h)
+again-straight (Immed d v k) m (Write r q n x off) h = absurd (false≢true h)
+again-straight (Immed d v k) m (Halt q n) h = absurd (false≢true h)
+again-straight (Alu d op x y) m l h = absurd (false≢true h)
+again-straight (Un d op x) m l h = absurd (false≢true h)
+again-straight (Br b t) m l h = absurd (false≢true h)
+again-straight (Read r q n x off) m l h = absurd (false≢true h)
+again-straight (Write r q n x off) m l h = absurd (false≢true h)
+again-straight (Halt q n) m l h = absurd (false≢true h)
+
+held-without : (ws : List Instr) (set : ℕ) (shorter : List Instr) → held_rule ws set ≡ Some shorter → IsWithout ws shorter
+held-without [] set shorter h = absurd cc
+held-without (i ∷ []) set shorter h = absurd cc
+held-without (i ∷ j ∷ []) set shorter h = absurd cc
+held-without (i ∷ j ∷ l ∷ []) set shorter h =
+    let t = given (puts_again i j l) (i ∷ j ∷ []) shorter h in
+    subst (IsWithout (i ∷ j ∷ l ∷ [])) t.1 (stays i (j ∷ l ∷ []) (j ∷ []) (stays j (l ∷ []) [] (Gone l [] [] (again-straight i j l t.0) Nothing)))
+held-without (i ∷ j ∷ k ∷ l ∷ []) set shorter h =
+    let t = given (puts_again i j l && puts_again i k l) (i ∷ j ∷ k ∷ []) shorter h in
+    subst (IsWithout (i ∷ j ∷ k ∷ l ∷ [])) t.1
+    (stays i (j ∷ k ∷ l ∷ []) (j ∷ k ∷ []) (stays j (k ∷ l ∷ []) (k ∷ []) (stays k (l ∷ []) [] (Gone l [] [] (again-straight i j l (both _ _ t.0).0) Nothing))))
+held-without (i ∷ j ∷ k ∷ l ∷ m ∷ ws) set shorter h = absurd cc
+
+pub needless-without : (A B C D E F : Answers) (code code' : List Instr)
     → ((ws : List Instr) (set : ℕ) (o : Option (List Instr)) → A ws set o → o ≡ dead_rule ws set)
     → ((ws : List Instr) (set : ℕ) (o : Option (List Instr)) → B ws set o → o ≡ idle_rule ws set)
     → ((ws : List Instr) (set : ℕ) (o : Option (List Instr)) → C ws set o → o ≡ back_rule ws set)
     → ((ws : List Instr) (set : ℕ) (o : Option (List Instr)) → D ws set o → o ≡ zero_rule ws set)
     → ((ws : List Instr) (set : ℕ) (o : Option (List Instr)) → E ws set o → o ≡ repeated_rule ws set)
-    → Rewrites (λ ws set o. (IsSomeOf o × A ws set o) ⊎ (A ws set None × ((IsSomeOf o × B ws set o) ⊎ (B ws set None × ((IsSomeOf o × C ws set o) ⊎ (C ws set None × ((IsSomeOf o × D ws set o) ⊎ (D ws set None × E ws set o)))))))) code code'
+    → ((ws : List Instr) (set : ℕ) (o : Option (List Instr)) → F ws set o → o ≡ held_rule ws set)
+    → Rewrites (λ ws set o. (IsSomeOf o × A ws set o) ⊎ (A ws set None × ((IsSomeOf o × B ws set o) ⊎ (B ws set None × ((IsSomeOf o × C ws set o) ⊎ (C ws set None × ((IsSomeOf o × D ws set o) ⊎ (D ws set None × ((IsSomeOf o × E ws set o) ⊎ (E ws set None × F ws set o)))))))))) code code'
     → IsWithout code code'
-needless-without A B C D E code code' f g h d r = rewrites-without _ each code code'
+needless-without A B C D E F code code' f g h d r l = rewrites-without _ each code code'
   where
     each : (ws : List Instr) (set : ℕ) (shorter : List Instr)
-        → (IsSomeOf (Some shorter) × A ws set (Some shorter)) ⊎ (A ws set None × ((IsSomeOf (Some shorter) × B ws set (Some shorter)) ⊎ (B ws set None × ((IsSomeOf (Some shorter) × C ws set (Some shorter)) ⊎ (C ws set None × ((IsSomeOf (Some shorter) × D ws set (Some shorter)) ⊎ (D ws set None × E ws set (Some shorter)))))))) → IsWithout ws shorter
+        → (IsSomeOf (Some shorter) × A ws set (Some shorter)) ⊎ (A ws set None × ((IsSomeOf (Some shorter) × B ws set (Some shorter)) ⊎ (B ws set None × ((IsSomeOf (Some shorter) × C ws set (Some shorter)) ⊎ (C ws set None × ((IsSomeOf (Some shorter) × D ws set (Some shorter)) ⊎ (D ws set None × ((IsSomeOf (Some shorter) × E ws set (Some shorter)) ⊎ (E ws set None × F ws set (Some shorter)))))))))) → IsWithout ws shorter
     each ws set shorter (inl a) = dead-without ws set shorter (sym (f ws set (Some shorter) a.1))
     each ws set shorter (inr (a, inl b)) = idle-without ws set shorter (sym (g ws set (Some shorter) b.1))
     each ws set shorter (inr (a, inr (b, inl c))) = back-without ws set shorter (sym (h ws set (Some shorter) c.1))
     each ws set shorter (inr (a, inr (b, inr (c, inl z)))) = zero-without ws set shorter (sym (d ws set (Some shorter) z.1))
-    each ws set shorter (inr (a, inr (b, inr (c, inr (z, t))))) = repeated-without ws set shorter (sym (r ws set (Some shorter) t))
+    each ws set shorter (inr (a, inr (b, inr (c, inr (z, inl t))))) = repeated-without ws set shorter (sym (r ws set (Some shorter) t.1))
+    each ws set shorter (inr (a, inr (b, inr (c, inr (z, inr (t, v)))))) = held-without ws set shorter (sym (l ws set (Some shorter) v))

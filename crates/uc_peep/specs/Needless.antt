@@ -1,4 +1,4 @@
--- Needless instructions: five rules, as functions, and code in which none of them has an answer.
+-- Needless instructions: six rules, as functions, and code in which none of them has an answer.
 use Rattle.std.specs.Prelude.{◌≡◌, ◌+◌, ℕ, take, drop, Bool, false, not, ◌&&◌, ◌||◌, nat_eq, nat_lt, List, [], ◌∷◌, Option, Some, None, if◌then◌else◌}
 use Rattle.uc_isa.specs.declared.instruction.Dst.{Dst}
 use Rattle.uc_isa.specs.declared.instruction.Dst.TheVariants as dst
@@ -9,6 +9,7 @@ use Rattle.uc_isa.specs.declared.instruction.Instr.TheVariants.{Alu, Un, Immed}
 use Rattle.uc_isa.specs.declared.instruction.UnOp.TheVariants.{Copy}
 use Rattle.nv_base.specs.declared.term.Bin.TheVariants.{Sub}
 use Rattle.uc_isa.specs.Registers.{Register, target_register}
+use Rattle.uc_executions.specs.Resources.{same_register}
 use Rattle.uc_executions.specs.Resources.Resource.{In, Zero, Carry}
 use Rattle.uc_peep.specs.Sets.{has}
 use Rattle.uc_peep.specs.Liveness.{IsLiveAt}
@@ -79,6 +80,26 @@ abbrev pub tests_again : Instr → Instr → ℕ → Bool
 tests_again i (Un dst.Nowhere Copy x) set = has_tested i x && not (has set Carry)
 tests_again i _ set = false
 
+abbrev pub is_same_name : Option Register → Option Register → Bool
+is_same_name (Some q) (Some r) = same_register q r
+is_same_name _ _ = false
+
+-- two targets are one register
+abbrev pub is_same_target : Dst → Dst → Bool
+is_same_target d e = is_same_name (target_register d) (target_register e)
+
+-- the instruction leaves the register of a target as it was
+abbrev pub leaves : Dst → Instr → Bool
+leaves d (Alu e op x y) = not (is_same_target d e)
+leaves d (Un e op x) = not (is_same_target d e)
+leaves d (Immed e v k) = not (is_same_target d e)
+leaves d _ = false
+
+-- the last puts the literal that the first put there, and the one between leaves it
+abbrev pub puts_again : Instr → Instr → Instr → Bool
+puts_again (Immed d v k) m (Immed e w n) = is_same_target d e && (nat_eq v w && (nat_eq k n && leaves d m))
+puts_again _ m _ = false
+
 abbrev pub dead_rule : List Instr → ℕ → Option (List Instr)
 dead_rule (i ∷ []) set = if is_dead i set then Some [] else None
 dead_rule _ set = None
@@ -99,8 +120,13 @@ abbrev pub repeated_rule : List Instr → ℕ → Option (List Instr)
 repeated_rule (i ∷ j ∷ []) set = if tests_again i j set then Some (i ∷ []) else None
 repeated_rule _ set = None
 
--- at no window any of the five rules has an answer, asked with exactly what is live after the window
+abbrev pub held_rule : List Instr → ℕ → Option (List Instr)
+held_rule (i ∷ j ∷ l ∷ []) set = if puts_again i j l then Some (i ∷ j ∷ []) else None
+held_rule (i ∷ j ∷ k ∷ l ∷ []) set = if puts_again i j l && puts_again i k l then Some (i ∷ j ∷ k ∷ []) else None
+held_rule _ set = None
+
+-- at no window any of the six rules has an answer, asked with exactly what is live after the window
 abbrev pub HasNoNeedless : List Instr → List ℕ → Type 0
 HasNoNeedless code starts = (p k : ℕ) → IsWindow code starts p k
     → (set : ℕ) × IsLiveAt code (p + k) set × (dead_rule (take k (drop p code)) set ≡ None) × (idle_rule (take k (drop p code)) set ≡ None) × (back_rule (take k (drop p code)) set ≡ None)
-    × (zero_rule (take k (drop p code)) set ≡ None) × (repeated_rule (take k (drop p code)) set ≡ None)
+    × (zero_rule (take k (drop p code)) set ≡ None) × (repeated_rule (take k (drop p code)) set ≡ None) × (held_rule (take k (drop p code)) set ≡ None)

@@ -55,8 +55,9 @@ fn climb(
     Ok(())
 }
 
-// Links the branches to each place.
-pub fn link_branches(code: &[Instr], heads: &mut [u32], links: &mut [u32])
+// Links the branches to each place. The links only decide which sets are looked at again, and when: whatever they are,
+// `thread_jumps` keeps the sets sound, and the last sweep of `settle` shows that each has all that it needs.
+pub(crate) fn link_branches(code: &[Instr], heads: &mut [u32], links: &mut [u32])
     requires small { length code.now < 2147483648 }
 {
     for x in 0..code.len() {

@@ -3,6 +3,7 @@
 
 mod compacting;
 mod draft;
+mod held_literals;
 mod jump_threading;
 mod live_set;
 mod liveness;

@@ -1,4 +1,4 @@
-//! Needless instructions, by five rules.
+//! Needless instructions, by six rules.
 
 ghost use Rattle.std.specs.Prelude.{◌≡◌, ◌&&◌, ◌||◌, ◌↔◌, not, ℕ, true, false, List, Option, Some, None, IfOk};
 ghost use Rattle.uc_isa.specs.Agrees.{Agrees, SourceMeaning};
@@ -9,6 +9,7 @@ ghost use Rattle.uc_peep.specs.Rewrites.{IsWithout};
 ghost use Rattle.uc_peep.specs.Needless as spec;
 ghost use Rattle.uc_peep.specs.Needless.{HasNoNeedless, back_rule, dead_rule, has_flag, idle_rule, is_same};
 
+use crate::held_literals::held;
 use crate::peephole::{Peeped, peep};
 use crate::repeated_tests::repeated;
 use crate::window::{Pair, WindowRule};
@@ -110,8 +111,8 @@ fn back(w: &[Instr], after: &LiveSet) -> Option<Shorter>
 }
 
 /// The code without needless instructions: an operation whose result and flags aren't live, a copy of a register onto
-/// itself where no flag is live, a copy back of what was just copied, a zero that is only compared with, and a test of
-/// what was just tested. It does what it did, as `peep` says.
+/// itself where no flag is live, a copy back of what was just copied, a zero that is only compared with, a test of what was
+/// just tested, and a literal that its register holds already. It does what it did, as `peep` says.
 pub fn without_needless(alloc: Global, c: Code, starts: Vec<u32>) -> Result<Peeped, NoMemory>
     requires lawful { IsLawful c.list }
     requires starts { AreInside c.list starts.items }
@@ -127,6 +128,7 @@ pub fn without_needless(alloc: Global, c: Code, starts: Vec<u32>) -> Result<Peep
     let backs = WindowRule::new(|w: &[Instr], after: &LiveSet| back(w, after));
     let zeros = WindowRule::new(|w: &[Instr], after: &LiveSet| zero(w, after));
     let repeats = WindowRule::new(|w: &[Instr], after: &LiveSet| repeated(w, after));
+    let literals = WindowRule::new(|w: &[Instr], after: &LiveSet| held(w, after));
     let rules = Pair {
         first: deads,
         second: Pair {
@@ -135,7 +137,10 @@ pub fn without_needless(alloc: Global, c: Code, starts: Vec<u32>) -> Result<Peep
                 first: backs,
                 second: Pair {
                     first: zeros,
-                    second: repeats,
+                    second: Pair {
+                        first: repeats,
+                        second: literals,
+                    },
                 },
             },
         },
