@@ -1,0 +1,313 @@
+//! Which command words are.
+ghost use Rattle.std.specs.Prelude.{◌≤◌, IfOk};
+ghost use Rattle.nova_words.specs.Limits.{HasLimits, IsSaver, MaySave, NamesSaver, Saves};
+
+use crate::fault::WordFault;
+use crate::number::read_number;
+use crate::parts::Parts;
+use crate::setting::Setting;
+use crate::verb::Verb;
+use std::alloc::Global;
+
+// The limits and the usual values of numbers.
+const MOST_SLOTS: u32 = 128;
+
+const MOST_BUDGET: u32 = 1_000_000;
+
+const USUAL_BUDGET: u32 = 2_000;
+
+const MOST_STORE: u32 = 1_048_576;
+
+const USUAL_STORE: u32 = 2_048;
+
+const MOST_STEPS: u32 = 100_000_000;
+
+const USUAL_STEPS: u32 = 1_000_000;
+
+/// What `build` is asked for.
+#[derive(Clone, Copy)]
+pub struct Build<'a> {
+    pub source: &'a str,
+    /// Where the object is saved, if that is said.
+    pub object: Option<&'a str>,
+    /// Where the report is saved, if it is.
+    pub report: Option<&'a str>,
+    /// The text of the weights of labels; without one each weighs 1.
+    pub weights: Option<&'a str>,
+    pub slots: u32,
+    pub budget: u32,
+    pub store: u32,
+    /// Whether faults are printed as JSON.
+    pub is_json: bool,
+}
+
+/// What `run` is asked for.
+#[derive(Clone, Copy)]
+pub struct Run<'a> {
+    /// An object or a source.
+    pub program: &'a str,
+    /// The memory text.
+    pub memory: &'a str,
+    pub steps: u32,
+    /// Whether it is told how often each label was entered.
+    pub has_profile: bool,
+    /// Where these numbers are saved, if they are.
+    pub counts: Option<&'a str>,
+}
+
+/// What `check` is asked for.
+#[derive(Drop)]
+pub struct Check<'a> {
+    pub sources: Vec<&'a str>,
+    /// Whether the sizes of all parts are told.
+    pub is_verbose: bool,
+    /// Whether faults and warnings are printed as JSON.
+    pub is_json: bool,
+}
+
+/// What `page` is asked for.
+#[derive(Clone, Copy)]
+pub struct Page<'a> {
+    pub source: &'a str,
+    /// The memory text that the code is run on, if it is.
+    pub memory: Option<&'a str>,
+    /// Where the page is saved, if that is said.
+    pub output: Option<&'a str>,
+    pub steps: u32,
+}
+
+/// What `test` is asked for.
+#[derive(Drop)]
+pub struct Test<'a> {
+    /// Sources, and folders of sources.
+    pub paths: Vec<&'a str>,
+    /// The steps of code and the calls of the interpreter that each memory text may take.
+    pub steps: u32,
+}
+
+/// A command with what its words name.
+#[derive(Drop)]
+pub enum Command<'a> {
+    Build(Build<'a>),
+    Run(Run<'a>),
+    /// Of an object or a source.
+    List(&'a str),
+    Check(Check<'a>),
+    Test(Test<'a>),
+    Page(Page<'a>),
+    /// The words that a page is called by.
+    Explain(&'a [String]),
+    /// Of one command, or of all.
+    Help(Option<Verb>),
+    Version,
+}
+
+/// The command that words are, the program's name left out.
+pub fn command_of<'a>(alloc: Global, words: &'a [String]) -> Result<Command<'a>, WordFault<'a>>
+    ensures limits { IfOk result HasLimits }
+    // Only `build`, `run` and `page` save files.
+    ensures saves { IfOk result (λ c. Saves c → MaySave words.now) }
+{
+    match words.first() {
+        Some(first) => command_named(alloc, first.as_str(), &words[1..]),
+        None => Err(WordFault::NoWords),
+    }
+}
+
+fn command_named<'a>(
+    alloc: Global,
+    first: &'a str,
+    words: &'a [String],
+) -> Result<Command<'a>, WordFault<'a>>
+    ensures limits { IfOk result HasLimits }
+    ensures saves { IfOk result (λ c. Saves c → NamesSaver first.now) }
+{
+    if first == "--help" || first == "-h" {
+        return Ok(Command::Help(None));
+    }
+    if first == "--version" {
+        return Ok(Command::Version);
+    }
+    match Verb::named(first) {
+        Some(verb) => command_with(alloc, verb, words),
+        None => Err(WordFault::UnknownCommand(first)),
+    }
+}
+
+// A command with the words after its name.
+fn command_with<'a>(
+    alloc: Global,
+    verb: Verb,
+    words: &'a [String],
+) -> Result<Command<'a>, WordFault<'a>>
+    ensures limits { IfOk result HasLimits }
+    ensures saves { IfOk result (λ c. Saves c → IsSaver verb) }
+{
+    let parts = Parts::of(alloc, verb, words)?;
+    let command = command_in(alloc, verb, &parts, words);
+    drop(parts);
+    command
+}
+
+fn command_in<'a>(
+    alloc: Global,
+    verb: Verb,
+    parts: &Parts<'a>,
+    words: &'a [String],
+) -> Result<Command<'a>, WordFault<'a>>
+    ensures limits { IfOk result HasLimits }
+    ensures saves { IfOk result (λ c. Saves c → IsSaver verb) }
+{
+    if parts.value(Setting::Help).is_some() {
+        return Ok(Command::Help(Some(verb)));
+    }
+    match verb {
+        Verb::Build => build_in(parts),
+        Verb::Run => run_in(parts),
+        Verb::List => Ok(Command::List(only_name(parts, "OBJ or SRC")?)),
+        Verb::Check => check_in(alloc, parts),
+        Verb::Test => test_in(alloc, parts),
+        Verb::Page => page_in(parts),
+        Verb::Explain => explain_in(parts, words),
+        Verb::Help => help_in(parts),
+        Verb::Version => Ok(Command::Version),
+    }
+}
+
+// The one name, which names this.
+fn only_name<'a>(parts: &Parts<'a>, what: &'static str) -> Result<&'a str, WordFault<'a>> {
+    parts.check_names(1)?;
+    parts.name(0, what)
+}
+
+fn build_in<'a>(parts: &Parts<'a>) -> Result<Command<'a>, WordFault<'a>>
+    ensures { IfOk result HasLimits }
+{
+    let source = only_name(parts, "SRC")?;
+    let slots = number_in(parts, Setting::Slots, 0, MOST_SLOTS, MOST_SLOTS)?;
+    let budget = number_in(parts, Setting::Budget, 1, MOST_BUDGET, USUAL_BUDGET)?;
+    let store = number_in(parts, Setting::Store, 1, MOST_STORE, USUAL_STORE)?;
+    Ok(Command::Build(Build {
+        source,
+        object: parts.value(Setting::Output),
+        report: parts.value(Setting::Report),
+        weights: parts.value(Setting::Weights),
+        slots,
+        budget,
+        store,
+        is_json: parts.value(Setting::Json).is_some(),
+    }))
+}
+
+fn run_in<'a>(parts: &Parts<'a>) -> Result<Command<'a>, WordFault<'a>>
+    ensures { IfOk result HasLimits }
+{
+    parts.check_names(2)?;
+    let program = parts.name(0, "OBJ or SRC")?;
+    let memory = parts.name(1, "MEM")?;
+    let steps = number_in(parts, Setting::Steps, 1, MOST_STEPS, USUAL_STEPS)?;
+    Ok(Command::Run(Run {
+        program,
+        memory,
+        steps,
+        has_profile: parts.value(Setting::Profile).is_some(),
+        counts: parts.value(Setting::Counts),
+    }))
+}
+
+fn check_in<'a>(alloc: Global, parts: &Parts<'a>) -> Result<Command<'a>, WordFault<'a>>
+    ensures limits { IfOk result HasLimits }
+    ensures saves { IfOk result (λ c. Saves c → ⊥) }
+{
+    let sources = names_in(alloc, parts, "SRC")?;
+    Ok(Command::Check(Check {
+        sources,
+        is_verbose: parts.value(Setting::Verbose).is_some(),
+        is_json: parts.value(Setting::Json).is_some(),
+    }))
+}
+
+fn page_in<'a>(parts: &Parts<'a>) -> Result<Command<'a>, WordFault<'a>>
+    ensures { IfOk result HasLimits }
+{
+    parts.check_names(2)?;
+    let source = parts.name(0, "SRC")?;
+    let steps = number_in(parts, Setting::Steps, 1, MOST_STEPS, USUAL_STEPS)?;
+    let memory = match parts.names.get(1) {
+        Some(name) => Some(*name),
+        None => None,
+    };
+    Ok(Command::Page(Page {
+        source,
+        memory,
+        output: parts.value(Setting::Output),
+        steps,
+    }))
+}
+
+fn test_in<'a>(alloc: Global, parts: &Parts<'a>) -> Result<Command<'a>, WordFault<'a>>
+    ensures limits { IfOk result HasLimits }
+    ensures saves { IfOk result (λ c. Saves c → ⊥) }
+{
+    let steps = number_in(parts, Setting::Steps, 1, MOST_STEPS, USUAL_STEPS)?;
+    let paths = names_in(alloc, parts, "SRC or FOLDER")?;
+    Ok(Command::Test(Test { paths, steps }))
+}
+
+// All names, of which there is one at least, each of which names this.
+fn names_in<'a>(
+    alloc: Global,
+    parts: &Parts<'a>,
+    what: &'static str,
+) -> Result<Vec<&'a str>, WordFault<'a>> {
+    let _ = parts.name(0, what)?;
+    let mut names = Vec::new(alloc);
+    for name in parts.names.iter() {
+        names.push(*name)?;
+    }
+    Ok(names)
+}
+
+fn explain_in<'a>(parts: &Parts<'a>, words: &'a [String]) -> Result<Command<'a>, WordFault<'a>>
+    ensures limits { IfOk result HasLimits }
+    ensures saves { IfOk result (λ c. Saves c → ⊥) }
+{
+    let _ = parts.name(0, "CODE")?;
+    Ok(Command::Explain(words))
+}
+
+fn help_in<'a>(parts: &Parts<'a>) -> Result<Command<'a>, WordFault<'a>>
+    ensures limits { IfOk result HasLimits }
+    ensures saves { IfOk result (λ c. Saves c → ⊥) }
+{
+    parts.check_names(1)?;
+    match parts.names.first() {
+        None => Ok(Command::Help(None)),
+        Some(name) => match Verb::named(*name) {
+            Some(verb) => Ok(Command::Help(Some(verb))),
+            None => Err(WordFault::UnknownCommand(*name)),
+        },
+    }
+}
+
+// The number of an option, or the usual one where the words don't give the option.
+fn number_in<'a>(
+    parts: &Parts<'a>,
+    setting: Setting,
+    least: u32,
+    most: u32,
+    usual: u32,
+) -> Result<u32, WordFault<'a>>
+    requires least { least ≤ usual }
+    requires most { usual ≤ most }
+    ensures least { IfOk result (λ n. least ≤ n) }
+    ensures most { IfOk result (λ n. n ≤ most) }
+{
+    let Some(value) = parts.value(setting) else {
+        return Ok(usual);
+    };
+    match read_number(value, least, most) {
+        Some(n) => Ok(n),
+        None => Err(WordFault::BadNumber(parts.verb, setting, value, least, most)),
+    }
+}

@@ -1,0 +1,16 @@
+//! The words of the program `nova`: which command they are, with which options, or what is wrong with them.
+#![tactic(auto)]
+
+mod command;
+mod fault;
+mod nearest;
+mod number;
+mod parts;
+mod setting;
+mod verb;
+
+pub use command::{Build, Check, Command, Page, Run, Test, command_of};
+pub use fault::WordFault;
+pub use nearest::{nearest_setting, nearest_verb};
+pub use setting::Setting;
+pub use verb::Verb;

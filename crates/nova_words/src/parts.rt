@@ -1,0 +1,127 @@
+//! Names and options among the words.
+
+use crate::fault::WordFault;
+use crate::setting::Setting;
+use crate::verb::Verb;
+use std::alloc::Global;
+
+/// An option with its value; of one without, the empty text.
+#[derive(Clone, Copy)]
+pub struct Given<'a> {
+    pub setting: Setting,
+    pub value: &'a str,
+}
+
+/// The names and the options of a command's words, each in their order.
+#[derive(Drop)]
+pub struct Parts<'a> {
+    pub verb: Verb,
+    pub names: Vec<&'a str>,
+    pub given: Vec<Given<'a>>,
+    // The option whose value is the next word.
+    pending: Option<Setting>,
+    // Whether `--` came, after which each word is a name.
+    is_ended: bool,
+}
+
+impl<'a> Parts<'a> {
+    /// Those of the words after the command.
+    pub fn of(alloc: Global, verb: Verb, words: &'a [String]) -> Result<Parts<'a>, WordFault<'a>> {
+        let mut parts = Parts {
+            verb,
+            names: Vec::new(alloc),
+            given: Vec::new(alloc),
+            pending: None,
+            is_ended: false,
+        };
+        for word in words {
+            parts.read(word.as_str())?;
+        }
+        match parts.pending {
+            Some(setting) => Err(WordFault::NoValue(verb, setting)),
+            None => Ok(parts),
+        }
+    }
+
+    fn read(&mut self, word: &'a str) -> Result<(), WordFault<'a>> {
+        if let Some(setting) = self.pending {
+            self.pending = None;
+            self.give(setting, word)
+        } else if self.is_ended || word == "-" || !word.starts_with('-') {
+            self.names.push(word)?;
+            Ok(())
+        } else if word == "--" {
+            self.is_ended = true;
+            Ok(())
+        } else {
+            self.read_option(word)
+        }
+    }
+
+    fn give(&mut self, setting: Setting, value: &'a str) -> Result<(), WordFault<'a>> {
+        self.given.push(Given { setting, value })?;
+        Ok(())
+    }
+
+    // `--NAME`, `--NAME=VALUE` or `-o`.
+    fn read_option(&mut self, word: &'a str) -> Result<(), WordFault<'a>> {
+        match word.split_once('=') {
+            Some((name, value)) => self.read_with_value(word, name, value),
+            None => self.read_alone(word),
+        }
+    }
+
+    fn read_alone(&mut self, word: &'a str) -> Result<(), WordFault<'a>> {
+        let Some(setting) = self.verb.setting(word) else {
+            return Err(WordFault::UnknownOption(self.verb, word));
+        };
+        if setting.has_value() {
+            self.pending = Some(setting);
+            Ok(())
+        } else {
+            self.give(setting, "")
+        }
+    }
+
+    fn read_with_value(
+        &mut self,
+        word: &'a str,
+        name: &'a str,
+        value: &'a str,
+    ) -> Result<(), WordFault<'a>> {
+        let Some(setting) = self.verb.setting(name) else {
+            return Err(WordFault::UnknownOption(self.verb, word));
+        };
+        if setting.has_value() {
+            self.give(setting, value)
+        } else {
+            Err(WordFault::UnwantedValue(self.verb, setting))
+        }
+    }
+
+    /// The value that was given an option last.
+    pub fn value(&self, setting: Setting) -> Option<&'a str> {
+        for given in self.given.iter().rev() {
+            if given.setting == setting {
+                return Some(given.value);
+            }
+        }
+        None
+    }
+
+    /// The name at a place, which names this.
+    pub fn name(&self, place: usize, what: &'static str) -> Result<&'a str, WordFault<'a>> {
+        match self.names.get(place) {
+            Some(name) => Ok(*name),
+            None => Err(WordFault::MissingName(self.verb, what)),
+        }
+    }
+
+    /// Refuses more names than so many.
+    pub fn check_names(&self, most: usize) -> Result<(), WordFault<'a>> {
+        match self.names.get(most) {
+            Some(name) => Err(WordFault::ExtraName(self.verb, *name)),
+            None => Ok(()),
+        }
+    }
+}

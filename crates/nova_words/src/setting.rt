@@ -1,0 +1,65 @@
+//! The options.
+
+/// An option of a command.
+#[derive(Clone, Copy, PartialEq, Eq)]
+pub enum Setting {
+    /// The object that is saved.
+    Output,
+    /// The report that is saved.
+    Report,
+    /// The words of scratch in which values may be kept.
+    Slots,
+    /// The branches of the search for banks.
+    Budget,
+    /// The instructions of the code.
+    Store,
+    /// How often each label is entered.
+    Weights,
+    /// The steps of a run.
+    Steps,
+    /// How often each label was entered is told.
+    Profile,
+    /// The text of these numbers that is saved.
+    Counts,
+    /// The sizes of all parts are told.
+    Verbose,
+    /// Faults are printed as JSON.
+    Json,
+    /// What the command is for.
+    Help,
+}
+
+impl Setting {
+    /// How it is written.
+    pub fn name(self) -> &'static str {
+        match self {
+            Setting::Output => "-o",
+            Setting::Report => "--report",
+            Setting::Slots => "--slots",
+            Setting::Budget => "--budget",
+            Setting::Store => "--store",
+            Setting::Weights => "--weights",
+            Setting::Steps => "--steps",
+            Setting::Profile => "--profile",
+            Setting::Counts => "--counts",
+            Setting::Verbose => "--verbose",
+            Setting::Json => "--json",
+            Setting::Help => "--help",
+        }
+    }
+
+    /// Whether a value follows.
+    pub fn has_value(self) -> bool {
+        match self {
+            Setting::Profile | Setting::Verbose | Setting::Json | Setting::Help => false,
+            Setting::Output
+            | Setting::Report
+            | Setting::Slots
+            | Setting::Budget
+            | Setting::Store
+            | Setting::Weights
+            | Setting::Steps
+            | Setting::Counts => true,
+        }
+    }
+}
