@@ -1,0 +1,38 @@
+//! Files that are loaded.
+ghost use Rattle.std.specs.Prelude.{◌≡◌, ◌≤◌, length, IfSome};
+
+use crate::answer::Answer;
+use nv_outside::{Files, Loaded};
+use std::alloc::Global;
+
+/// The name that a file has in the system: `-` is the standard input.
+fn path_of(name: &str) -> &str {
+    if name == "-" { "/dev/stdin" } else { name }
+}
+
+/// The bytes of a file of at most so many; where there are none, the answer says why.
+pub fn load<F: Files>(
+    alloc: Global,
+    files: &mut F,
+    name: &str,
+    limit: u64,
+    answer: &mut Answer,
+) -> Option<Vec<u8>>
+    ensures within { IfSome result (λ bytes. length bytes.items ≤ limit) }
+    ensures held { F.held files.new ≡ F.held files.old }
+{
+    let mut bytes = Vec::new(alloc);
+    match files.load(path_of(name), limit, &mut bytes) {
+        Loaded::Done => return Some(bytes),
+        Loaded::TooLong => {
+            let mut it = answer.finding();
+            it.title.put("the file has more than ");
+            it.title.number(limit);
+            it.title.put(" bytes");
+            answer.push(name, it)
+        }
+        Loaded::Failed => answer.fault(name, "the file can't be read"),
+        Loaded::NoMemory => answer.fail(),
+    }
+    None
+}
