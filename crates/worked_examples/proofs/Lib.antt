@@ -1,3 +1,5 @@
 mod ShortCode
 mod ShortForms
+mod ShortStores
+mod ShortTexts
 mod ShortTrees

@@ -1,13 +1,21 @@
--- Short trees, by computing; and what a searched tree proves.
-use Rattle.std.proofs.Common.{refl, ℕ, List, [], ◌∷◌, ◌++◌, Vec, Bool, true, false, Option, Some, ◌⊎◌, inl, inr, slice_set}
+-- A short report and short trees, by computing; and what a searched tree proves.
+use Rattle.std.proofs.Common.{◌≡◌, refl, ℕ, ◌<◌, ◌≤◌, ◌^◌, ℤ, pos, List, [], ◌∷◌, ◌++◌, Vec, Bool, true, false, Option, Some, ◌⊎◌, inl, inr, lit<, lit≤, codes, slice_set, All}
+use Rattle.std.proofs.lemmas.List.Elements.{All-nil, All-cons}
+use Rattle.std.specs.Fmt.{digits}
 use Rattle.std.specs.Global.{Global}
+use Rattle.zo_model.specs.Program.{IsCoefficient}
+use Rattle.zo_model.specs.ProgramText.{IsRowText}
 use Rattle.zo_model.specs.declared.program.ZeroOne.{ZeroOne}
 use Rattle.zo_proof.specs.Certificate.{Tree, leaf, branch, preorder, EachNode, OfLeaf, ClosesLeaf, HasLeft, unfixed}
+use Rattle.zo_proof.specs.Node.{IsNodeText, bound_by}
 use Rattle.zo_proof.specs.Searched.{IsClosed, IsLeftOrDone, reach}
 use Rattle.zo_proof.specs.declared.cert.CertNode.{CertNode}
 use Rattle.zo_proof.specs.declared.cert.CertNode.TheVariants.{Branch, Bound, Clash, Left}
 use Rattle.zo_proof.specs.declared.cert.Claim.{Claim}
-use Rattle.worked_examples.specs.Reports.{SearchProves, DepthFirst, FixedColumns}
+use Rattle.zo_cert.specs.ReportText.{report_text}
+use Rattle.zo_cert.specs.ReportFault.{IsReport, wrong_cost}
+use Rattle.zo_cert.specs.declared.report.Verdict.TheVariants.{Optimal}
+use Rattle.worked_examples.specs.Reports.{ShortReport, SearchProves, DepthFirst, FixedColumns, cheaper_of_two}
 
 pub fixed_columns : FixedColumns
 unfolding reach
@@ -58,3 +66,90 @@ closed_tree z claim (branch j a b) f none (free, h, in_a, in_b) = (
 
 pub search_proves : SearchProves
 search_proves z claim t s none = closed_tree z claim t (unfixed z) none s.leaves_closed
+
+-- ---- the limits of the report
+
+one_is_not_zero : ◌≡◌ {A = ℤ} (pos 1) (pos 0) → ⊥
+one_is_not_zero e = cc
+
+abbrev HasCoefficient : ℕ × ℤ → Type 0
+HasCoefficient t = IsCoefficient t.1
+
+one : IsCoefficient (pos 1)
+one = record { low = record { le = tt }; high = record { le = tt }; not_zero = one_is_not_zero }
+
+row : IsRowText 2 (record { terms = (0, pos 1) ∷ (1, pos 1) ∷ []; least = pos 1 })
+row = record {
+  terms_fit = record {
+    few = lit≤ tt;
+    rise = (lit≤ tt, lit< tt, (lit≤ tt, lit< tt, tt));
+    coefficients_fit = All-cons HasCoefficient (0, pos 1) ((1, pos 1) ∷ []) one (All-cons HasCoefficient (1, pos 1) [] one (All-nil HasCoefficient));
+  };
+  least_fits = record { low = record { le = tt }; high = record { le = tt } };
+}
+
+abbrev IsSmall : ℕ → Type 0
+IsSmall c = c < 2 ^ 20
+
+costs : All IsSmall (3 ∷ 5 ∷ [])
+costs = All-cons IsSmall 3 (5 ∷ []) (lit< tt) (All-cons IsSmall 5 [] (lit< tt) (All-nil IsSmall))
+
+abbrev IsPositive : ℕ × ℕ → Type 0
+IsPositive m = 1 ≤ m.1
+
+abbrev IsWord : ℕ × ℕ → Type 0
+IsWord m = m.1 < 2 ^ 32
+
+bound : IsNodeText (bound_by 1 ((0, 3) ∷ []))
+bound = (
+  lit≤ tt,
+  lit< tt,
+  record { rise = (lit≤ tt, lit< tt, tt); not_zero = All-cons IsPositive (0, 3) [] (lit≤ tt) (All-nil IsPositive) },
+  All-cons IsWord (0, 3) [] (lit< tt) (All-nil IsWord),
+)
+
+limits : IsReport cheaper_of_two
+limits = record {
+  in_limits = record {
+    slots_fit = lit≤ tt;
+    budget_low = lit≤ tt;
+    budget_high = lit≤ tt;
+    program_valid = record {
+      columns_fit = lit≤ tt;
+      rows_fit = lit≤ tt;
+      costs_fit = costs;
+      rows_ok = All-cons (IsRowText 2) (record { terms = (0, pos 1) ∷ (1, pos 1) ∷ []; least = pos 1 }) [] row (All-nil (IsRowText 2));
+    };
+  };
+  one_a_column = refl;
+  blank = tt;
+  some_nodes = lit≤ tt;
+  few_nodes = lit< tt;
+  nodes_fit = All-cons IsNodeText (bound_by 1 ((0, 3) ∷ [])) [] bound (All-nil IsNodeText);
+}
+
+pub short_report : ShortReport
+unfolding report_text digits
+short_report = record {
+  limits = limits;
+  spelled = refl;
+  wrong_cost = wrong_cost (record {
+    slots = 0;
+    budget = 1;
+    program = cheaper_of_two.program;
+    verdict = Optimal;
+    stated = 4;
+    on = true ∷ false ∷ [];
+    back = codes "tree 1" ++ 10 ∷ codes "d 1 0:3" ++ 10 ∷ [];
+    in_limits = limits.in_limits;
+    has_cost = tt;
+    within = lit< tt;
+    one_a_column = refl;
+    not_its_cost = four_is_not_three;
+    spelled = refl;
+    line = refl;
+  });
+}
+  where
+    four_is_not_three : ◌≡◌ {A = ℕ} 4 3 → ⊥
+    four_is_not_three e = cc

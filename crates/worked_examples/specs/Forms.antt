@@ -1,9 +1,19 @@
--- How often short forms enter their labels.
+-- How often short forms enter their labels, and what forms and code do besides moves.
 use Rattle.std.specs.Prelude.{◌≡◌, List, [], ◌∷◌}
 use Rattle.nv_base.specs.Memories.{Memories}
+use Rattle.nv_base.specs.declared.term.Mem.TheVariants.{Sram}
+use Rattle.nv_base.specs.declared.term.Bin.TheVariants.{Add, Sub}
 use Rattle.ssu_ir.specs.Entered.{entered}
-use Rattle.ssu_ir.specs.Examples.{less_of_two}
+use Rattle.ssu_ir.specs.Examples.{sum_of_two, copied_and_added, less_of_two}
 use Rattle.ssu_ir.specs.Tree.{Jump, End, Label}
+use Rattle.ucode_emit.specs.Operations.{code_operations, form_operations}
+use Rattle.ucode_emit.specs.Operations.Operation.{Immediate, Binary, Reading, Writing, Branching, Ending}
+use Rattle.uc_isa.specs.Registers.{failing}
+use Rattle.uc_isa.specs.Worked.{sum_code, moving_code}
+use Rattle.uc_isa.specs.declared.instruction.Cond.TheVariants.{Always}
+use Rattle.nv_base.specs.declared.term.Cmp.TheVariants.{Lt}
+
+-- ---- entries
 
 -- a label that jumps to itself for ever
 abbrev pub forever : List Label
@@ -16,3 +26,13 @@ pub record EntriesByJumps : Type 0 where
   pub one : (p : Memories) → entered less_of_two (5 ∷ 7 ∷ []) p 1 1 ≡ 1
   pub over : (p : Memories) → entered less_of_two (5 ∷ 7 ∷ []) p 9 1 ≡ 1
   pub again : (p : Memories) → entered forever [] p 9 0 ≡ 10
+
+-- ---- operations
+
+-- Copies and accesses to slots are no operations, and a clone is none. A comparison is a difference, and a branch where it fails.
+pub record Operations : Type 0 where
+  pub sum_code_does : code_operations sum_code.list ≡ Binary Add ∷ Ending 0 1 ∷ []
+  pub moves_do_nothing : code_operations moving_code ≡ Ending 0 2 ∷ []
+  pub sum_does : form_operations sum_of_two ≡ Binary Add ∷ Ending 0 1 ∷ []
+  pub copies_do_nothing : form_operations copied_and_added ≡ Immediate ∷ Reading Sram 2 ∷ Immediate ∷ Writing Sram 2 ∷ Binary Add ∷ Ending 0 1 ∷ []
+  pub labels_in_order : form_operations less_of_two ≡ Binary Sub ∷ Branching (failing Lt) ∷ Branching Always ∷ Branching Always ∷ Ending 0 1 ∷ []

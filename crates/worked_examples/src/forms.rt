@@ -1,8 +1,14 @@
 //! Short forms.
-ghost use Rattle.worked_examples.specs.Forms.{EntriesByJumps};
+ghost use Rattle.worked_examples.specs.Forms.{EntriesByJumps, Operations};
 
 /// How often labels are entered.
 #[tactic(auto, using(crate::proofs::ShortForms::entries_by_jumps))]
 pub fn entries_by_jumps()
     ensures { EntriesByJumps }
+{}
+
+/// What code and forms do besides moves.
+#[tactic(auto, using(crate::proofs::ShortForms::operations))]
+pub fn operations()
+    ensures { Operations }
 {}

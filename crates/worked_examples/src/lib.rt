@@ -1,6 +1,8 @@
-//! Worked examples: what definitions give of short codes, forms and trees, each as the contract of a function that does nothing.
+//! Worked examples: what definitions give of short codes, forms, reports, texts and stores, each as the contract of a function that does nothing.
 #![tactic(auto)]
 
 pub mod forms;
 pub mod machine;
 pub mod reports;
+pub mod stores;
+pub mod texts;

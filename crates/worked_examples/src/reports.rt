@@ -1,5 +1,11 @@
-//! Trees that a search gives.
-ghost use Rattle.worked_examples.specs.Reports.{DepthFirst, FixedColumns, SearchProves};
+//! Short reports, and trees that a search gives.
+ghost use Rattle.worked_examples.specs.Reports.{DepthFirst, FixedColumns, SearchProves, ShortReport};
+
+/// The text of a short report, and where it goes wrong with another cost.
+#[tactic(auto, using(crate::proofs::ShortTrees::short_report))]
+pub fn short_report()
+    ensures { ShortReport }
+{}
 
 /// A search that leaves no node open proves what it claims.
 #[tactic(auto, using(crate::proofs::ShortTrees::search_proves))]

@@ -1,0 +1,21 @@
+//! Stores of few files.
+ghost use Rattle.worked_examples.specs.Stores.{CallsInOrder, CountsRise, OnlyThese, SavesReplace};
+
+/// Which calls are some of two, in their order.
+#[tactic(auto, using(crate::proofs::ShortStores::calls_in_order, crate::proofs::ShortStores::only_these))]
+pub fn calls_in_order()
+    ensures parts { CallsInOrder }
+    ensures asked { OnlyThese }
+{}
+
+/// When a count of failures rose.
+#[tactic(auto, using(crate::proofs::ShortStores::counts_rise))]
+pub fn counts_rise()
+    ensures { CountsRise }
+{}
+
+/// What a save changes.
+#[tactic(auto, using(crate::proofs::ShortStores::saves_replace))]
+pub fn saves_replace()
+    ensures { SavesReplace }
+{}
