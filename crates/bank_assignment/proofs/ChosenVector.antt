@@ -5,7 +5,7 @@ use Rattle.std.specs.List.{list_any}
 use Rattle.ssu_ir.specs.Tree.{Label}
 use Rattle.ssu_ir.specs.Single.{single}
 use Rattle.zo_model.specs.Program.{vector, costs_of}
-use Rattle.placement.specs.Plan.{Plan, first, serve}
+use Rattle.placement.specs.Plan.{Plan, home, first, serve, pass}
 use Rattle.placement.specs.Costs.{cost}
 use Rattle.placement.specs.Uses.{Use, uses_of}
 use Rattle.placement.specs.Fits.{is_read_register, is_write_register, served, Fits}
@@ -18,7 +18,7 @@ use Rattle.bank_form.specs.Program.{same_bank}
 use Rattle.bank_prog.specs.Meaning.{on, IsFeasible}
 use Rattle.bank_prog.proofs.LawsColumns.{on-there, chosen-on}
 use Rattle.bank_prog.proofs.LawsCost.{costs-by-name}
-use Rattle.bank_assignment.specs.declared.plan_tables.PlanTables.{PlanTables}
+use Rattle.bank_assignment.specs.declared.plan.PlanTables.{PlanTables}
 use Rattle.bank_assignment.specs.inner.Chosen.{use_at, value_at, bank_of, is_in_bank, preferred_bank, waits, goes_there, names, chosen, IsChosen}
 use Rattle.bank_assignment.specs.inner.PlanTables.{first_told, from_told, at_told, value_told, role_told, point_told, waits_told, goes_told, stays_told, told, AreTold}
 use Rattle.bank_assignment.proofs.FitWords.{map-same}
@@ -33,27 +33,27 @@ and-same : (a b c d : Bool) → a ≡ b → c ≡ d → (a && c) ≡ (b && d)
 and-same a b c d e f = ap (λ z. z && c) e ∙ ap (λ z. b && z) f
 
 begins-same : (labels : List Label) (p : Plan) (t : PlanTables) (k f : ℕ) → AreTold labels p t → nat_eq (first_told t k) f ≡ nat_eq (first p k) f
-begins-same labels p t k f a = ap (λ n. nat_eq n f) (a.firsts k)
+begins-same labels p t k f a = ap (λ n. nat_eq n f) (ap (λ (q : Plan). first q k) a.plan)
 
 waits-same : (labels : List Label) (p : Plan) (t : PlanTables) (k i : ℕ) → AreTold labels p t → waits_told t k i ≡ waits p k i
-waits-same labels p t k i a = ap is_write_register (a.from k i)
+waits-same labels p t k i a = ap is_write_register (ap (λ (q : Plan). (serve q k i).from) a.plan)
 
 goes-same : (labels : List Label) (p : Plan) (t : PlanTables) (k i : ℕ) → AreTold labels p t → goes_told t (value_told t k i) ≡ goes_there p (use_at labels k i).value
-goes-same labels p t k i a = ap (goes_told t) (a.values k i) ∙ ap is_write_register (a.defined (use_at labels k i).value)
+goes-same labels p t k i a = ap (goes_told t) (a.values k i) ∙ ap is_write_register (ap (λ (q : Plan). (home q (use_at labels k i).value).defined) a.plan)
 
 stays-same : (labels : List Label) (p : Plan) (t : PlanTables) (us : List Use) → AreTold labels p t → stays_told t us ≡ list_any (λ u. is_read_register (served p u).from) us
 stays-same labels p t [] a = refl
 stays-same labels p t (u ∷ us) a =
-    ap (λ q. is_read_register q || stays_told t us) (a.from u.point u.operand)
+    ap (λ q. is_read_register q || stays_told t us) (ap (λ (q : Plan). (serve q u.point u.operand).from) a.plan)
     ∙ ap (λ b. is_read_register (served p u).from || b) (stays-same labels p t us a)
 
 pub told-chosen : (labels : List Label) (p : Plan) (t : PlanTables) → AreTold labels p t → (c : Column) → told labels t c ≡ chosen labels p c
-told-chosen labels p t a (Def x h) = ap (is_in_bank h) (a.defined x)
+told-chosen labels p t a (Def x h) = ap (is_in_bank h) (ap (λ (q : Plan). (home q x).defined) a.plan)
 told-chosen labels p t a (Dir k i f) =
     and-same (nat_eq (first_told t k) f) (nat_eq (first p k) f) (waits_told t k i && goes_told t (value_told t k i)) (waits p k i && goes_there p (use_at labels k i).value)
     (begins-same labels p t k f a)
     (and-same (waits_told t k i) (waits p k i) (goes_told t (value_told t k i)) (goes_there p (use_at labels k i).value) (waits-same labels p t k i a) (goes-same labels p t k i a))
-told-chosen labels p t a (Fill x h) = ap (list_any (is_in_bank h)) (a.copied x)
+told-chosen labels p t a (Fill x h) = ap (list_any (is_in_bank h)) (ap (λ (q : Plan). (home q x).copied) a.plan)
 told-chosen labels p t a (Stay x f) =
     and-same (nat_eq (first_told t (point_told t x)) f) (nat_eq (first p (value_at labels x).point) f) (stays_told t (uses_of labels x)) (list_any (λ u. is_read_register (served p u).from) (uses_of labels x))
     (ap (λ k. nat_eq (first_told t k) f) (a.points x) ∙ begins-same labels p t (value_at labels x).point f a)
@@ -68,12 +68,12 @@ told-chosen labels p t a (Srv k i h q) =
     let from = (serve p k i).from in
     let at = (serve p k i).at in
     and-same (is_in_bank h (from_told t k i)) (is_in_bank h from) (same_bank q (preferred_bank (role_told t k i) (bank_of (from_told t k i)) (at_told t k i))) (same_bank q (preferred_bank role (bank_of from) at))
-    (ap (is_in_bank h) (a.from k i))
+    (ap (is_in_bank h) (ap (λ (q : Plan). (serve q k i).from) a.plan))
     (ap (λ r. same_bank q (preferred_bank r (bank_of (from_told t k i)) (at_told t k i))) (a.roles k i)
-    ∙ ap (λ z. same_bank q (preferred_bank role (bank_of z) (at_told t k i))) (a.from k i)
-    ∙ ap (λ z. same_bank q (preferred_bank role (bank_of from) z)) (a.at k i))
-told-chosen labels p t a (PasL k r) = ap (λ o. names o r) (a.l k)
-told-chosen labels p t a (PasS k r) = ap (λ o. names o r) (a.s k)
+    ∙ ap (λ z. same_bank q (preferred_bank role (bank_of z) (at_told t k i))) (ap (λ (q : Plan). (serve q k i).from) a.plan)
+    ∙ ap (λ z. same_bank q (preferred_bank role (bank_of from) z)) (ap (λ (q : Plan). (serve q k i).at) a.plan))
+told-chosen labels p t a (PasL k r) = ap (λ o. names o r) (ap (λ (q : Plan). (pass q k).l) a.plan)
+told-chosen labels p t a (PasS k r) = ap (λ o. names o r) (ap (λ (q : Plan). (pass q k).s) a.plan)
 
 pub all-told : (labels : List Label) (p : Plan) (t : PlanTables) (cs : List Column) → AreTold labels p t → map (told labels t) cs ≡ map (chosen labels p) cs
 all-told labels p t cs a = map-same (told labels t) (chosen labels p) cs (told-chosen labels p t a)

@@ -11,6 +11,7 @@ use Rattle.placement.specs.declared.place.Serve.{Serve}
 use Rattle.placement.specs.declared.place.Pass.{Pass}
 use Rattle.placement.specs.Plan.{Home, first_in, first, serve_in, pass_in}
 use Rattle.placement.specs.Uses.{Access, accesses, Use}
+use Rattle.placement.proofs.Ordered.{RisesFrom, rises-cons, rises-later}
 use Rattle.placement.specs.Fits.{Rises, same_use, IsEighth, at_operand, use_operand}
 use Rattle.zo_model.specs.Program.{cost_where}
 use Rattle.bank_form.specs.declared.column.Column.{Column}
@@ -274,18 +275,6 @@ pass-at on (p ∷ ps) j (suc i) k q e f = pick (pass-at on ps (suc j) i k q (ome
     pick rest (Some a) s = miss (record { point = j; l = Some a; s = s }) apart rest
     pick rest None (Some b) = miss (record { point = j; l = None; s = Some b }) apart rest
     pick rest None None = rest
-
--- rising, and from k on
-pub record RisesFrom (k : ℕ) (xs : List ℕ) : Type 0 where
-  pub rise : Rises xs
-  pub low : Each (λ x. k ≤ x) xs
-
-rises-cons : (k : ℕ) (xs : List ℕ) → RisesFrom (suc k) xs → RisesFrom k (k ∷ xs)
-rises-cons k [] h = record { rise = tt; low = (omega arith, tt) }
-rises-cons k (x ∷ xs) h = let l = h.low.0 in record { rise = (omega arith, h.rise); low = (omega arith, each-weaker (λ y. suc k ≤ y) (λ y. k ≤ y) (x ∷ xs) (λ y m. omega arith) h.low) }
-
-rises-later : (k : ℕ) (xs : List ℕ) → RisesFrom (suc k) xs → RisesFrom k xs
-rises-later k xs h = record { rise = h.rise; low = each-weaker (λ y. suc k ≤ y) (λ y. k ≤ y) xs (λ y m. omega arith) h.low }
 
 pub passes-rise : (on : Chosen) (k : ℕ) (ps : List Point) → RisesFrom k (map (λ q. q.point) (passes_from on k ps))
 passes-rise on k [] = record { rise = tt; low = tt }

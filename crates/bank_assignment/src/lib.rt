@@ -5,5 +5,6 @@
 
 pub mod columns;
 pub mod numbers;
+pub mod plan;
 pub mod plan_tables;
 pub mod reading;

@@ -6,6 +6,7 @@ ghost use Rattle.ssu_ir.specs.View.{labels_view};
 ghost use Rattle.label_weights.specs.Weighted as under_weights;
 ghost use Rattle.placement.specs.Costs as costs;
 ghost use Rattle.placement.specs.Fits.{Fits};
+ghost use Rattle.placement.specs.Order.{IsInOrder};
 ghost use Rattle.placement.specs.Plan.{plan_view};
 ghost use Rattle.zo_model.specs.Program.{vector, costs_of};
 ghost use Rattle.bank_form.specs.Columns as columns;
@@ -30,6 +31,7 @@ fn on_of(
     p: &Placement,
     columns: &[Column],
 ) -> Result<Vec<bool>, NoMemory>
+    requires { IsInOrder (plan_view p.now) }
     ensures { IfOk result (λ v. v.items ≡ map (chosen.chosen (labels_view f.now.ssu.now) (plan_view p.now)) columns.now) }
 {
     let t = plan_tables(alloc, f, p)?;

@@ -2,7 +2,6 @@
 
 ghost use Rattle.std.specs.Prelude.{◌≡◌, ◌+◌, ℕ, nat_eq, map, IfOk, OnOk};
 ghost use Rattle.std.specs.HashMap.{get};
-ghost use Rattle.placement.specs.Fits as fits;
 ghost use Rattle.bank_form.specs.inner.Form.{use_view, value_view, origin_view};
 ghost use Rattle.bank_assignment.specs.inner.ReadOff as pure;
 ghost use Rattle.reg_assign.specs.inner.AssignmentInputs.{labels_in, says_in, numbers_in};
@@ -13,7 +12,7 @@ use bank_assignment::columns::Family;
 use bank_assignment::numbers::BankNumbers;
 use bank_assignment::reading::Reading;
 use bank_prog::{Bank, Origin, Role, Use, Value};
-use nv_base::{Mem, NoMemory};
+use nv_base::NoMemory;
 use placement::Place;
 use std::alloc::Global;
 use std::collections::HashMap;
@@ -38,28 +37,6 @@ fn register(r: &Reading<'_>, k: u32, i: u32) -> Result<u8, NoMemory>
     small(u64::from(r.begins(k)) + u64::from(i))
 }
 
-/// The register into which a word of a read comes.
-fn read_place(m: Mem, i: u8) -> Place
-    ensures { result ≡ fits.read_place m i }
-{
-    match m {
-        Mem::Sram => Place::L(i),
-        Mem::Sdram => Place::LD(i),
-        Mem::Scratch => Place::L(i),
-    }
-}
-
-/// The register from which a word of a write goes.
-fn write_place(m: Mem, i: u8) -> Place
-    ensures { result ≡ fits.write_place m i }
-{
-    match m {
-        Mem::Sram => Place::S(i),
-        Mem::Sdram => Place::SD(i),
-        Mem::Scratch => Place::S(i),
-    }
-}
-
 /// The read register of a read value.
 pub fn origin_place(r: &Reading<'_>, v: Value) -> Result<Place, NoMemory>
     ensures { IfOk result (λ q. q ≡ pure.origin_place (says r.now) v.point (origin_view v.origin)) }
@@ -67,7 +44,7 @@ pub fn origin_place(r: &Reading<'_>, v: Value) -> Result<Place, NoMemory>
     match v.origin {
         Origin::Parameter(_, _) => Ok(Place::Slot(0)),
         Origin::Result => Ok(Place::Slot(0)),
-        Origin::Fetched(m, i) => Ok(read_place(m, register(r, v.point, i)?)),
+        Origin::Fetched(m, i) => Ok(Place::of_read(m, register(r, v.point, i)?)),
     }
 }
 
@@ -76,7 +53,7 @@ pub fn word_place(r: &Reading<'_>, u: Use) -> Result<Place, NoMemory>
     ensures { IfOk result (λ q. q ≡ pure.word_place (says r.now) (use_view u)) }
 {
     match u.role {
-        Role::Written(m, i) => Ok(write_place(m, register(r, u.point, i)?)),
+        Role::Written(m, i) => Ok(Place::of_write(m, register(r, u.point, i)?)),
         Role::Operand => Ok(Place::Slot(0)),
         Role::Address => Ok(Place::Slot(0)),
         Role::Argument(_, _) => Ok(Place::Slot(0)),

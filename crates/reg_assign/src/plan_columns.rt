@@ -3,7 +3,8 @@
 ghost use Rattle.std.specs.Prelude.{◌≡◌, nat_eq, not, ◌&&◌, map, if◌then◌else◌, IfOk};
 ghost use Rattle.std.specs.List.{list_any};
 ghost use Rattle.ssu_ir.specs.View.{labels_view};
-ghost use Rattle.placement.specs.Fits as fits;
+ghost use Rattle.placement.specs.Order.{IsInOrder};
+ghost use Rattle.placement.specs.Plan.{plan_view};
 ghost use Rattle.placement.specs.Uses.{uses_of};
 ghost use Rattle.bank_form.specs.Program as program;
 ghost use Rattle.bank_form.specs.declared.column.Bank.TheVariants.{A15};
@@ -11,7 +12,7 @@ ghost use Rattle.bank_form.specs.inner.Form.{role_view, use_view};
 ghost use Rattle.bank_assignment.specs.inner.Chosen as chosen;
 ghost use Rattle.bank_assignment.specs.inner.PlanTables as tables;
 
-use bank_assignment::plan_tables::PlanTables;
+use bank_assignment::plan::PlanTables;
 use bank_prog::{Bank, Column, Form, Role, Use};
 use nv_base::NoMemory;
 use placement::Place;
@@ -60,34 +61,6 @@ fn is_first(q: Place) -> bool
     }
 }
 
-fn is_write_register(q: Place) -> bool
-    ensures { result ≡ fits.is_write_register q }
-{
-    match q {
-        Place::A(_) => false,
-        Place::B(_) => false,
-        Place::L(_) => false,
-        Place::LD(_) => false,
-        Place::S(_) => true,
-        Place::SD(_) => true,
-        Place::Slot(_) => false,
-    }
-}
-
-fn is_read_register(q: Place) -> bool
-    ensures { result ≡ fits.is_read_register q }
-{
-    match q {
-        Place::A(_) => false,
-        Place::B(_) => false,
-        Place::L(_) => true,
-        Place::LD(_) => true,
-        Place::S(_) => false,
-        Place::SD(_) => false,
-        Place::Slot(_) => false,
-    }
-}
-
 /// The compiler's own register, where a word is brought into the first bank.
 fn brought(q: Place, h: Bank) -> Bank
     ensures { result ≡ (if chosen.is_first q then A15 else h) }
@@ -125,70 +98,56 @@ fn preferred_bank(role: Role, h: Bank, q: Place) -> Bank
 
 // ---- what the tables say
 
-fn defined_of(t: &PlanTables, x: u32) -> Place
+fn defined_of(t: &PlanTables<'_>, x: u32) -> Place
+    requires { IsInOrder (plan_view t.now.placement.now) }
     ensures { result ≡ tables.defined_told t.now x }
 {
-    match t.defined.get(&x) {
-        Some(q) => *q,
-        None => Place::Slot(0),
-    }
+    t.placement.defined_of(x)
 }
 
-fn copied_of(t: &PlanTables, x: u32) -> &[Place]
+fn copied_of<'a>(t: &PlanTables<'a>, x: u32) -> &'a [Place]
+    requires { IsInOrder (plan_view t.now.placement.now) }
     ensures { result.now ≡ tables.copied_told t.now x }
 {
-    match t.copied.get(&x) {
-        Some(qs) => qs,
-        None => &[],
-    }
+    t.placement.copied_of(x)
 }
 
-fn first_of(t: &PlanTables, k: u32) -> u8
+fn first_of(t: &PlanTables<'_>, k: u32) -> u8
+    requires { IsInOrder (plan_view t.now.placement.now) }
     ensures { result ≡ tables.first_told t.now k }
 {
-    match t.firsts.get(&k) {
-        Some(f) => *f,
-        None => 0,
-    }
+    t.placement.first_of(k as u128)
 }
 
-fn from_of(t: &PlanTables, k: u32, i: u32) -> Place
+fn from_of(t: &PlanTables<'_>, k: u32, i: u32) -> Place
+    requires { IsInOrder (plan_view t.now.placement.now) }
     ensures { result ≡ tables.from_told t.now k i }
 {
-    match t.serves.get(&(k, i)) {
-        Some(s) => s.from,
-        None => Place::Slot(0),
-    }
+    t.placement.serve_of(k as u128, i as u128).0
 }
 
-fn at_of(t: &PlanTables, k: u32, i: u32) -> Place
+fn at_of(t: &PlanTables<'_>, k: u32, i: u32) -> Place
+    requires { IsInOrder (plan_view t.now.placement.now) }
     ensures { result ≡ tables.at_told t.now k i }
 {
-    match t.serves.get(&(k, i)) {
-        Some(s) => s.at,
-        None => Place::Slot(0),
-    }
+    t.placement.serve_of(k as u128, i as u128).1
 }
 
-fn l_of(t: &PlanTables, k: u32) -> Option<u8>
+fn l_of(t: &PlanTables<'_>, k: u32) -> Option<u8>
+    requires { IsInOrder (plan_view t.now.placement.now) }
     ensures { result ≡ tables.l_told t.now k }
 {
-    match t.passes.get(&k) {
-        Some(q) => q.l,
-        None => None,
-    }
+    t.placement.pass_of(k as u128).0
 }
 
-fn s_of(t: &PlanTables, k: u32) -> Option<u8>
+fn s_of(t: &PlanTables<'_>, k: u32) -> Option<u8>
+    requires { IsInOrder (plan_view t.now.placement.now) }
     ensures { result ≡ tables.s_told t.now k }
 {
-    match t.passes.get(&k) {
-        Some(q) => q.s,
-        None => None,
-    }
+    t.placement.pass_of(k as u128).1
 }
 
-fn value_of(t: &PlanTables, k: u32, i: u32) -> u32
+fn value_of(t: &PlanTables<'_>, k: u32, i: u32) -> u32
     ensures { result ≡ tables.value_told t.now k i }
 {
     match t.uses.get(&(k, i)) {
@@ -197,7 +156,7 @@ fn value_of(t: &PlanTables, k: u32, i: u32) -> u32
     }
 }
 
-fn role_of(t: &PlanTables, k: u32, i: u32) -> Role
+fn role_of(t: &PlanTables<'_>, k: u32, i: u32) -> Role
     ensures { role_view result ≡ tables.role_told t.now k i }
 {
     match t.uses.get(&(k, i)) {
@@ -206,7 +165,7 @@ fn role_of(t: &PlanTables, k: u32, i: u32) -> Role
     }
 }
 
-fn point_of(t: &PlanTables, x: u32) -> u32
+fn point_of(t: &PlanTables<'_>, x: u32) -> u32
     ensures { result ≡ tables.point_told t.now x }
 {
     match t.points.get(&x) {
@@ -217,19 +176,22 @@ fn point_of(t: &PlanTables, x: u32) -> u32
 
 // ---- columns
 
-fn waits(t: &PlanTables, k: u32, i: u32) -> bool
+fn waits(t: &PlanTables<'_>, k: u32, i: u32) -> bool
+    requires { IsInOrder (plan_view t.now.placement.now) }
     ensures { result ≡ tables.waits_told t.now k i }
 {
-    is_write_register(from_of(t, k, i))
+    from_of(t, k, i).is_written()
 }
 
-fn goes_there(t: &PlanTables, x: u32) -> bool
+fn goes_there(t: &PlanTables<'_>, x: u32) -> bool
+    requires { IsInOrder (plan_view t.now.placement.now) }
     ensures { result ≡ tables.goes_told t.now x }
 {
-    is_write_register(defined_of(t, x))
+    defined_of(t, x).is_written()
 }
 
-fn has_copy(t: &PlanTables, x: u32, h: Bank) -> bool
+fn has_copy(t: &PlanTables<'_>, x: u32, h: Bank) -> bool
+    requires { IsInOrder (plan_view t.now.placement.now) }
     ensures { result ≡ list_any (chosen.is_in_bank h) (tables.copied_told t.now x) }
 {
     let qs = copied_of(t, x);
@@ -241,11 +203,12 @@ fn has_copy(t: &PlanTables, x: u32, h: Bank) -> bool
     false
 }
 
-fn stays(t: &PlanTables, us: &[Use]) -> bool
+fn stays(t: &PlanTables<'_>, us: &[Use]) -> bool
+    requires { IsInOrder (plan_view t.now.placement.now) }
     ensures { result ≡ tables.stays_told t.now (map use_view us.now) }
 {
     for u in us {
-        if is_read_register(from_of(t, u.point, u.operand)) {
+        if from_of(t, u.point, u.operand).is_read() {
             return true;
         }
     }
@@ -261,14 +224,16 @@ fn names(named: Option<u8>, r: u8) -> bool
     }
 }
 
-fn begins(t: &PlanTables, k: u32, f: u8) -> bool
+fn begins(t: &PlanTables<'_>, k: u32, f: u8) -> bool
+    requires { IsInOrder (plan_view t.now.placement.now) }
     ensures { result ≡ nat_eq (tables.first_told t.now k) f }
 {
     first_of(t, k) == f
 }
 
 /// The definition of a value puts the word of a use into its write register.
-fn is_put(t: &PlanTables, k: u32, i: u32, f: u8) -> bool
+fn is_put(t: &PlanTables<'_>, k: u32, i: u32, f: u8) -> bool
+    requires { IsInOrder (plan_view t.now.placement.now) }
     ensures { result ≡ (nat_eq (tables.first_told t.now k) f && (tables.waits_told t.now k i && tables.goes_told t.now (tables.value_told t.now k i))) }
 {
     let begun = begins(t, k, f);
@@ -278,7 +243,8 @@ fn is_put(t: &PlanTables, k: u32, i: u32, f: u8) -> bool
 }
 
 /// The word of a use is copied early into its write register.
-fn is_copied(t: &PlanTables, k: u32, i: u32, f: u8) -> bool
+fn is_copied(t: &PlanTables<'_>, k: u32, i: u32, f: u8) -> bool
+    requires { IsInOrder (plan_view t.now.placement.now) }
     ensures { result ≡ (nat_eq (tables.first_told t.now k) f && (tables.waits_told t.now k i && not (tables.goes_told t.now (tables.value_told t.now k i)))) }
 {
     let begun = begins(t, k, f);
@@ -288,7 +254,8 @@ fn is_copied(t: &PlanTables, k: u32, i: u32, f: u8) -> bool
 }
 
 /// A value stays in its read register.
-fn is_kept(f: &Form<'_>, t: &PlanTables, x: u32, n: u8) -> bool
+fn is_kept(f: &Form<'_>, t: &PlanTables<'_>, x: u32, n: u8) -> bool
+    requires { IsInOrder (plan_view t.now.placement.now) }
     ensures { result ≡ (nat_eq (tables.first_told t.now (tables.point_told t.now x)) n && tables.stays_told t.now (uses_of (labels_view f.now.ssu.now) x)) }
 {
     let begun = begins(t, point_of(t, x), n);
@@ -297,7 +264,8 @@ fn is_kept(f: &Form<'_>, t: &PlanTables, x: u32, n: u8) -> bool
 }
 
 /// A use is served from one bank at another.
-fn is_way(t: &PlanTables, k: u32, i: u32, h: Bank, j: Bank) -> bool
+fn is_way(t: &PlanTables<'_>, k: u32, i: u32, h: Bank, j: Bank) -> bool
+    requires { IsInOrder (plan_view t.now.placement.now) }
     ensures { result ≡ (chosen.is_in_bank h (tables.from_told t.now k i) && program.same_bank j (chosen.preferred_bank (tables.role_told t.now k i) (chosen.bank_of (tables.from_told t.now k i)) (tables.at_told t.now k i))) }
 {
     let q = from_of(t, k, i);
@@ -307,7 +275,8 @@ fn is_way(t: &PlanTables, k: u32, i: u32, h: Bank, j: Bank) -> bool
     from && at
 }
 
-fn is_on(f: &Form<'_>, t: &PlanTables, c: Column) -> bool
+fn is_on(f: &Form<'_>, t: &PlanTables<'_>, c: Column) -> bool
+    requires { IsInOrder (plan_view t.now.placement.now) }
     ensures { result ≡ tables.told (labels_view f.now.ssu.now) t.now c }
 {
     match c {
@@ -327,9 +296,10 @@ fn is_on(f: &Form<'_>, t: &PlanTables, c: Column) -> bool
 pub fn all_on(
     alloc: Global,
     f: &Form<'_>,
-    t: &PlanTables,
+    t: &PlanTables<'_>,
     columns: &[Column],
 ) -> Result<Vec<bool>, NoMemory>
+    requires { IsInOrder (plan_view t.now.placement.now) }
     ensures { IfOk result (λ v. v.items ≡ map (tables.told (labels_view f.now.ssu.now) t.now) columns.now) }
 {
     let mut on = Vec::new(alloc);

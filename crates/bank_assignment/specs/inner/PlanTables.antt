@@ -1,15 +1,10 @@
--- What a placement and its form say, in tables: by variable, point and operand.
+-- What a placement and its form say, the form in tables by operand and variable.
 use Rattle.std.specs.Prelude.{◌≡◌, ℕ, nat_eq, Bool, not, ◌&&◌, List, [], Option, Some, None}
 use Rattle.std.specs.HashMap.{get}
 use Rattle.std.specs.List.{list_any}
-use Rattle.std.specs.declared.vec.Vec.{Vec}
-use Rattle.std.specs.declared.alloc.Global.{Global}
 use Rattle.ssu_ir.specs.Tree.{Label}
 use Rattle.placement.specs.declared.place.Place.{Place}
-use Rattle.placement.specs.declared.place.Place.TheVariants.{Slot}
-use Rattle.placement.specs.declared.place.Pass.{Pass}
-use Rattle.placement.specs.declared.place.Serve.{Serve}
-use Rattle.placement.specs.Plan.{Plan, home, first, serve, pass}
+use Rattle.placement.specs.Plan.{Plan, plan_view, home, first, serve, pass}
 use Rattle.placement.specs.Uses as pure
 use Rattle.placement.specs.Uses.{uses_of}
 use Rattle.placement.specs.Fits.{is_read_register, is_write_register}
@@ -18,7 +13,7 @@ use Rattle.bank_form.specs.declared.form.Use.{Use}
 use Rattle.bank_form.specs.inner.Form.{role_view}
 use Rattle.bank_form.specs.Program.{same_bank}
 use Rattle.bank_prog.specs.Meaning.{Chosen}
-use Rattle.bank_assignment.specs.declared.plan_tables.PlanTables.{PlanTables}
+use Rattle.bank_assignment.specs.declared.plan.PlanTables.{PlanTables}
 use Rattle.bank_assignment.specs.inner.Chosen.{use_at, value_at, bank_of, is_in_bank, preferred_bank, names}
 
 -- ---- what is found in a table, or stands for what isn't there
@@ -30,30 +25,6 @@ abbrev pub known_number : Option ℕ → ℕ
 known_number (Some n) = n
 known_number None = 0
 
-abbrev pub known_place : Option Place → Place
-known_place (Some q) = q
-known_place None = Slot 0
-
-abbrev pub known_places : Option (Vec Place Global) → List Place
-known_places (Some qs) = qs.items
-known_places None = []
-
-abbrev pub known_from : Option Serve → Place
-known_from (Some s) = s.from
-known_from None = Slot 0
-
-abbrev pub known_at : Option Serve → Place
-known_at (Some s) = s.at
-known_at None = Slot 0
-
-abbrev pub known_l : Option Pass → Option ℕ
-known_l (Some q) = q.l
-known_l None = None
-
-abbrev pub known_s : Option Pass → Option ℕ
-known_s (Some q) = q.s
-known_s None = None
-
 abbrev pub known_value : Option Use → ℕ
 known_value (Some u) = u.value
 known_value None = 0
@@ -64,26 +35,29 @@ known_role None = pure.Operand
 
 -- ---- what the tables say
 
+abbrev pub told_plan : PlanTables → Plan
+told_plan t = plan_view t.placement.now
+
 abbrev pub defined_told : PlanTables → ℕ → Place
-defined_told t x = known_place (get nat_eq t.defined x)
+defined_told t x = (home (told_plan t) x).defined
 
 abbrev pub copied_told : PlanTables → ℕ → List Place
-copied_told t x = known_places (get nat_eq t.copied x)
+copied_told t x = (home (told_plan t) x).copied
 
 abbrev pub first_told : PlanTables → ℕ → ℕ
-first_told t k = known_number (get nat_eq t.firsts k)
+first_told t k = first (told_plan t) k
 
 abbrev pub from_told : PlanTables → ℕ → ℕ → Place
-from_told t k i = known_from (get pair_eq t.serves (k, i))
+from_told t k i = (serve (told_plan t) k i).from
 
 abbrev pub at_told : PlanTables → ℕ → ℕ → Place
-at_told t k i = known_at (get pair_eq t.serves (k, i))
+at_told t k i = (serve (told_plan t) k i).at
 
 abbrev pub l_told : PlanTables → ℕ → Option ℕ
-l_told t k = known_l (get nat_eq t.passes k)
+l_told t k = (pass (told_plan t) k).l
 
 abbrev pub s_told : PlanTables → ℕ → Option ℕ
-s_told t k = known_s (get nat_eq t.passes k)
+s_told t k = (pass (told_plan t) k).s
 
 abbrev pub value_told : PlanTables → ℕ → ℕ → ℕ
 value_told t k i = known_value (get pair_eq t.uses (k, i))
@@ -117,13 +91,7 @@ told labels t (PasS k r) = names (s_told t k) r
 
 -- the tables are those of a placement and a form
 pub record AreTold (labels : List Label) (p : Plan) (t : PlanTables) : Type 0 where
-  pub defined : (x : ℕ) → defined_told t x ≡ (home p x).defined
-  pub copied : (x : ℕ) → copied_told t x ≡ (home p x).copied
-  pub firsts : (k : ℕ) → first_told t k ≡ first p k
-  pub from : (k i : ℕ) → from_told t k i ≡ (serve p k i).from
-  pub at : (k i : ℕ) → at_told t k i ≡ (serve p k i).at
-  pub l : (k : ℕ) → l_told t k ≡ (pass p k).l
-  pub s : (k : ℕ) → s_told t k ≡ (pass p k).s
+  pub plan : told_plan t ≡ p
   pub values : (k i : ℕ) → value_told t k i ≡ (use_at labels k i).value
   pub roles : (k i : ℕ) → role_told t k i ≡ (use_at labels k i).role
   pub points : (x : ℕ) → point_told t x ≡ (value_at labels x).point

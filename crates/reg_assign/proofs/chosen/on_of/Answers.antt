@@ -1,13 +1,17 @@
-use Rattle.std.proofs.Common.{◌≡◌, ◌∙◌, Bool, map}
+use Rattle.std.proofs.Common.{◌≡◌, ◌∙◌, Bool, map, subst, sym}
 use Rattle.std.proofs.lemmas.Result.{IfOk-weaker}
 use Rattle.std.specs.declared.vec.Vec.{Vec}
 use Rattle.std.specs.declared.alloc.Global.{Global}
 use Rattle.ssu_ir.specs.View.{labels_view}
+use Rattle.placement.specs.Order.{IsInOrder}
 use Rattle.placement.specs.Plan.{plan_view}
 use Rattle.bank_assignment.specs.inner.Chosen.{chosen}
 use Rattle.bank_assignment.specs.inner.PlanTables.{told}
 use Rattle.bank_assignment.proofs.ChosenVector.{all-told}
 use Rattle.reg_assign.proofs.chosen.on_of.Goals as goal
+
+pub all_on-requires : goal.all_on-requires
+all_on-requires c = subst IsInOrder (sym c.in_ok-t.ensures.plan) c.requires
 
 pub returns : goal.returns
 returns c =

@@ -1,9 +1,13 @@
 use Rattle.std.proofs.Common.{◌∙◌, map, ap}
 use Rattle.ssu_ir.specs.View.{labels_view}
 use Rattle.placement.specs.Plan.{plan_view}
+use Rattle.placement.proofs.Ordered.{fits-in-order}
 use Rattle.bank_assignment.specs.inner.Chosen.{chosen}
 use Rattle.bank_assignment.proofs.ChosenVector.{IsVector, vector-long, vector-feasible, vector-costs, vector-weighted}
 use Rattle.reg_assign.proofs.chosen.vector_of.Goals as goal
+
+pub on_of-requires : goal.on_of-requires
+on_of-requires c = fits-in-order (labels_view c.args.bank.now.form.ssu.now) (plan_view c.args.p.now) c.requires.fits
 
 pub returns : goal.returns
 returns c =
