@@ -9,3 +9,5 @@ pub mod Sizes
 pub mod LeftOut
 pub mod Cheapest
 pub mod Unmade
+pub mod Started
+pub mod Counted

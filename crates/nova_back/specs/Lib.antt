@@ -1,3 +1,4 @@
 pub mod LeftOut
 pub mod Causes
+pub mod Memory
 pub mod inner

@@ -1,3 +1,4 @@
+pub mod Lengths
 pub mod Paired
 pub mod Search
 pub mod Unbuilt

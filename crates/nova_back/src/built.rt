@@ -14,7 +14,8 @@ ghost use Rattle.nova_back.specs.inner.Search.{IsChoice};
 
 use crate::choice::choice_of;
 use crate::error::BackError;
-use bank_prog::{BankTables, bank_tables_of};
+use crate::memory::bounded_tables_of;
+use bank_prog::BankTables;
 use label_weights::Weights;
 use nv_base::NoMemory;
 use reg_assign::assign_by;
@@ -66,7 +67,8 @@ fn code_of(
 ///
 /// # Errors
 ///
-/// The size of the program is looked at first, then whether the search found a choice, and last how long the code is.
+/// The size of the program is looked at first, then whether the search found a choice, and last how long the code is. A form that needs more
+/// memory than `MEMORY_BOUND` by `need_of` is refused as out of memory before its tables are made.
 #[tactic(auto, using(crate::proofs::Reported::light_by))]
 pub fn back(
     alloc: Global,
@@ -96,7 +98,7 @@ pub fn back(
     ensures refused { IfErr result (λ e. (e ≡ BackError.NoMemory) ⊎ IsCause (labels_view s) slots w.now budget store e) }
     ensures only_large { (n : ℕ) → IsTooLarge (labels_view s) slots n → MatchResult result (λ _. ⊥) (λ e. (e ≡ BackError.NoMemory) ⊎ (e ≡ BackError.TooLarge n)) }
 {
-    let bank = bank_tables_of(alloc, &s)?;
+    let bank = bounded_tables_of(alloc, &s)?;
     let report = choice_of(alloc, &bank, slots, budget, w)?;
     let emitted = code_of(alloc, &bank, slots, &report.x)?;
     let instructions = emitted.code.list().len();

@@ -11,6 +11,7 @@ use crate::error::BackError;
 use crate::search::searched;
 use crate::start::start_of;
 use bank_prog::{BankTables, program_of};
+use bank_start::by_next_use;
 use label_weights::Weights;
 use std::alloc::Global;
 use zo_cert::{Report, Verdict};
@@ -33,7 +34,8 @@ fn report_on(
 {
     let z = program_of(alloc, bank, slots, w)?;
     let start = start_of(alloc, bank, slots)?;
-    match searched(alloc, z, start, slots, budget) {
+    let guess = by_next_use(alloc, bank)?;
+    match searched(alloc, z, start, guess, slots, budget) {
         Ok(report) => Ok(report),
         Err(zo_model::NoMemory) => Err(BackError::NoMemory),
     }

@@ -4,9 +4,11 @@
 mod built;
 mod choice;
 mod error;
+mod memory;
 mod paired;
 mod search;
 mod start;
 
 pub use built::{Built, back};
 pub use error::BackError;
+pub use memory::{MEMORY_BOUND, Need, need_of};

@@ -13,7 +13,7 @@ use Rattle.zo_cert.specs.declared.report.Report.{Report}
 use Rattle.zo_cert.specs.declared.report.Verdict.{Verdict}
 use Rattle.zo_cert.specs.declared.report.Verdict.TheVariants.{Optimal, Feasible, Infeasible, Spent}
 use Rattle.zo_solve.specs.Solved.{CostsAtMost}
-use Rattle.zo_state.specs.Vector.{start_cost}
+use Rattle.zo_state.specs.Vector.{IsVector, cost_at, start_cost}
 use Rattle.bank_form.specs.Columns.{columns}
 use Rattle.bank_prog.specs.Weighted.{weighted_costs}
 use Rattle.bank_prog.specs.Meaning.{IsFeasible}
@@ -42,6 +42,11 @@ IsStart labels slots None = IsCrowded labels slots
 abbrev pub IsCheap : List Label → Option Assignment → Type 0
 IsCheap labels (Some x) = (ws : List ℕ) → IsCheapFor labels ws (costs_of (weighted_costs labels ws) (vector x.on.items))
 IsCheap labels None = ⊤
+
+-- what a search begins with in place of the start: a vector that is no dearer, or nothing where there was none
+abbrev pub Betters : ZeroOne → Option Assignment → Option Assignment → Type 0
+Betters z start (Some x) = IsVector z x × CostsAtMost (cost_at z x) (start_cost z start)
+Betters z start None = start ≡ None
 
 -- ---- where it ends
 

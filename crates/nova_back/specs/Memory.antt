@@ -1,0 +1,13 @@
+-- What the choice of banks of a form takes, by counts that are made before its tables.
+use Rattle.std.specs.Prelude.{ℕ, ◌+◌, ◌*◌, List, length}
+use Rattle.ssu_ir.specs.Measures.{total}
+use Rattle.ssu_ir.specs.Points.{Point, points}
+use Rattle.ssu_ir.specs.Tree.{Label}
+
+-- the live values of all points, each counted at each point
+abbrev pub live_total : List Label → ℕ
+live_total labels = total (λ p. length p.before) (points labels)
+
+-- an estimate of the bytes, by what was measured: so many for each point, value and use, and so many for each live value at a point
+abbrev pub bytes_of : ℕ → ℕ → ℕ
+bytes_of size live = 6500 * size + 300 * live
