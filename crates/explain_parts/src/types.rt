@@ -15,6 +15,29 @@ enum Cell {
     Overlay(usize, usize),
 }
 
+/// Which kind of type it is.
+#[derive(Clone, Copy)]
+pub enum TypeClass {
+    Word,
+    Bool,
+    /// A tuple without parts.
+    Nothing,
+    Tuple,
+    Record,
+}
+
+impl TypeClass {
+    /// Whether it is that of bools.
+    pub fn is_bool(self) -> bool {
+        matches!(self, TypeClass::Bool)
+    }
+
+    /// Whether it is that of records.
+    pub fn is_record(self) -> bool {
+        matches!(self, TypeClass::Record)
+    }
+}
+
 /// A part of a tuple, or a field; without a name in a record it stands for the fields of another record.
 #[derive(Clone, Copy)]
 pub struct Part<'a> {
@@ -186,6 +209,17 @@ impl<'a> Types<'a> {
     fn add_parts(&mut self, parts: &[Part<'a>]) {
         if self.parts.extend_from_slice(parts).is_err() {
             self.is_short = true;
+        }
+    }
+
+    /// Which kind of type one is.
+    pub fn class_of(&self, t: usize) -> TypeClass {
+        match self.cell(t) {
+            Cell::Word => TypeClass::Word,
+            Cell::Bool => TypeClass::Bool,
+            Cell::Tuple(from, to) if from >= to => TypeClass::Nothing,
+            Cell::Words(_) | Cell::Tuple(_, _) => TypeClass::Tuple,
+            Cell::Record(_, _) | Cell::Overlay(_, _) => TypeClass::Record,
         }
     }
 

@@ -2,7 +2,7 @@
 
 use crate::expected::Expected;
 use crate::place::Place;
-use crate::slip::Slip;
+use crate::slip::{BIT_RANGE, ONE_LET, Slip};
 
 /// A slip where an operand or an operator is expected.
 pub fn expression_slip(place: &Place, expected: &Expected) -> Option<Slip> {
@@ -45,25 +45,7 @@ fn shift_slip(place: &Place) -> Option<Slip> {
 // Where an operand is expected.
 fn operand_slip(place: &Place) -> Option<Slip> {
     match place.text(0) {
-        b">" if place.is(1, "<") => Slip::before(1, "there is no `<>`", "Write `!=`."),
-        b">" if place.is(1, "-") => Slip::before(
-            1,
-            "there is no `->`",
-            "A store is `sram(ADDRESS) <- VALUE;`, and a dot takes a field.",
-        ),
-        b"|" | b"||" if place.is_among(1, &["=", "(", "[", ","]) => Slip::titled(
-            "there are no closures",
-            "A function is declared at the top: `fun f[x: word]: word { x + 1 }`.",
-        ),
-        b"-" if place.next_is("-") => Slip::help(
-            "A comment begins with `//`. There is no unary minus: write `0 - x`.",
-        ),
-        b"-" => Slip::help("There is no unary minus. Write `0 - x`."),
-        b"&" => Slip::help("There are no pointers: an address is a word."),
-        b"word" | b"bool" => Slip::titled(
-            "a variable has no type",
-            "Write `let x = 5;`. The type is that of the value.",
-        ),
+        b"word" | b"bool" => Slip::titled(UNTYPED, BIND),
         b"fun" | b"layout" | b"exception" => {
             Slip::help(
                 "Declarations stand at the top, not inside a function. A function before may lack its last value or a bracket.",
@@ -79,6 +61,40 @@ fn operand_slip(place: &Place) -> Option<Slip> {
         }
         b"handle" => Slip::help("The block of a `try` ends with a value, without a `;`."),
         b")" | b"]" | b"," | b"}" => ending_slip(place),
+        _ => sign_slip(place),
+    }
+}
+
+const UNTYPED: &str = "a variable has no type";
+
+const BIND: &str = "Write `let x = 5;`. The type is that of the value.";
+
+// A sign in place of an operand.
+fn sign_slip(place: &Place) -> Option<Slip> {
+    match place.text(0) {
+        b">" if place.is(1, "<") => Slip::before(1, "there is no `<>`", "Write `!=`."),
+        b">" if place.is(1, "-") => Slip::before(
+            1,
+            "there is no `->`",
+            "A store is `sram(ADDRESS) <- VALUE;`, and a dot takes a field.",
+        ),
+        b"|" | b"||" if place.is_among(1, &["=", "(", "[", ","]) => Slip::titled(
+            "there are no closures",
+            "A function is declared at the top: `fun f[x: word]: word { x + 1 }`.",
+        ),
+        b"-" if place.next_is("-") => Slip::help(
+            "A comment begins with `//`. There is no unary minus: write `0 - x`.",
+        ),
+        b"-" => Slip::help("There is no unary minus. Write `0 - x`."),
+        b"+" => Slip::help("There is no unary plus. Leave it out."),
+        b"&" if place.is(1, "&&") => Slip::help(
+            "There is no `&&&`. Under a mask a word is compared by `x & 0xf0 == 0x40`.",
+        ),
+        b"&" => Slip::help("There are no pointers: an address is a word."),
+        b"^" if place.is(1, "^") => Slip::help(
+            "There is no `^^`. Between words write `^`, and of bools `a && !b || !a && b`.",
+        ),
+        b"[" => Slip::help("There are no lists. A tuple stands in `( )`, and a table in a memory."),
         _ => None,
     }
 }
@@ -99,8 +115,11 @@ fn ending_slip(place: &Place) -> Option<Slip> {
 
 // Where an operator is expected.
 fn operator_slip(place: &Place) -> Option<Slip> {
+    if place.is(1, ")") && is_after_else(place) {
+        return Slip::help("Write `else if (c) 1 else 2`.");
+    }
     if place.is_among(0, &COMPARISONS) {
-        return Slip::titled("a comparison stands alone", "Write `1 < x && x < 3`.");
+        return comparison_slip(place);
     }
     match place.text(0) {
         b"(" if place.is(2, ".") => Slip::help(
@@ -108,6 +127,10 @@ fn operator_slip(place: &Place) -> Option<Slip> {
         ),
         b"(" if place.is_word(1) => Slip::help(
             "Parameters and arguments stand in `[ ]`, as in `f[1, 2]`.",
+        ),
+        b"[" if place.later(2).is_range() => Slip::titled(
+            "bits of a word have no numbers",
+            BIT_RANGE,
         ),
         b"[" => Slip::help(
             "There are no arrays: the parts of a tuple are named by a pattern, `let (a, b) = t;`.",
@@ -132,14 +155,40 @@ fn operator_slip(place: &Place) -> Option<Slip> {
     }
 }
 
+// A second comparison.
+fn comparison_slip(place: &Place) -> Option<Slip> {
+    if place.is(2, "<") && place.is_among(3, &["bit", "int", "varbit"]) {
+        return Slip::before(3, UNTYPED, BIND);
+    }
+    if place.is_among(2, &["&", "|"]) {
+        return Slip::before(
+            2,
+            "`&` and `|` bind more tightly than a comparison",
+            "Comparisons are joined by `&&` and `||`: `x == 1 && y == 2`.",
+        );
+    }
+    Slip::titled("a comparison stands alone", "Write `1 < x && x < 3`.")
+}
+
+// Whether the brackets before a place follow an `else`.
+fn is_after_else(place: &Place) -> bool {
+    match place.opened(1) {
+        Some(open) => open.is(1, "else") && (place.is_word(0) || place.is_number(0)),
+        None => false,
+    }
+}
+
 // A comma after a value that stands alone.
 fn comma_slip(place: &Place) -> Option<Slip> {
     let Some(open) = place.open_bracket() else {
         return None;
     };
     if open.is(0, "{") {
-        return Slip::help(if place.later(1).is_word(0) && place.later(2).is(0, "=") {
-            "Each variable has a `let` of its own: `let a = 1; let b = 2;`."
+        let is_bound = place.later(1).is_word(0) && place.later(2).is(0, "=");
+        return Slip::help(if is_bound && place.is_among(2, &["{", ";"]) {
+            "Several names stand in `( )`: `let (a, b) = f[];`."
+        } else if is_bound {
+            ONE_LET
         } else {
             "Several values stand in round brackets: `(a, b)`."
         });

@@ -12,6 +12,13 @@ const LOOP: &str =
 const END_OF_LOOP: &str =
     "A loop is a function that calls itself last. It ends where it gives a value in place of the call.";
 
+const END_OF_RUN: &str =
+    "A run ends with the value of `main`, or by an exception without a handler: `raise E[]`.";
+
+const STATE: &str = "A state is a function, and its last act calls the next one: `next[x]`.";
+
+const INNER: &str = "A function is declared at the top: `fun f[x: word]: word { x + 1 }`.";
+
 const NO_SWITCH: &str = "there is no `switch`";
 
 const CHAIN: &str = "Write a chain: `if (x == 1) a else if (x == 2) b else c`.";
@@ -44,6 +51,21 @@ const SEEN: &str = "Leave the word out: all that follows sees what is declared."
 
 const BITS: &str = "A header is a layout: `layout l = { a: 8, b: 24 };`.";
 
+const NAMED_TYPE: &str =
+    "A type has no name of its own: a number is a `word`, and a header a layout, `layout l = { a: 8, b: 24 };`.";
+
+const OVERLAY: &str =
+    "Two readings of the same bits are an overlay: `layout l = { v: overlay { whole: 32 | parts: { a: 16, b: 16 } } };`.";
+
+const NO_METHOD: &str =
+    "There are no methods: a function takes what it works on, as in `fun f[x: word]: word { x }`.";
+
+const ACTION: &str =
+    "What an action or a control does is a function: `fun f[x: word]: word { x }`. A run begins with `main`.";
+
+const TABLE: &str =
+    "A table is words of a memory, and a function that calls itself last looks through it.";
+
 const ONE_TEXT: &str = "A program is one text: nothing is imported.";
 
 const EXCEPTION: &str = "An exception is declared by `exception E[word];`.";
@@ -54,7 +76,7 @@ const HANDLER: &str =
 // Each table has words of other languages, each with a sentence on it, which may be empty, and what helps.
 
 // Words that begin a statement, before the token.
-const STATEMENTS: [(&str, &str, &str); 20] = [
+const STATEMENTS: [(&str, &str, &str); 27] = [
     (
         "return",
         "there is no `return`: the last expression is the value",
@@ -85,6 +107,17 @@ const STATEMENTS: [(&str, &str, &str); 20] = [
     ("then", NO_THEN, CHOICE),
     ("elif", NO_ELIF, CHOICES),
     (
+        "unless",
+        "there is no `unless`",
+        "Write the condition the other way: `if (x != 0) 1 else 2`.",
+    ),
+    ("exit", "there is no `exit`", END_OF_RUN),
+    ("abort", "there is no `abort`", END_OF_RUN),
+    ("transition", "there is no `transition`", STATE),
+    ("lambda", "there are no closures", INNER),
+    ("fn", "a function stands in no other one", INNER),
+    ("def", "a function stands in no other one", INNER),
+    (
         "assert",
         "there is no `assert`",
         "Raise an exception: `if (c) x else raise E[]`.",
@@ -94,7 +127,7 @@ const STATEMENTS: [(&str, &str, &str); 20] = [
 ];
 
 // Words that declare a variable, before its name.
-const BINDINGS: [(&str, &str, &str); 13] = [
+const BINDINGS: [(&str, &str, &str); 22] = [
     ("var", UNBOUND, BIND),
     ("const", UNBOUND, BIND),
     ("val", UNBOUND, BIND),
@@ -108,10 +141,19 @@ const BINDINGS: [(&str, &str, &str); 13] = [
     ("uint8_t", UNBOUND, BIND),
     ("uint16_t", UNBOUND, BIND),
     ("uint32_t", UNBOUND, BIND),
+    ("char", UNBOUND, BIND),
+    ("short", UNBOUND, BIND),
+    ("long", UNBOUND, BIND),
+    ("signed", UNBOUND, BIND),
+    ("float", UNBOUND, BIND),
+    ("double", UNBOUND, BIND),
+    ("size_t", UNBOUND, BIND),
+    ("byte", UNBOUND, BIND),
+    ("Let", UNBOUND, BIND),
 ];
 
 // Operators that are words, after an operand.
-const OPERATORS: [(&str, &str, &str); 8] = [
+const OPERATORS: [(&str, &str, &str); 9] = [
     (
         "and",
         "there is no operator `and`",
@@ -152,6 +194,11 @@ const OPERATORS: [(&str, &str, &str); 8] = [
         "there are no casts",
         "Each number is a word. Of a bool write `if (b) 1 else 0`.",
     ),
+    (
+        "end",
+        "there is no `end`",
+        "A function ends with `}`, and an `if` with the value of its second arm.",
+    ),
 ];
 
 // Words of choices.
@@ -170,7 +217,7 @@ const HANDLERS: [(&str, &str, &str); 3] = [
 ];
 
 // Words that begin a declaration.
-const DECLARATIONS: [(&str, &str, &str); 47] = [
+const DECLARATIONS: [(&str, &str, &str); 57] = [
     ("let", "", CONSTANT),
     ("const", "", CONSTANT),
     ("static", "", CONSTANT),
@@ -196,19 +243,29 @@ const DECLARATIONS: [(&str, &str, &str); 47] = [
     ("proc", "", FUNCTION),
     ("sub", "", FUNCTION),
     ("struct", "", BITS),
-    ("type", "", BITS),
+    ("type", "", NAMED_TYPE),
     ("record", "", BITS),
-    ("typedef", "", BITS),
-    ("enum", "", BITS),
-    ("class", "", BITS),
+    ("typedef", "", NAMED_TYPE),
+    ("enum", "", CONSTANT),
+    ("class", "", NO_METHOD),
+    ("impl", "", NO_METHOD),
+    ("trait", "", NO_METHOD),
+    ("interface", "", NO_METHOD),
     ("header", "", BITS),
-    ("union", "", BITS),
+    ("union", "", OVERLAY),
+    ("action", "", ACTION),
+    ("control", "", ACTION),
+    ("parser", "", ACTION),
+    ("state", "", ACTION),
+    ("table", "", TABLE),
     ("import", "", ONE_TEXT),
     ("include", "", ONE_TEXT),
     ("use", "", ONE_TEXT),
     ("using", "", ONE_TEXT),
     ("require", "", ONE_TEXT),
     ("module", "", ONE_TEXT),
+    ("mod", "", ONE_TEXT),
+    ("namespace", "", ONE_TEXT),
     ("package", "", ONE_TEXT),
     ("error", "", EXCEPTION),
     ("throw", "", EXCEPTION),
@@ -256,6 +313,11 @@ pub fn word_slip(place: &Place, expected: &Expected) -> Option<Slip> {
     if expected.has("handle") {
         return slip_of(place, 0, &HANDLERS);
     }
+    if place.is(0, "in") && place.is_in_let() {
+        return Slip::help(
+            "A `let` ends with `;`, and what follows sees the name: `let y = 5; y + x`.",
+        );
+    }
     if expected.has("+") {
         return slip_of(place, 0, &OPERATORS);
     }
@@ -292,6 +354,16 @@ pub fn declaration_slip(place: &Place) -> Option<Slip> {
     }
     if place.is(0, ";") {
         return Slip::help("Only a `layout` and an `exception` end with `;`.");
+    }
+    if place.is_word(0) && place.next_is("fun") {
+        return Slip::help(SEEN);
+    }
+    if place.is_word(0) && place.next_is("=") {
+        return Slip::help(if place.later(2).is(0, "{") {
+            BITS
+        } else {
+            CONSTANT
+        });
     }
     match slip_of(place, 0, &DECLARATIONS) {
         Some(slip) => Some(slip),

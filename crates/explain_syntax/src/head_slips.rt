@@ -2,7 +2,7 @@
 
 use crate::expected::Expected;
 use crate::place::Place;
-use crate::slip::{NO_ASSIGNMENT, RECORD_ANEW, Slip};
+use crate::slip::{BIT_RANGE, NO_ASSIGNMENT, RECORD_ANEW, Slip};
 
 const ACCESS: &str = "A fetch is `sram[COUNT](ADDRESS)`, a store `sram(ADDRESS) <- VALUE;`.";
 
@@ -44,6 +44,15 @@ fn late_slip(place: &Place, expected: &Expected) -> Option<Slip> {
     }
     if place.is(0, ":") && place.next_is("=") {
         return Slip::help("A variable is bound by `let x = 5;`.");
+    }
+    if place.is_range() {
+        return Slip::titled("bits of a word have no numbers", BIT_RANGE);
+    }
+    if place.is(0, ":") && place.next_is(":") {
+        return Slip::titled(
+            "there is no `::`",
+            "A name is one word. A dot takes a record's field.",
+        );
     }
     if place.is(0, ":") && expected.has("+") {
         return Slip::help(
@@ -198,7 +207,15 @@ fn pattern_slip(place: &Place, expected: &Expected) -> Option<Slip> {
     if place.is(1, ")") && expected.has("=") && place.is(0, ":") {
         return Slip::help("A `let` has no type: `let (a, b) = f[];`.");
     }
-    if expected.has("_") && place.is_among(0, &["{", "["]) {
+    if expected.has("_") && place.is(0, "{") {
+        return Slip::help(
+            "A record is bound by one name, and a dot takes its fields: `let h = unpack[l](w); h.a`.",
+        );
+    }
+    if expected.has("_") && place.is(0, ")") && place.is(1, ",") {
+        return Slip::help("No `,` stands after the last part.");
+    }
+    if expected.has("_") && place.is(0, "[") {
         return Slip::help("Several names stand in `( )`: `let (a, b) = f[];`.");
     }
     None
@@ -227,6 +244,9 @@ fn colon_slip(place: &Place, expected: &Expected) -> Option<Slip> {
     sign_slip(place, expected)
 }
 
+// Words before a parameter in other languages.
+const PASSING: [&str; 7] = ["in", "out", "inout", "const", "mut", "ref", "var"];
+
 // Where a colon is expected.
 fn before_colon_slip(place: &Place) -> Option<Slip> {
     match place.text(0) {
@@ -234,6 +254,11 @@ fn before_colon_slip(place: &Place) -> Option<Slip> {
         b"=" => Slip::help("A colon gives the type or the bits: `{ a: 8 }`."),
         b"}" => Slip::help(
             "A function is `fun f[x: word]: word { x }`. A brace after the colon begins a record's type.",
+        ),
+        _ if place.is_among(1, &PASSING) && place.is_word(0) => Slip::before(
+            1,
+            "a parameter is its name and its type alone",
+            "Leave the word out. What a function changes is a part of its result.",
         ),
         _ => Slip::help(
             "A colon stands between a name and its type or its bits: `x: word`, `a: 8`.",
@@ -256,7 +281,7 @@ fn sign_slip(place: &Place, expected: &Expected) -> Option<Slip> {
         b"=" if expected.has("]") => Slip::help(
             "A parameter has no default: each call gives all arguments.",
         ),
-        b"+" if expected.has("##") => Slip::help("Layouts are joined by `##`."),
+        b"+" | b"{" if expected.has("##") => Slip::help("Layouts are joined by `##`."),
         _ => None,
     }
 }

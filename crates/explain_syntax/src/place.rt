@@ -178,6 +178,45 @@ impl<'a, 't> Place<'a, 't> {
         !open.is(0, "{")
     }
 
+    /// Whether the token is in a `let`, outside the brackets there.
+    pub fn is_in_let(&self) -> bool {
+        for n in (0..self.index).rev() {
+            let place = self.moved(n);
+            if place.is(0, "let") {
+                return true;
+            }
+            if place.is(0, ";") || place.is_among(0, &OPENING) {
+                return false;
+            }
+        }
+        false
+    }
+
+    /// Whether a comment stands between the token and the one before it, on the line of that one.
+    pub fn is_after_comment(&self) -> bool {
+        let from = self.span(1).after as usize;
+        let to = self.span(0).first as usize;
+        for byte in part(self.bytes, from, to) {
+            if *byte == b'\n' {
+                return false;
+            }
+            if *byte == b'/' {
+                return true;
+            }
+        }
+        false
+    }
+
+    /// The bracket that the token so many before it closes.
+    pub fn opened(&self, back: usize) -> Option<Place<'a, 't>> {
+        self.moved(self.index.saturating_sub(back)).open_bracket()
+    }
+
+    /// Whether the token is the colon between two numbers.
+    pub fn is_range(&self) -> bool {
+        self.is(0, ":") && self.is_number(1) && self.later(1).is_number(0)
+    }
+
     /// Whether the token is in the declaration of a layout.
     pub fn is_in_layout(&self) -> bool {
         for n in (0..self.index).rev() {

@@ -66,5 +66,12 @@ impl Slip {
 /// Of an `=` or an arrow that would change a value.
 pub const NO_ASSIGNMENT: &str = "nothing is assigned";
 
+/// What stands in place of a range of bits.
+pub const BIT_RANGE: &str =
+    "Bits 7 to 0 of a word are `x & 0xff`, and bits 15 to 8 `(x >> 8) & 0xff`.";
+
+/// Of several variables that are bound in one statement.
+pub const ONE_LET: &str = "Each variable has a `let` of its own: `let a = 1; let b = 2;`.";
+
 /// What stands in place of a changed field.
 pub const RECORD_ANEW: &str = "A changed record is made anew: `let h = { a = 5, b = h.b };`.";

@@ -5,7 +5,7 @@ use crate::expression_slips::expression_slip;
 use crate::foreign::{declaration_slip, word_slip};
 use crate::head_slips::head_slip;
 use crate::place::Place;
-use crate::slip::{Mark, NO_ASSIGNMENT, RECORD_ANEW, Slip};
+use crate::slip::{Mark, NO_ASSIGNMENT, ONE_LET, RECORD_ANEW, Slip};
 
 /// The slip at a place, or what is said in general.
 pub fn slip_at(place: &Place, expected: &Expected) -> Slip {
@@ -62,6 +62,11 @@ fn number_slip(place: &Place) -> Option<Slip> {
             "there are no octal numbers",
             "Write decimal or hexadecimal digits: `0x1ff`.",
         ),
+        b'w' | b's' => Slip::before(
+            1,
+            "a number has no width",
+            "Write the digits alone: each number is a word.",
+        ),
         b'u' | b'U' | b'l' | b'L' => Slip::before(
             1,
             "a number has no suffix",
@@ -110,6 +115,8 @@ fn statement_slip(place: &Place, expected: &Expected) -> Option<Slip> {
     None
 }
 
+const COMPARED: &str = "The comparisons are `==`, `!=`, `<`, `<=`, `>` and `>=`.";
+
 const BIND_AGAIN: &str =
     "Bind the name again: `let x = x + 1;`. What changes from turn to turn of a loop is a parameter.";
 
@@ -117,10 +124,13 @@ const BIND_AGAIN: &str =
 fn assignment_slip(place: &Place, expected: &Expected) -> Option<Slip> {
     let is_double = place.is_among(0, &["+", "-"]) && place.text(0) == place.text(1);
     if is_double && place.is_joined() && !expected.has("+") {
-        return Slip::before(1, NO_ASSIGNMENT, BIND_AGAIN);
+        return double_slip(place);
     }
     if !place.is(0, "=") {
         return None;
+    }
+    if expected.has("~") && place.is_joined() && place.is_among(1, &["==", "!="]) {
+        return Slip::help(COMPARED);
     }
     if expected.has("~") && place.is_joined() && place.is_among(1, &OPERATORS) {
         return Slip::before(1, NO_ASSIGNMENT, BIND_AGAIN);
@@ -129,7 +139,10 @@ fn assignment_slip(place: &Place, expected: &Expected) -> Option<Slip> {
         return None;
     }
     if place.next_is(">") || place.next_is("!") {
-        return Slip::help("The comparisons are `==`, `!=`, `<`, `<=`, `>` and `>=`.");
+        return Slip::help(COMPARED);
+    }
+    if place.is(2, "=") && place.is_in_let() {
+        return Slip::titled(NO_ASSIGNMENT, ONE_LET);
     }
     if let Some(slip) = named_value_slip(place) {
         return Some(slip);
@@ -147,6 +160,20 @@ fn assignment_slip(place: &Place, expected: &Expected) -> Option<Slip> {
         );
     }
     Slip::titled(NO_ASSIGNMENT, BIND_AGAIN)
+}
+
+// Two signs `++` or `--`.
+fn double_slip(place: &Place) -> Option<Slip> {
+    let next = place.later(1);
+    let is_between = place.is_word(2) || place.is_number(2) || place.is_among(2, &[")", "]"]);
+    if is_between && (next.is_word(0) || next.is_number(0) || next.is(0, "(")) && place.is(0, "+") {
+        return Slip::before(
+            1,
+            "there is no `++`",
+            "Parts of a word are put together by a shift: `(a << 16) | b`.",
+        );
+    }
+    Slip::before(1, NO_ASSIGNMENT, BIND_AGAIN)
 }
 
 // Arguments and packed fields with names, outside a record.
@@ -214,6 +241,9 @@ fn semicolon_slip(place: &Place, expected: &Expected) -> Option<Slip> {
     if place.is(1, ";") {
         return Slip::help("One `;` is enough.");
     }
+    if let Some(slip) = raised_slip(place) {
+        return Some(slip);
+    }
     if !expected.has("+") || place.is_in_brackets() {
         return None;
     }
@@ -230,8 +260,22 @@ fn semicolon_slip(place: &Place, expected: &Expected) -> Option<Slip> {
     )
 }
 
+// A `raise` that ends with a `;`.
+fn raised_slip(place: &Place) -> Option<Slip> {
+    let open = place.opened(1)?;
+    if !place.is(1, "]") || !open.is(2, "raise") {
+        return None;
+    }
+    Slip::help("A `raise` ends its block or arm: no `;` and nothing else follows it.")
+}
+
 // A statement that hasn't ended.
 fn unended_slip(place: &Place) -> Option<Slip> {
+    if place.is_after_comment() {
+        return Slip::gap(
+            "A `let` and a store end with `;`, and `//` begins a comment. A quotient by a power of two is a shift: `x >> 3`.",
+        );
+    }
     if place.is_on_new_line() || place.is(0, "let") {
         return Slip::gap("A `let` and a store end with `;`.");
     }
@@ -279,12 +323,18 @@ fn end_help(expected: &Expected) -> &'static str {
 
 // By what may stand there.
 fn kind_help(place: &Place, expected: &Expected) -> &'static str {
-    if expected.has("bool") {
+    if expected.has("bool") && place.is(0, "[") || place.is(2, "word") && place.is(1, "[") {
+        "Several words are a type by their number, as in `word[4]`. A table stands in a memory."
+    } else if expected.has("bool") && place.is(0, "&") {
+        "There are no pointers: an address is a word."
+    } else if expected.has("bool") {
         "Types are `word` of 32 bits, `bool`, tuples, records, `packed(l)` and `unpacked(l)`."
     } else if place.is(0, "_") {
         "`_` is a pattern, and no name of a parameter or a value."
     } else if expected.has("x") && place.is_word(0) && !expected.has("~") {
         "A keyword is no name. Choose another name."
+    } else if expected.has("+") && place.is_word(0) && place.is_word(1) && !place.is_in_brackets() {
+        "Between two values stands an operator. A call is `f[x, 1]`."
     } else if expected.has("+") {
         "Between two values stands an operator or a comma."
     } else {
@@ -302,6 +352,8 @@ pub fn byte_advice(front: &[u8], rest: &[u8]) -> &'static str {
         "A program is one text: nothing is imported, and there are no macros."
     } else if front.is_empty() && rest.starts_with(b"\xef\xbb\xbf") {
         "A byte order mark stands before the program. Save the text without it."
+    } else if rest.starts_with(b"?;") || rest.starts_with(b"?.") || rest.starts_with(b"?)") {
+        "An exception needs no sign: it ends what is under way, up to its handler."
     } else if rest.starts_with(b"*") && !ends_with_operand(front) {
         "There are no pointers: an address is a word, and `sram[1](at)` fetches the word there."
     } else {

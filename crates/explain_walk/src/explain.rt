@@ -4,7 +4,7 @@ use crate::walk::{Shape, Walk};
 use explain_parts::expected::{ExpectedType, Why};
 use explain_parts::names::{add_all_names, add_names, stands_before};
 use explain_parts::nearest::push_nearest;
-use explain_parts::types::{BOOL, Part, WORD};
+use explain_parts::types::{Part, WORD};
 use nv_ast::{Expr, Fun, Kind, Name, Pat, Span, TyText};
 use nv_base::Mem;
 
@@ -51,7 +51,7 @@ impl<'a> Walk<'a> {
         if self.explain_difference(expected, value) {
             return;
         }
-        self.note_expected(expected);
+        self.note_expected(expected, value);
         match value {
             Some(t) => {
                 self.note_type("found", t);
@@ -62,12 +62,13 @@ impl<'a> Walk<'a> {
     }
 
     // What is expected of a value.
-    fn note_expected(&mut self, expected: ExpectedType<'a>) {
+    fn note_expected(&mut self, expected: ExpectedType<'a>, value: Option<usize>) {
         match expected {
             ExpectedType::Typed(t, why) => {
                 self.note_type("expected", t);
                 why.push(&mut self.note);
-                self.advise(why.advice(t == BOOL));
+                let advice = self.advice_on(why, t, value.unwrap_or(WORD));
+                self.advise(advice);
             }
             ExpectedType::Stored => {
                 self.note
@@ -91,9 +92,14 @@ impl<'a> Walk<'a> {
             _ => false,
         };
         if is_told {
-            self.advise(why.advice(false));
+            let advice = self.advice_on(why, t, found);
+            self.advise(advice);
         }
         is_told
+    }
+
+    fn advice_on(&self, why: Why<'a>, expected: usize, found: usize) -> &'static str {
+        why.advice(self.types.class_of(expected), self.types.class_of(found))
     }
 
     // What helps against another type than is wanted.
@@ -386,6 +392,10 @@ impl<'a> Walk<'a> {
             self.advice = Some("");
             return self.note_name(name, "is an exception: write `raise E[..]`");
         }
+        if let Some(advice) = foreign_function_advice(name.bytes()) {
+            self.advice = Some(advice);
+            return;
+        }
         push_nearest(self.alloc, &mut self.note, name, self.functions.names())
     }
 
@@ -472,9 +482,19 @@ impl<'a> Walk<'a> {
             16 => {
                 self.note_type("expected", t);
                 self.note.line(", as the value has");
+                self.advise_on_pattern(t);
                 self.note_parts(p, t)
             }
             _ => {}
+        }
+    }
+
+    // 16: how the fields of a record are taken.
+    fn advise_on_pattern(&mut self, t: usize) {
+        if self.types.class_of(t).is_record() {
+            self.advice = Some(
+                "A record is bound by one name, and a dot takes its fields: `let h = unpack[l](w); h.a`.",
+            );
         }
     }
 
@@ -553,6 +573,33 @@ fn foreign_advice(name: &[u8]) -> Option<&'static str> {
         )
     } else if is_named(name, &["True", "False", "TRUE", "FALSE"]) {
         Some("The bools are `true` and `false`.")
+    } else if is_named(name, &["NULL", "null", "None", "nil"]) {
+        Some(
+            "There is no null: 0 is a word like others, and an exception tells that nothing is there.",
+        )
+    } else if is_named(name, &["pass"]) {
+        Some("A block that does nothing has the value `()`.")
+    } else {
+        None
+    }
+}
+
+// What helps where a function of another language's library is called.
+fn foreign_function_advice(name: &[u8]) -> Option<&'static str> {
+    if is_named(name, &["ntohs", "ntohl", "htons", "htonl"]) {
+        Some("No bytes are swapped: a word's first byte is its highest, as in a packet.")
+    } else if is_named(name, &["min", "max", "abs"]) {
+        Some(
+            "There is no library. Declare it: `fun min[a: word, b: word]: word { if (a < b) a else b }`.",
+        )
+    } else if is_named(name, &["sizeof", "len"]) {
+        Some("A layout has the bits of its fields: their sum is a number that you write.")
+    } else if is_named(name, &["memcpy", "memset", "memcmp"]) {
+        Some("There is no library. Words are fetched and stored: `sram(to) <- sram[4](from);`.")
+    } else if is_named(name, &["print", "printf"]) {
+        Some(
+            "Nothing is printed: a run ends with the value of `main` and with what the memories hold.",
+        )
     } else {
         None
     }

@@ -177,7 +177,7 @@ impl<'a> Walk<'a> {
         let Kind::Binary(op, a, b) = kind else {
             return ExprFacts::NONE;
         };
-        let expected = ExpectedType::Typed(operand_of(*op), Why::Operand);
+        let expected = ExpectedType::Typed(operand_of(*op), Why::of_operator(*op));
         let left = self.expr(expected, a);
         let right = self.expr(expected, b);
         self.found(Some(result_of(*op)), left.cost.beside(right.cost))
