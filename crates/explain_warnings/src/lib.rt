@@ -1,0 +1,13 @@
+//! Warnings on a program without a fault: names that nobody uses, numbers that don't fit their field, reads whose words
+//! nobody uses, and conditions that are always one way.
+#![tactic(auto)]
+
+mod conditions;
+mod lint;
+mod packing;
+mod uses;
+mod walk;
+mod warning;
+mod warnings;
+
+pub use warnings::{push_warnings, push_warnings_as};

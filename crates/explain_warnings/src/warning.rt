@@ -1,0 +1,39 @@
+//! A warning.
+
+use nv_ast::{Name, Span};
+
+/// What a warning is about.
+#[derive(Clone, Copy)]
+pub enum Cause<'a> {
+    /// A variable that isn't used.
+    Variable(&'a Name),
+    /// A parameter that isn't used.
+    Parameter(&'a Name),
+    /// A function that `main` doesn't reach.
+    Function(&'a Name),
+    /// An exception that isn't raised.
+    Exception(&'a Name),
+    /// A layout that isn't used.
+    Layout(&'a Name),
+    /// A number that needs more bits than its field has.
+    Wide(&'a Name, u32, u32),
+    /// A read of which no word is used.
+    Read,
+    /// A condition that is always one way.
+    Condition(bool),
+}
+
+/// What a warning is about, and where; of a name, the stretch of the source in which it is first.
+#[derive(Clone, Copy)]
+pub struct Warning<'a> {
+    pub cause: Cause<'a>,
+    pub span: Span,
+}
+
+/// A call of a function in another one.
+#[derive(Clone, Copy)]
+pub struct Call<'a> {
+    pub caller: &'a Name,
+    pub callee: &'a Name,
+    pub span: Span,
+}
