@@ -1,0 +1,5 @@
+mod WordsProved
+mod MessagesProved
+mod MachineProved
+mod AnswersProved
+mod SentencesProved

@@ -1,0 +1,5 @@
+pub mod Words
+pub mod Messages
+pub mod Machine
+pub mod Answers
+pub mod Sentences

@@ -1,0 +1,20 @@
+//! Words of commands.
+ghost use Rattle.command_laws.specs.Words.{CompileWords, FilesOfCommands, OtherWords};
+
+/// The words of `compile` with its options.
+#[tactic(auto, using(crate::proofs::WordsProved::compile_words))]
+pub fn compile_words()
+    ensures { CompileWords }
+{}
+
+/// The words of other commands.
+#[tactic(auto, using(crate::proofs::WordsProved::other_words))]
+pub fn other_words()
+    ensures { OtherWords }
+{}
+
+/// What commands read and save.
+#[tactic(auto, using(crate::proofs::WordsProved::files_of_commands))]
+pub fn files_of_commands()
+    ensures { FilesOfCommands }
+{}
