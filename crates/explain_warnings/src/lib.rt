@@ -10,4 +10,4 @@ mod walk;
 mod warning;
 mod warnings;
 
-pub use warnings::{push_warnings, push_warnings_as};
+pub use warnings::push_warnings_as;

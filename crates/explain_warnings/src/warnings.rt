@@ -19,12 +19,7 @@ struct Text<'n, 's, 't> {
     form: Form,
 }
 
-/// Appends the warnings of a source without a fault, in the order of their places, and gives how many there are.
-pub fn push_warnings(alloc: Global, out: &mut Message, name: &str, bytes: &[u8]) -> usize {
-    push_warnings_as(alloc, out, Form::Text, name, bytes)
-}
-
-/// The same in a form.
+/// Appends the warnings of a source without a fault in a form, in the order of their places, and gives how many there are.
 pub fn push_warnings_as(
     alloc: Global,
     out: &mut Message,
@@ -219,8 +214,8 @@ fn push_sorted(alloc: Global, out: &mut Message, text: Text, warnings: &[Warning
     }
 }
 
-// The number of the warning that comes after one: warnings stand in the order of their places, and at one place in the order in which
-// they were found.
+// The number of the warning that comes after one: warnings stand in the order of their places. Of those at one place the one that was
+// found last comes first, as the names of a pattern are found from the last to the first.
 fn next_place(warnings: &[Warning], after: Option<usize>) -> Option<usize> {
     let mut next = None;
     for n in 0..warnings.len() {
@@ -238,7 +233,7 @@ fn comes_after(warnings: &[Warning], n: usize, other: Option<usize>) -> bool {
     };
     let one = first_of(warnings, n);
     let place = first_of(warnings, other);
-    one > place || one == place && n > other
+    one > place || one == place && n < other
 }
 
 fn first_of(warnings: &[Warning], n: usize) -> u32 {
