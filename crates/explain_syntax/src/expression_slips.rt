@@ -72,6 +72,9 @@ const BIND: &str = "Write `let x = 5;`. The type is that of the value.";
 // A sign in place of an operand.
 fn sign_slip(place: &Place) -> Option<Slip> {
     match place.text(0) {
+        b">" if place.is(1, "<=") => Slip::help(
+            "The comparisons are `==`, `!=`, `<`, `<=`, `>` and `>=`.",
+        ),
         b">" if place.is(1, "<") => Slip::before(1, "there is no `<>`", "Write `!=`."),
         b">" if place.is(1, "-") => Slip::before(
             1,
@@ -103,6 +106,9 @@ fn sign_slip(place: &Place) -> Option<Slip> {
 fn ending_slip(place: &Place) -> Option<Slip> {
     if place.is(1, ",") {
         return Slip::help("No `,` stands after the last part.");
+    }
+    if place.is(1, "else") {
+        return Slip::help("The second arm is missing: write `()` where it gives nothing.");
     }
     if place.is(0, "}") && place.is(1, "{") {
         return Slip::help("A block has a value. That of nothing is `()`.");

@@ -313,6 +313,14 @@ pub fn word_slip(place: &Place, expected: &Expected) -> Option<Slip> {
     if expected.has("handle") {
         return slip_of(place, 0, &HANDLERS);
     }
+    if place.is(0, "finally") {
+        return Slip::help("After its handler a `try` is over: write what follows after it.");
+    }
+    if place.is(0, "(") && place.is(1, "]") && place.is_number(2) && is_memory_like(place) {
+        return Slip::help(
+            "The memories are `sram`, `sdram` and `scratch`: a fetch is `sram[COUNT](ADDRESS)`.",
+        );
+    }
     if place.is(0, "in") && place.is_in_let() {
         return Slip::help(
             "A `let` ends with `;`, and what follows sees the name: `let y = 5; y + x`.",
@@ -329,7 +337,7 @@ fn slip_before(place: &Place) -> Option<Slip> {
     if place.is(0, ".") {
         return None;
     }
-    if place.is(1, "mut") && place.is(2, "let") {
+    if place.is(1, "mut") && place.is_among(2, &["let", "(", ","]) {
         return Slip::before(
             1,
             "there is no `mut`",
@@ -342,6 +350,11 @@ fn slip_before(place: &Place) -> Option<Slip> {
         }
     }
     slip_of(place, 1, &STATEMENTS)
+}
+
+// Whether a name with a number in square brackets stands before a place.
+fn is_memory_like(place: &Place) -> bool {
+    place.is(3, "[") && place.is_word(4) && !place.is_among(4, &["sram", "sdram", "scratch"])
 }
 
 /// A word of another language where a declaration is expected.

@@ -84,6 +84,11 @@ fn access_slip(place: &Place, expected: &Expected) -> Option<Slip> {
             "Write the layout's name and the value: `unpack[LAYOUT](w)`, `pack[LAYOUT]({ .. })`.",
         );
     }
+    if place.is_among(1, &["packed", "unpacked"]) {
+        return Slip::help(
+            "The types of a layout are `packed(l)`, its words, and `unpacked(l)`, the record of its fields.",
+        );
+    }
     if place.is(2, "raise") {
         return Slip::help("Values stand in `[ ]`, also where there are none: `raise E[]`.");
     }
@@ -252,6 +257,7 @@ fn before_colon_slip(place: &Place) -> Option<Slip> {
     match place.text(0) {
         b"," | b"]" => Slip::help("A parameter has a type: `fun f[x: word]`."),
         b"=" => Slip::help("A colon gives the type or the bits: `{ a: 8 }`."),
+        b"<" => Slip::help("A field is its name, a colon and its bits: `a: 8`."),
         b"}" => Slip::help(
             "A function is `fun f[x: word]: word { x }`. A brace after the colon begins a record's type.",
         ),

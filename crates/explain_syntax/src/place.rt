@@ -192,15 +192,15 @@ impl<'a, 't> Place<'a, 't> {
         false
     }
 
-    /// Whether a comment stands between the token and the one before it, on the line of that one.
-    pub fn is_after_comment(&self) -> bool {
+    /// Whether a comment with a `;` stands between the token and the one before it, on the line of that one.
+    pub fn is_after_commented_end(&self) -> bool {
         let from = self.span(1).after as usize;
         let to = self.span(0).first as usize;
         for byte in part(self.bytes, from, to) {
             if *byte == b'\n' {
                 return false;
             }
-            if *byte == b'/' {
+            if *byte == b';' {
                 return true;
             }
         }

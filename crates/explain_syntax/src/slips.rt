@@ -271,7 +271,7 @@ fn raised_slip(place: &Place) -> Option<Slip> {
 
 // A statement that hasn't ended.
 fn unended_slip(place: &Place) -> Option<Slip> {
-    if place.is_after_comment() {
+    if place.is_after_commented_end() {
         return Slip::gap(
             "A `let` and a store end with `;`, and `//` begins a comment. A quotient by a power of two is a shift: `x >> 3`.",
         );
@@ -354,6 +354,8 @@ pub fn byte_advice(front: &[u8], rest: &[u8]) -> &'static str {
         "A byte order mark stands before the program. Save the text without it."
     } else if rest.starts_with(b"?;") || rest.starts_with(b"?.") || rest.starts_with(b"?)") {
         "An exception needs no sign: it ends what is under way, up to its handler."
+    } else if rest.starts_with(b"*/") {
+        "A comment is `// ..` up to the line's end. There is no `/* .. */`."
     } else if rest.starts_with(b"*") && !ends_with_operand(front) {
         "There are no pointers: an address is a word, and `sram[1](at)` fetches the word there."
     } else {
