@@ -31,4 +31,6 @@ mod spilled;
 #[cfg(test)]
 mod texts;
 #[cfg(test)]
+mod traces;
+#[cfg(test)]
 mod types;
