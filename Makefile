@@ -1,6 +1,6 @@
 # What people type. The proofs are checked by Rattle's command `rt`, which has to be on the path.
 PREFIX ?= /usr/local
-PROGRAMS = novac nova_forms nova_explain
+PROGRAMS = nova novac nova_forms nova_explain
 BUILT = $(foreach it,$(PROGRAMS),crates/$(it)/out/$(it))
 
 .PHONY: all test rows check bench install clean
@@ -31,6 +31,9 @@ bench: all
 install: all
 	install -d $(DESTDIR)$(PREFIX)/bin
 	install $(BUILT) $(DESTDIR)$(PREFIX)/bin
+	install -d $(DESTDIR)$(PREFIX)/share/man/man1 $(DESTDIR)$(PREFIX)/share/bash-completion/completions
+	install -m 644 docs/man/nova.1 docs/man/novac.1 $(DESTDIR)$(PREFIX)/share/man/man1
+	install -m 644 editors/nova.bash $(DESTDIR)$(PREFIX)/share/bash-completion/completions/nova
 
 clean:
 	rm -rf crates/*/out

@@ -278,6 +278,15 @@ def add_call(row, base, words, output):
     row.calls.append(Call([words[0], *(names.get(it, it) for it in words[1:])], 0, output, saved))
 
 
+def add_nova_call(row, base, words, output):
+    """The same of the program nova, whose first word isn't among these; its options are no files."""
+    files = [it for it in words[1:] if not it.startswith("-")]
+    add_call(row, base, [words[0], *files], output)
+    names = {it: os.path.basename(it) for it in files}
+    row.calls[-1].words = ["nova", words[0], *(names.get(it, it) for it in words[1:])]
+    row.calls[-1].errors = ANY
+
+
 def command_lines(top):
     """README: each line of a block of kind `sh` that calls the program, built or by `rt`; a block of kind `outcome` is the
     whole output of the last one."""
@@ -286,13 +295,17 @@ def command_lines(top):
         if kind == "outcome":
             found[-1].calls[-1].output = text.encode()
         for line in text.split("\n") if kind == "sh" else []:
-            call = re.search(r"(?:out/novac|rt (?:run|try) --) ([^)]*)", line)
+            call = re.search(r"(?:out/(novac|nova)|cd crates/(novac|nova) && rt (?:run|try) --) ([^)]*)", line)
             if not call:
                 continue
-            row = Row(f"README.md:{first}", call[1])
+            row = Row(f"README.md:{first}", call[3])
             # `rt` runs in the folder of the program's crate.
-            base = os.path.join(top, "crates", "novac") if " rt " in line else top
-            add_call(row, base, [it.removeprefix("$PWD/") for it in call[1].split()], ANY)
+            base = os.path.join(top, "crates", call[2]) if call[2] else top
+            add = add_nova_call if "nova" in (call[1], call[2]) else add_call
+            add(row, base, [it.removeprefix("$PWD/") for it in call[3].split()], ANY)
+            if row.calls[-1].words[1:2] == ["list"]:
+                row.calls = found[-1].calls + row.calls
+                row.files = found[-1].files
             found.append(row)
     return found
 

@@ -68,7 +68,7 @@ def is_like(wanted, found):
 
 
 # Programs beside novac that a call may name as its first word: where they are.
-BESIDE = {"nova_explain": "nova_explain"}
+BESIDE = {"nova": "nova", "nova_explain": "nova_explain"}
 
 
 def command(novac, words):
@@ -80,8 +80,10 @@ def command(novac, words):
 class Call:
     """One run of the program and what has to come of it."""
 
-    def __init__(self, words, status=None, output=b"", saved=None):
-        self.words, self.status, self.output, self.saved = words, status, output, saved or {}
+    def __init__(self, words, status=None, output=b"", saved=None, errors=b""):
+        self.given = words[-1] if words[-2:-1] == ["<"] else None
+        self.words = words[:-2] if self.given else words
+        self.status, self.output, self.saved, self.errors = status, output, saved or {}, errors
 
 
 class Row:
@@ -102,14 +104,15 @@ class Row:
         return []
 
     def of_call(self, call, novac, folder, wanted):
-        ran = subprocess.run(command(novac, call.words), cwd=folder, stdin=subprocess.DEVNULL, capture_output=True, timeout=SECONDS)
+        with open(os.path.join(folder, call.given) if call.given else os.devnull, "rb") as given:
+            ran = subprocess.run(command(novac, call.words), cwd=folder, stdin=given, capture_output=True, timeout=SECONDS)
         found = []
         if ran.returncode != call.status:
             found.append(f"status {ran.returncode}, wanted {call.status}")
         if call.output is not ANY and not is_like(call.output, ran.stdout):
             found.append(f"output:{shown(ran.stdout)}\nwanted:{shown(call.output)}")
-        if ran.stderr:
-            found.append(f"standard error:{shown(ran.stderr)}")
+        if call.errors is not ANY and not is_like(call.errors, ran.stderr):
+            found.append(f"standard error:{shown(ran.stderr)}\nwanted:{shown(call.errors)}")
         for name, data in call.saved.items():
             if data is ANY:
                 data = contents(folder).get(name, ABSENT)
@@ -161,6 +164,13 @@ class Reader:
                 break
         return data
 
+    def errors(self, line):
+        """The line of the standard error, and those after it, which begin with '! ' too."""
+        data = unescaped(line[2:]) + b"\n"
+        while self.at < len(self.lines) and re.match(r"!( |$)", self.lines[self.at]):
+            data += unescaped(self.take()[2:]) + b"\n"
+        return data
+
     def given(self, text):
         """What behind a name and its colon gives the file's bytes."""
         return value(text.strip(" ") if text[:2] in (" %", " @") else text[1:], self.top) if text else self.block()
@@ -183,6 +193,8 @@ class Reader:
             row.calls.append(Call([]))
         elif status:
             self.answer(row, status[1], status[2] or "")
+        elif re.match(r"!( |$)", line):
+            row.calls[-1].errors = self.errors(line)
         elif match:
             files = row.calls[-1].saved if match[1] else row.files
             files[match[2].strip("'")] = self.given(match[3])

@@ -1,16 +1,20 @@
 """Rows on what stands beside the program: the files for editors, examples/packet and examples/check_report; and on reports and made
 sources, whose answers have to agree with one another."""
+import html
 import importlib.machinery
 import json
 import os
 import re
+import shutil
 import struct
 import subprocess
 import sys
 import tempfile
 import types
+import zipfile
 
 import pages
+from rows import BESIDE, contents
 
 
 class ToolRow:
@@ -40,6 +44,72 @@ class ReportRow:
         found = [] if checked == again == " ".join(compiled[2:]) + "\n" else [f"{compiled}, {checked!r}, {again!r}"]
         cost = sum(move_cost(line.split()) for line in said(novac, "dis", "o").splitlines())
         return found if cost <= int(compiled[3]) else [*found, f"the moves cost {cost}, above {compiled[3]}"]
+
+
+class SameRow:
+    """The object and the report that `nova build` saves of an example are those of `compile`, its summary counts what the listing
+    marks, and `nova run` prints of the source and of the object what `run` does."""
+
+    where = "tests/tools.py"
+
+    def __init__(self, example, top):
+        self.name, self.example, self.top = f"nova on {example} as novac", os.path.join(top, "examples", example), top
+
+    def differences(self, novac, at):
+        def said(*words):
+            return subprocess.run(words, cwd=at, capture_output=True, text=True, timeout=60).stdout
+
+        nova, memory = BESIDE["nova"], self.example.removesuffix("nova") + "mem"
+        compiled = said(novac, "compile", self.example, "o", "r").split()
+        built = said(nova, "build", self.example, "-o", "p", "--report", "q")
+        found = [f"{b} isn't {a}" for a, b in ("op", "rq") if contents(at)[a] != contents(at)[b]]
+        listing = said(nova, "list", self.example)
+        marks = [len(re.findall(f"; {mark}$", listing, re.M)) for mark in ("move between banks", "move", "literal", "spill")]
+        verdict = {"optimal": "optimal", "feasible": f"at most {(re.search('at most ([0-9]+) above', built) or ' ?')[1]} above the least"}[compiled[2]]
+        counted = [f"{n} {what}{'' if n == 1 else 's'}" for n, what in zip(marks, ("move", "move", "literal", "spill"))]
+        wanted = f"p: {compiled[1]} instructions, moves between banks cost {compiled[3]}, {verdict}\n"
+        wanted += f"  of these {counted[0]} between banks, {counted[1]} within a bank, {counted[2]}, {counted[3]}\n"
+        found += [] if built == wanted else [f"{built!r}, wanted {wanted!r}"]
+        alone = "".join(it for it in listing.splitlines(True) if not it.startswith("        ; "))
+        found += [] if alone == said(nova, "list", "o") else ["the listing of the source isn't that of the object"]
+        ran = said(novac, "run", "o", memory, "steps=1000000")
+        return found + [f"run of {it}: another outcome" for it in (self.example, "o") if said(nova, "run", it, memory) != ran]
+
+
+class PageRow:
+    """The page that `nova page` saves of an example and its memory text has the source, the listing and the outcome. A browser, where one
+    is there, runs its script without a fault, and colours as many moves, literals and spills as the listing has."""
+
+    where = "tests/tools.py"
+
+    def __init__(self, example, top):
+        self.name, self.example = f"the page on {example}", os.path.join(top, "examples", example)
+
+    def differences(self, _novac, at):
+        def said(*words):
+            return subprocess.run(words, cwd=at, capture_output=True, text=True, timeout=60).stdout
+
+        nova, memory = BESIDE["nova"], self.example.removesuffix("nova") + "mem"
+        said(nova, "build", self.example, "-o", "o")
+        said(nova, "page", self.example, memory, "-o", "p.html")
+        page = open(os.path.join(at, "p.html"), encoding="utf-8").read()
+        blocks = {name: html.unescape(text) for name, text in re.findall(r'<pre id="(\w+)">(.*?)</pre>', page, re.S)}
+        with open(self.example, encoding="utf-8") as it:
+            wanted = {"name": self.example, "source": it.read(), "listing": said(nova, "list", "o"), "outcome": said(nova, "run", "o", memory)}
+        found = [f"{name}: {blocks.get(name)!r}, wanted {text!r}" for name, text in wanted.items() if blocks.get(name) != text]
+        return found + self.in_browser(blocks, at)
+
+    def in_browser(self, blocks, at):
+        browser = next((it for it in ("chromium", "chromium-browser", "google-chrome") if shutil.which(it)), None)
+        if not browser:
+            return []
+        words = [browser, "--headless", "--no-sandbox", "--disable-gpu", "--dump-dom", "p.html"]
+        shown = subprocess.run(words, cwd=at, capture_output=True, text=True, timeout=60).stdout
+        marks = {"between": "move between banks", "within": "move", "literal": "literal", "spill": "spill"}
+        counts = {kind: len(re.findall(f"; {mark}$", blocks["listing"], re.M)) for kind, mark in marks.items()}
+        coloured = {kind: shown.count(f'<span class="{kind}">') for kind in marks}
+        found = [] if counts == coloured else [f"the browser colours {coloured}, the listing has {counts}"]
+        return found + ([] if shown.count("<rect") == len(re.findall("^label ", blocks["form"], re.M)) else ["a label isn't drawn"])
 
 
 class SumRow:
@@ -195,11 +265,11 @@ def highlighting(top):
     words += words_of(top, assembly, "kind_name|binary_name|unary_words|condition_name|memory_name")
     signs = [it for it in words_of(top, tables, "signs =") if not re.fullmatch(r"[][(){},;.:]", it)]
     found = [] if len(words) >= 42 and len(signs) == 21 else [f"the tables have {len(words)} words and {len(signs)} signs"]
-    vim = read(top, "editors/nova.vim")
+    vim = read(top, "editors/vim/syntax/nova.vim")
     listed = {word for line in re.findall(r"^syn keyword nova\w+ (.*)", vim, re.M) for word in line.split()}
     sign = re.search(r'^syn match novaSign "\\V(.*?)" contains', vim, re.M)[1].split("\\|")
     found += [f"nova.vim lacks {it}" for it in words if it not in listed] + [f"nova.vim lacks {it}" for it in signs if it not in sign]
-    grammar = json.loads(read(top, "editors/nova.tmLanguage.json"))
+    grammar = json.loads(read(top, "editors/vscode/nova.tmLanguage.json"))
     nova, inner = grammar["patterns"][1:], grammar["patterns"][0]["patterns"]
     for word in words + signs:
         if not any(re.fullmatch(it["match"], word) for it in nova + inner):
@@ -219,6 +289,100 @@ def module(top, path):
 def as_made(top):
     files = module(top, "editors/make").files()
     return [f"{name} is to be written again by editors/make" for name, text in files.items() if read(top, f"editors/{name}") != text]
+
+
+TOLD = re.compile(r"^[|!] ((\w+)(?::(\d+):(\d+))?: (error|warning): (.*))$", re.M)
+SAMPLES = """\
+| s:3:7: warning: variable `x` is never used
+| s:1:24: error: no token begins with `:` (syntax char)
+| s: error: there is no function `main` (type 1)
+"""
+
+
+def told(top):
+    """The first lines of faults and warnings, those of tests/mistakes.txt too, with what they say: file, line, column, severity and
+    sentence."""
+    file = os.path.join(top, "tests", "mistakes.txt")
+    return [it.groups() for it in TOLD.finditer(SAMPLES + (read(top, file) if os.path.isfile(file) else ""))]
+
+
+def problems(top):
+    """The problem matcher of the package for VS Code reads each fault and warning with a place, and nothing else; the package has all
+    files that it names, and the task its matcher."""
+    about = json.loads(read(top, "editors/vscode/package.json"))
+    given = about["contributes"]
+    matcher = given["problemMatchers"][0]
+    pattern = matcher["pattern"]
+    found, lines = [], told(top)
+    for line, *wanted in lines:
+        match = re.search(pattern["regexp"], line)
+        parts = [match[pattern[it]] for it in ("file", "line", "column", "severity", "message")] if match else [None]
+        found += [line] if wanted[1] and parts != wanted or match and not wanted[1] else []
+    found += [it for it in ("    let x = f(1:2: error)", "`(` of 2:15 isn't closed.", "declared below: line 5") if re.search(pattern["regexp"], it)]
+    with tempfile.TemporaryDirectory() as folder:
+        file = os.path.join(folder, "nova.vsix")
+        module(top, "editors/make").package(file)
+        with zipfile.ZipFile(file) as it:
+            packed = set(it.namelist())
+    named = [given["languages"][0]["configuration"], given["grammars"][0]["path"]]
+    found += [f"the package lacks {it}" for it in named if f"extension/{it[2:]}" not in packed]
+    task = json.loads(read(top, "editors/vscode/tasks.json"))["tasks"][0]
+    found += [] if task["problemMatcher"] == f"${matcher['name']}" else ["the task has another matcher"]
+    return found
+
+
+def quickfix(top):
+    """Vim, where it is there, reads each fault and warning by `errorformat`, with its place, its kind and its sentence, and nothing else."""
+    if not shutil.which("vim"):
+        return []
+    lines = told(top)
+    with tempfile.TemporaryDirectory() as folder:
+        said, listed = os.path.join(folder, "said"), os.path.join(folder, "listed")
+        with open(said, "w") as it:
+            it.write("".join(f"{line[0]}\n    an excerpt: of 1:2\n    ^^^\nWhat helps.\n" for line in lines))
+        script = [f"set runtimepath^={os.path.join(top, 'editors', 'vim')}", "compiler nova", f"cgetfile {said}"]
+        item = "bufname(v:val.bufnr) . '|' . v:val.lnum . '|' . v:val.col . '|' . tolower(v:val.type) . '|' . v:val.text"
+        script += [f"call writefile(map(filter(getqflist(), 'v:val.valid'), \"{item}\"), '{listed}')", "qall!"]
+        words = ["vim", "-u", "NONE", "-i", "NONE", "-N", "-es", *(word for it in script for word in ("-c", it))]
+        subprocess.run(words, cwd=folder, stdin=subprocess.DEVNULL, capture_output=True, timeout=60)
+        have = open(listed).read().split("\n")[:-1] if os.path.exists(listed) else []
+    wanted = [f"{file}|{line or 0}|{column or 0}|{kind[0]}|{sentence.lstrip()}" for _, file, line, column, kind, sentence in lines]
+    return [] if have == wanted else [f"{len(have)} of {len(wanted)}", *sorted(set(have) ^ set(wanted))[:6]]
+
+
+def man_as_made(top):
+    """The man pages are as docs/man/make makes them of README."""
+    files = module(top, "docs/man/make").files()
+    return [f"docs/man/{name} is to be written again by docs/man/make" for name, text in files.items() if read(top, f"docs/man/{name}") != text]
+
+
+# What a completion has to offer behind these words, of which the last is begun.
+COMPLETIONS = [
+    ("nova ", "build check explain help list page run test version --help --version"),
+    ("nova b", "build"),
+    ("nova build --s", "--slots --store"),
+    ("nova build -", "--budget --help --json --report --slots --store --weights -o"),
+    ("nova run -", "--counts --help --profile --steps"),
+    ("nova check -", "--help --json --verbose"),
+    ("nova page -", "--help --steps -o"),
+    ("nova test -", "--help --steps"),
+    ("nova help l", "list"),
+]
+
+
+def completion(top):
+    """The completion for bash offers the commands and the options of README's tables."""
+    found = []
+    for line, wanted in COMPLETIONS:
+        words = line.split(" ")
+        script = 'source "$1"; shift; COMP_WORDS=("$@"); COMP_CWORD=$(($# - 1)); _nova; printf "%s\\n" "${COMPREPLY[@]}"'
+        ran = subprocess.run(["bash", "-c", script, "bash", f"{top}/editors/nova.bash", *words], capture_output=True, text=True, stdin=subprocess.DEVNULL)
+        if sorted(ran.stdout.split()) != sorted(wanted.split()) or ran.stderr:
+            found.append(f"{line!r}: {ran.stdout.split()} {ran.stderr}")
+    text = read(top, "README.md")
+    told = {it for it in re.findall(r"^\| `(--?[a-z]+)[ `]", text, re.M)} | set(re.findall(r"`nova ([a-z]+)", text)) | set(re.findall(r"`nova (--[a-z]+)`", text))
+    offered = {it for _, wanted in COMPLETIONS for it in wanted.split()}
+    return found + [f"README tells {it}, and no completion offers it" for it in sorted(told - offered)]
 
 
 def pages_as_made(top):
@@ -409,11 +573,13 @@ def tables(top):
 
 def all_rows(top):
     rows = [("each keyword is coloured by both editors' files", highlighting), ("the editors' files are as made", as_made)]
+    rows += [("VS Code's problem matcher reads each fault", problems), ("Vim's errorformat reads each fault", quickfix)]
     rows += [("the pages of nova_explain are those of docs/FAULTS.md", pages_as_made)]
+    rows += [("the man pages are those of README", man_as_made), ("completion for bash", completion)]
     rows += [("what has to be believed is listed in docs/PROOFS.md", believed_as_made)]
     rows += [("README has short lines and sentences", readable), ("the files that the pages name are there", named_files), ("the walks and recipes of docs/ARCHITECTURE.md", walks_and_recipes)]
     rows += [("a packet's hex dump and back", there_and_back), ("forms of hex dumps", dumps), ("nothing stands twice that didn't", nothing_new_twice), ("capture files", captures), ("tables from a CSV file", tables)]
     sources = sorted(it for it in os.listdir(os.path.join(top, "examples")) if it.endswith(".nova"))
     packets = sorted(it for it in os.listdir(os.path.join(top, "bench", "packets")) if it.endswith(".nova"))
     made = [PacketRow(it, top) for it in packets] + [MadeRow(seed, size, top) for seed, size in ((0, 2), (1, 60), (0, 500))]
-    return [ToolRow(name, body, top) for name, body in rows] + [ReportRow(it, top) for it in sources] + made + [CrowdedRow(top), SumRow(top)] + [SearchRow(it, top) for it in SEARCHES]
+    return [ToolRow(name, body, top) for name, body in rows] + [ReportRow(it, top) for it in sources] + [SameRow(it, top) for it in sources] + [PageRow("ttl.nova", top), PageRow("trie.nova", top)] + made + [CrowdedRow(top), SumRow(top)] + [SearchRow(it, top) for it in SEARCHES]

@@ -1,5 +1,4 @@
 " Highlighting of Nova, and of the assembly text that begins with `params`. Written by editors/make.
-" Put it at ~/.vim/syntax/nova.vim, and `au BufRead,BufNewFile *.nova,*.uasm set filetype=nova` into ~/.vimrc.
 if exists("b:current_syntax")
   finish
 endif

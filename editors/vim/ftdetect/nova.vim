@@ -1,0 +1,2 @@
+autocmd BufRead,BufNewFile *.nova,*.uasm setfiletype nova
+autocmd FileType nova compiler nova
