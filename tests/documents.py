@@ -113,7 +113,7 @@ def compiled(where, source, status, output):
 
 
 def explained(row, answer):
-    """The row with a call of nova_explain, whose output has to begin with a place, which tests/mistakes.txt and tests/explain.txt pin, or
+    """The row with a call of `nova check`, whose output has to begin with a place, which tests/mistakes.txt and tests/explain.txt pin, or
     to give the size, or to say that the program has no fault."""
     if " at " in answer:
         front = ".. error: .."
@@ -121,7 +121,9 @@ def explained(row, answer):
         front = f"s.nova: error: the expanded size is {answer.split()[-1]}, .."
     else:
         front = "s.nova: a program without a fault"
-    row.calls.append(Call(["nova_explain", "s.nova"], 0, f"{front}\n..\n".encode()))
+    words, text = ["nova", "check", "--verbose", "s.nova"], f"{front}\n..\n".encode()
+    refused = "error" in front
+    row.calls.append(Call(words, 1, b"", errors=text) if refused else Call(words, 0, text, errors=ANY))
     return row
 
 

@@ -1,5 +1,5 @@
 #!/usr/bin/env python3
-"""The pages that `nova_explain type 14` and the like print, made from docs/FAULTS.md: `tests/pages.py` writes them
+"""The pages that `nova explain type 14` and the like print, made from docs/FAULTS.md: `tests/pages.py` writes them
 into crates/explain_pages again, and the rows of tests/tools.py show whether they are as made."""
 import math
 import os

@@ -68,7 +68,7 @@ def is_like(wanted, found):
 
 
 # Programs beside novac that a call may name as its first word: where they are.
-BESIDE = {"nova": "nova", "nova_explain": "nova_explain"}
+BESIDE = {"nova": "nova"}
 
 
 def command(novac, words):

@@ -386,7 +386,7 @@ def completion(top):
 
 
 def pages_as_made(top):
-    """The pages of nova_explain are those of docs/FAULTS.md."""
+    """The pages of `nova explain` are those of docs/FAULTS.md."""
     made = pages.files(top).items()
     return [f"{name} is to be written again by tests/pages.py" for name, text in made if read(top, f"crates/explain_pages/src/{name}") != text]
 
@@ -574,7 +574,7 @@ def tables(top):
 def all_rows(top):
     rows = [("each keyword is coloured by both editors' files", highlighting), ("the editors' files are as made", as_made)]
     rows += [("VS Code's problem matcher reads each fault", problems), ("Vim's errorformat reads each fault", quickfix)]
-    rows += [("the pages of nova_explain are those of docs/FAULTS.md", pages_as_made)]
+    rows += [("the pages of `nova explain` are those of docs/FAULTS.md", pages_as_made)]
     rows += [("the man pages are those of README", man_as_made), ("completion for bash", completion)]
     rows += [("what has to be believed is listed in docs/PROOFS.md", believed_as_made)]
     rows += [("README has short lines and sentences", readable), ("the files that the pages name are there", named_files), ("the walks and recipes of docs/ARCHITECTURE.md", walks_and_recipes)]
