@@ -1,10 +1,10 @@
 -- What a vector costs under weights, label by label.
 use Rattle.std.proofs.Common.{◌≡◌, ℕ, zero, suc, ◌+◌, ◌*◌, ◌<◌, ◌≤◌, Bool, true, false, List, [], ◌∷◌, length, map, refl, ap, ◌∙◌, arith}
-use Rattle.std.specs.List.{AllByRecursion}
 use Rattle.std.proofs.Math.Nat.{mul-le-mul_right}
 use Rattle.ssu_ir.specs.Tree.{Label}
 use Rattle.ssu_ir.specs.Single.{single}
 use Rattle.placement.specs.Plan.{Plan}
+use Rattle.placement.proofs.Slotted.{each-any}
 use Rattle.zo_model.specs.Program.{cost_where, costs_of}
 use Rattle.label_weights.specs.ByLabel.{label_from, label_cost}
 use Rattle.label_weights.specs.Weighted.{weight_of, weighted_cost, labels_weighted}
@@ -38,17 +38,13 @@ named-summed : (on : Chosen) (cs : List Priced) → named_cost on cs ≡ summed 
 named-summed on [] = refl
 named-summed on (c ∷ cs) = ap (λ n. cost_on on c + n) (named-summed on cs)
 
-every : {X : Type 0} (P : X → Type 0) (xs : List X) → ((x : X) → P x) → AllByRecursion P xs
-every P [] h = tt
-every P (x ∷ xs) h = (h x, every P xs h)
-
 -- the sum over all labels, and the number after the last one
 price-by-labels : (labels : List Label) (ws : List ℕ) (x : ℕ → Bool) → single labels ≡ true
     → costs_of (weighted_costs labels ws) x ≡ by_labels (cost_on (on labels x)) (column_label labels) (weight_of ws) 0 (suc (length labels)) (priced labels)
 price-by-labels labels ws x s =
     weighted-by-name labels ws x s ∙ named-weighed labels ws (on labels x) (priced labels)
     ∙ by_each (cost_on (on labels x)) (column_label labels) (weight_of ws) (suc (length labels)) (priced labels)
-    (every (λ c. column_label labels c < suc (length labels)) (priced labels) (λ c. let h = label_most 0 0 labels (column_point labels c.0) in omega (arith, h)))
+    (each-any (λ c. column_label labels c < suc (length labels)) (priced labels) (λ c. let h = label_most 0 0 labels (column_point labels c.0) in omega (arith, h)))
 
 label-sum : (labels : List Label) (x : ℕ → Bool) (l : ℕ) → label_price labels l x ≡ summed (cost_on (on labels x)) (those (column_label labels) l (priced labels))
 label-sum labels x l = named-summed (on labels x) (those (column_label labels) l (priced labels))

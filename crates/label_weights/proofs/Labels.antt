@@ -1,26 +1,19 @@
 -- The cost under weights, label by label.
-use Rattle.std.proofs.Common.{◌≡◌, ℕ, zero, suc, ◌+◌, ◌*◌, ◌<◌, ◌≤◌, nat_lt, Bool, true, false, if◌then◌else◌, List, [], ◌∷◌, ◌++◌, length, refl, ap, ◌∙◌, ⊎_elim, arith}
-use Rattle.std.specs.List.{AllByRecursion}
+use Rattle.std.proofs.Common.{◌≡◌, ℕ, zero, suc, ◌+◌, ◌*◌, ◌<◌, ◌≤◌, nat_lt, Bool, true, false, if◌then◌else◌, List, [], ◌∷◌, length, refl, ap, ◌∙◌, ⊎_elim, arith}
 use Rattle.std.proofs.lemmas.Bool.{cases_lt, lt-ltb, le-ltb}
 use Rattle.std.proofs.lemmas.List.{length-append}
 use Rattle.ssu_ir.specs.Tree.{Label, Lit, Una, Bin, Clone, Read, Write, Does, Forks, Ends}
 use Rattle.ssu_ir.specs.Points.{PointKind, Entry, At, Point, points, points_from, label_points}
 use Rattle.placement.specs.Costs.{value_cost, use_cost, values_cost, uses_cost}
 use Rattle.placement.specs.Plan.{Plan}
+use Rattle.placement.proofs.Sound.{Each, each-append}
+use Rattle.placement.proofs.Spilled.{each-weaker}
 use Rattle.placement.specs.Uses.{ValueOrigin, Value, numbered, place_values, values_from, values, Role, Use, uses_at, place_roles, uses_from, uses}
 use Rattle.label_weights.specs.ByLabel.{label_from, label_cost}
 use Rattle.label_weights.specs.Weighted.{weight_of, point_weight, values_weighted, uses_weighted, weighted_cost, labels_weighted}
 use Rattle.label_weights.proofs.Summed.{summed, weighed, those, by_labels, by_each}
 
 -- ---- each value and each use is of a label
-
-all_both : {X : Type 0} (P : X → Type 0) (a b : List X) → AllByRecursion P a → AllByRecursion P b → AllByRecursion P (a ++ b)
-all_both P [] b h g = g
-all_both P (x ∷ a) b h g = (h.0, all_both P a b h.1 g)
-
-all_map : {X : Type 0} (P Q : X → Type 0) (xs : List X) → ((x : X) → P x → Q x) → AllByRecursion P xs → AllByRecursion Q xs
-all_map P Q [] f h = tt
-all_map P Q (x ∷ xs) f h = (f x h.0, all_map P Q xs f h.1)
 
 label_within : (l n : ℕ) (ls : List Label) (k : ℕ) → n ≤ k → k < n + length (points_from l ls) → label_from l n ls k < l + length ls
 label_within l n [] k le lt = absurd (omega (arith, le, lt))
@@ -38,11 +31,11 @@ label_within l n (x ∷ ls) k le lt =
     omega (arith, later, rest))
     (cases_lt k next)
 
-numbered_within : (m k : ℕ) (origin : ℕ → ValueOrigin) (i : ℕ) (xs : List ℕ) → k < m → AllByRecursion (λ (v : Value). v.point < m) (numbered k origin i xs)
+numbered_within : (m k : ℕ) (origin : ℕ → ValueOrigin) (i : ℕ) (xs : List ℕ) → k < m → Each (λ (v : Value). v.point < m) (numbered k origin i xs)
 numbered_within m k origin i [] lt = tt
 numbered_within m k origin i (x ∷ xs) lt = (lt, numbered_within m k origin (suc i) xs lt)
 
-place_within : (m k : ℕ) (q : PointKind) → k < m → AllByRecursion (λ (v : Value). v.point < m) (place_values k q)
+place_within : (m k : ℕ) (q : PointKind) → k < m → Each (λ (v : Value). v.point < m) (place_values k q)
 place_within m k (Entry l params) lt = numbered_within m k _ 0 params lt
 place_within m k (At (Does (Lit x v))) lt = (lt, tt)
 place_within m k (At (Does (Una x op y))) lt = (lt, tt)
@@ -53,24 +46,24 @@ place_within m k (At (Does (Write c y xs))) lt = tt
 place_within m k (At (Forks c x y)) lt = tt
 place_within m k (At (Ends l)) lt = tt
 
-values_within : (m k : ℕ) (qs : List Point) → k + length qs ≤ m → AllByRecursion (λ (v : Value). v.point < m) (values_from k qs)
+pub values_within : (m k : ℕ) (qs : List Point) → k + length qs ≤ m → Each (λ (v : Value). v.point < m) (values_from k qs)
 values_within m k [] le = tt
-values_within m k (q ∷ qs) le = all_both (λ v. v.point < m) (place_values k q.place) (values_from (suc k) qs) (place_within m k q.place (omega (arith, le))) (values_within m (suc k) qs (omega (arith, le)))
+values_within m k (q ∷ qs) le = each-append (λ v. v.point < m) (place_values k q.place) (values_from (suc k) qs) (place_within m k q.place (omega (arith, le))) (values_within m (suc k) qs (omega (arith, le)))
 
-point_within : (m k i : ℕ) (xs : List ℕ) (rs : List Role) → k < m → AllByRecursion (λ (u : Use). u.point < m) (uses_at k i xs rs)
+point_within : (m k i : ℕ) (xs : List ℕ) (rs : List Role) → k < m → Each (λ (u : Use). u.point < m) (uses_at k i xs rs)
 point_within m k i [] rs lt = tt
 point_within m k i (x ∷ xs) [] lt = tt
 point_within m k i (x ∷ xs) (r ∷ rs) lt = (lt, point_within m k (suc i) xs rs lt)
 
-uses_within : (m k : ℕ) (qs : List Point) → k + length qs ≤ m → AllByRecursion (λ (u : Use). u.point < m) (uses_from k qs)
+pub uses_within : (m k : ℕ) (qs : List Point) → k + length qs ≤ m → Each (λ (u : Use). u.point < m) (uses_from k qs)
 uses_within m k [] le = tt
 uses_within m k (q ∷ qs) le =
-    all_both (λ u. u.point < m) (uses_at k 0 q.uses (place_roles q.place)) (uses_from (suc k) qs) (point_within m k 0 q.uses (place_roles q.place) (omega (arith, le))) (uses_within m (suc k) qs (omega (arith, le)))
+    each-append (λ u. u.point < m) (uses_at k 0 q.uses (place_roles q.place)) (uses_from (suc k) qs) (point_within m k 0 q.uses (place_roles q.place) (omega (arith, le))) (uses_within m (suc k) qs (omega (arith, le)))
 
-abbrev label_of : List Label → ℕ → ℕ
+abbrev pub label_of : List Label → ℕ → ℕ
 label_of labels k = label_from 0 0 labels k
 
-of_label : (labels : List Label) (k : ℕ) → k < length (points labels) → label_of labels k < length labels
+pub of_label : (labels : List Label) (k : ℕ) → k < length (points labels) → label_of labels k < length labels
 of_label labels k lt = let h = label_within 0 0 labels k (omega arith) (omega (arith, lt)) in omega (arith, h)
 
 -- ---- the sums
@@ -120,8 +113,8 @@ weighted_within labels ws p n le =
     let within : (k : ℕ) → k < m → label_of labels k < n = λ k lt. let h = of_label labels k lt in omega (arith, h, le) in
     let a = values_weighed labels ws p vs in
     let b = uses_weighed labels ws p us in
-    let c = by_each (value_cost p) (label_of_value labels) (weight_of ws) n vs (all_map (λ v. v.point < m) (λ v. label_of_value labels v < n) vs (λ v lt. within v.point lt) (values_within m 0 (points labels) (omega arith))) in
-    let d = by_each (use_cost p) (label_of_use labels) (weight_of ws) n us (all_map (λ u. u.point < m) (λ u. label_of_use labels u < n) us (λ u lt. within u.point lt) (uses_within m 0 (points labels) (omega arith))) in
+    let c = by_each (value_cost p) (label_of_value labels) (weight_of ws) n vs (each-weaker (λ v. v.point < m) (λ v. label_of_value labels v < n) vs (λ v lt. within v.point lt) (values_within m 0 (points labels) (omega arith))) in
+    let d = by_each (use_cost p) (label_of_use labels) (weight_of ws) n us (each-weaker (λ u. u.point < m) (λ u. label_of_use labels u < n) us (λ u lt. within u.point lt) (uses_within m 0 (points labels) (omega arith))) in
     let e = each_label labels ws p 0 n in
     omega (arith, a, b, c, d, e)
 

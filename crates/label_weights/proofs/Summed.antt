@@ -1,8 +1,8 @@
 -- Sums over a list in which each element has a label: over all of them, or label by label.
 use Rattle.std.proofs.Common.{◌≡◌, ◌≢◌, ℕ, zero, suc, ◌+◌, ◌*◌, ◌<◌, ◌≤◌, nat_eq, Bool, List, [], ◌∷◌, filter, refl, sym, ap, ◌∙◌, ⊎_elim, arith}
-use Rattle.std.specs.List.{AllByRecursion}
 use Rattle.std.specs.Prelude.{cond}
 use Rattle.std.proofs.lemmas.Bool.{cases_eq, eq-eqb, ne_eqb}
+use Rattle.placement.proofs.Sound.{Each}
 
 abbrev pub summed : {X : Type 0} → (X → ℕ) → List X → ℕ
 summed cost [] = 0
@@ -65,7 +65,7 @@ module _ {X : Type 0} (cost label : X → ℕ) (weight : ℕ → ℕ) where
       ∙ (ap (λ s. summed cost (those label l xs) * weight l + s) b ∙ add_later (cost x * weight (label x)) (summed cost (those label l xs)) (weight l) (by_labels (suc l) n xs)))
       (cases_eq (label x) l)
 
-  pub by_each : (n : ℕ) (xs : List X) → AllByRecursion (λ x. label x < n) xs → weighed xs ≡ by_labels 0 n xs
+  pub by_each : (n : ℕ) (xs : List X) → Each (λ x. label x < n) xs → weighed xs ≡ by_labels 0 n xs
   by_each n [] h = sym (none 0 n)
   by_each n (x ∷ xs) h =
       let a = by_each n xs h.1 in

@@ -1,19 +1,19 @@
 -- Each column of the program of the banks lies at a point of the form, so in a label. Under weights a vector costs at most so many times
 -- more as the heaviest label weighs.
-use Rattle.std.proofs.Common.{◌≡◌, ℕ, zero, suc, ◌+◌, ◌*◌, ◌<◌, ◌≤◌, nat_eq, Bool, true, false, if◌then◌else◌, List, [], ◌∷◌, ◌++◌, length, map, filter, slice_index, sym, ap, subst, ◌∙◌, ⊎_elim, arith}
+use Rattle.std.proofs.Common.{◌≡◌, ℕ, zero, suc, ◌+◌, ◌*◌, ◌<◌, ◌≤◌, nat_eq, Bool, true, false, if◌then◌else◌, List, [], ◌∷◌, ◌++◌, length, map, filter, slice_index, sym, subst, ◌∙◌, arith}
 use Rattle.std.specs.List.{flat_map}
-use Rattle.std.proofs.lemmas.Bool.{cases_lt, lt-ltb, le-ltb}
-use Rattle.std.proofs.lemmas.List.{length-append, length-map}
+use Rattle.std.proofs.lemmas.List.{length-map}
 use Rattle.std.proofs.lemmas.Option.{slice_get_within}
 use Rattle.std.proofs.Math.Nat.{mul-le-mul_left}
-use Rattle.ssu_ir.specs.Points.{PointKind, Entry, At, Point, points, points_from, label_points}
+use Rattle.ssu_ir.specs.Points.{PointKind, Entry, At, Point, points}
 use Rattle.ssu_ir.specs.Tree.{Lit, Una, Bin, Clone, Read, Write, Label, Does, Forks, Ends}
-use Rattle.placement.specs.Uses.{Access, accesses, accesses_from, place_accesses, ValueOrigin, Parameter, Result, Fetched, Value, values, values_from, place_values, Use, uses, uses_from, uses_at, place_roles, is_used}
+use Rattle.placement.specs.Uses.{Access, accesses, accesses_from, place_accesses, ValueOrigin, Parameter, Result, Fetched, Value, values, place_values, uses, place_roles, is_used}
 use Rattle.placement.specs.Fits.{is_result}
 use Rattle.placement.proofs.Sound.{Each, each-append}
 use Rattle.placement.proofs.Slotted.{each-any}
 use Rattle.placement.proofs.Spilled.{each-weaker}
 use Rattle.label_weights.specs.ByLabel.{label_from}
+use Rattle.label_weights.proofs.Labels.{of_label, values_within, uses_within}
 use Rattle.zo_model.specs.Program.{cost_where, cost_below, costs_of}
 use Rattle.bank_form.specs.declared.column.Bank.TheVariants.{A, B, M}
 use Rattle.bank_form.specs.declared.column.Column.{Column}
@@ -25,41 +25,9 @@ use Rattle.bank_rows.proofs.PlainLines.{mapped-each}
 use Rattle.bank_assignment.proofs.ChosenHolds.{flat-each, if-each, points-each}
 use Rattle.bank_assignment.proofs.Counts.{each-from}
 use Rattle.bank_assignment.proofs.FactsThere.{point-of}
-use Rattle.bank_assignment.proofs.FitPasses.{value-point}
 use Rattle.nova_back.specs.Causes.{WeighAtMost}
 
 -- ---- points
-
-label-within : (l n : ℕ) (ls : List Label) (k : ℕ) → n ≤ k → k < n + length (points_from l ls) → label_from l n ls k < l + length ls
-label-within l n [] k le lt = absurd (omega (arith, le, lt))
-label-within l n (x ∷ ls) k le lt =
-    let next = n + length (label_points l x) in
-    let long = length-append (label_points l x) (points_from (suc l) ls) in
-    ⊎_elim
-    (λ (low : k < next). let here : label_from l n (x ∷ ls) k ≡ l = ap (λ b. if b then l else label_from (suc l) next ls k) (lt-ltb k next low) in omega (arith, here))
-    (λ (high : next ≤ k).
-    let later : label_from l n (x ∷ ls) k ≡ label_from (suc l) next ls k = ap (λ b. if b then l else label_from (suc l) next ls k) (le-ltb k next high) in
-    let rest : label_from (suc l) next ls k < suc l + length ls = label-within (suc l) next ls k high (omega (arith, lt, long)) in
-    omega (arith, later, rest))
-    (cases_lt k next)
-
-point-within : (labels : List Label) (k : ℕ) → k < length (points labels) → label_from 0 0 labels k < length labels
-point-within labels k h = let within = label-within 0 0 labels k (omega arith) (omega (arith, h)) in omega (arith, within)
-
-values-below : (n k : ℕ) (ps : List Point) → k + length ps ≤ n → Each (λ v. v.point < n) (values_from k ps)
-values-below n k [] h = tt
-values-below n k (q ∷ ps) h =
-    each-append (λ (v : Value). v.point < n) (place_values k q.place) (values_from (suc k) ps)
-    (each-from (λ (v : Value). v.point < n) (place_values k q.place) (λ v i. let e = value-point v k q.place i in omega (arith, e, h)))
-    (values-below n (suc k) ps (omega (arith, h)))
-
-uses-below : (n k : ℕ) (ps : List Point) → k + length ps ≤ n → Each (λ u. u.point < n) (uses_from k ps)
-uses-below n k [] h = tt
-uses-below n k (q ∷ ps) h =
-    let us = uses_at k 0 q.uses (place_roles q.place) in
-    each-append (λ (u : Use). u.point < n) us (uses_from (suc k) ps)
-    (each-from (λ (u : Use). u.point < n) us (λ u i. let e = point-of u k 0 q.uses (place_roles q.place) i in omega (arith, e, h)))
-    (uses-below n (suc k) ps (omega (arith, h)))
 
 accesses-at : (n k : ℕ) (q : PointKind) → k < n → Each (λ a. a.point < n) (place_accesses k q)
 accesses-at n k (Entry l ps) h = tt
@@ -91,7 +59,7 @@ abbrev Lies : List Label → Priced → Type 0
 Lies labels c = column_point labels c.0 < length (points labels)
 
 value-lies : (labels : List Label) (x k : ℕ) → k < length (points labels) → point_in (values labels) x < length (points labels)
-value-lies labels x k h = found-below (length (points labels)) x (values labels) (omega (arith, h)) (values-below (length (points labels)) 0 (points labels) (omega arith))
+value-lies labels x k h = found-below (length (points labels)) x (values labels) (omega (arith, h)) (values_within (length (points labels)) 0 (points labels) (omega arith))
 
 defs-lie : (labels : List Label) (x : ℕ) (s : ValueOrigin) → point_in (values labels) x < length (points labels) → Each (Lies labels) (origin_defs x s)
 defs-lie labels x (Parameter zero i) h = (h, (h, (h, tt)))
@@ -100,7 +68,7 @@ defs-lie labels x Result h = (h, (h, (h, tt)))
 defs-lie labels x (Fetched m i) h = tt
 
 each-value : (labels : List Label) (P : Value → Type 0) → ((v : Value) → point_in (values labels) v.var < length (points labels) → P v) → Each P (values labels)
-each-value labels P f = each-weaker (λ v. v.point < length (points labels)) P (values labels) (λ v h. f v (value-lies labels v.var v.point h)) (values-below (length (points labels)) 0 (points labels) (omega arith))
+each-value labels P f = each-weaker (λ v. v.point < length (points labels)) P (values labels) (λ v h. f v (value-lies labels v.var v.point h)) (values_within (length (points labels)) 0 (points labels) (omega arith))
 
 eight-lie : (labels : List Label) (b : Bool) (column : ℕ → Column) → ((r : ℕ) → Lies labels (column r, 0)) → Each (Lies labels) (for_eight b column)
 eight-lie labels true column h = mapped-each (Lies labels) (λ r. (column r, 0)) eight (each-any (λ r. Lies labels (column r, 0)) eight h)
@@ -151,7 +119,7 @@ services-lie labels = flat-each (Lies labels) (srv_columns labels) (uses labels)
     (λ u h.
     let ss = filter (λ (s : Service). has_bank (is_fetched (origin_of labels u.value)) s.from) (services u.role) in
     mapped-each (Lies labels) (λ (s : Service). (Srv u.point u.operand s.from s.at, s.cost)) ss (each-any (λ s. Lies labels (Srv u.point u.operand s.from s.at, s.cost)) ss (λ s. h)))
-    (uses-below (length (points labels)) 0 (points labels) (omega arith)))
+    (uses_within (length (points labels)) 0 (points labels) (omega arith)))
 
 pas-l-lie : (labels : List Label) → Each (Lies labels) (all_pas_l labels)
 pas-l-lie labels = points-each (Lies labels) pas_l_columns 0 (points labels) (λ i k q e s.
@@ -212,7 +180,7 @@ pub weighted-cost : (labels : List Label) (ws : List ℕ) (most : ℕ) (x : ℕ 
 weighted-cost labels ws most x h =
     let ps = priced labels in
     let each : Each (λ (c : Priced). (weigh labels ws c).1 ≤ c.1 * most) ps = each-weaker (Lies labels) (λ (c : Priced). (weigh labels ws c).1 ≤ c.1 * most) ps
-    (λ c lies. mul-le-mul_left c.1 (h (label_from 0 0 labels (column_point labels c.0)) (point-within labels (column_point labels c.0) lies))) (columns-lie labels) in
+    (λ c lies. mul-le-mul_left c.1 (h (label_from 0 0 labels (column_point labels c.0)) (of_label labels (column_point labels c.0) lies))) (columns-lie labels) in
     let below = below-cost (length (weighted_costs labels ws)) most (weighted_costs labels ws) (costs labels) x (place-cost labels ws most ps each) in
     let same : length (weighted_costs labels ws) ≡ length (costs labels) = length-map (weighted labels ws) (λ c. c.1) ∙ length-map ps (weigh labels ws) ∙ sym (length-map ps (λ c. c.1)) in
     subst (λ n. costs_of (weighted_costs labels ws) x ≤ cost_below n (costs labels) x * most) same below
