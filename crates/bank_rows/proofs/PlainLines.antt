@@ -14,6 +14,7 @@ use Rattle.placement.specs.Fits.{is_result, parameter, point_values}
 use Rattle.ssu_liveness.proofs.Scoped.{in-itself, different-filter, different-without}
 use Rattle.placement.proofs.Sound.{Each, each-append}
 use Rattle.placement.proofs.Spilled.{each-all, all-each, each-weaker}
+use Rattle.placement.proofs.Fitting.{uses-from-point}
 use Rattle.zo_model.specs.ProgramText.{IsRowText, IsValidContents}
 use Rattle.bank_form.specs.declared.column.Bank.{Bank}
 use Rattle.bank_form.specs.declared.column.Bank.TheVariants.{A, B, M, T, L, A15, W}
@@ -140,21 +141,13 @@ point-apart k i (x ∷ xs) (r ∷ rs) =
     let u : Use = record { point = k; operand = i; value = x; role = r } in
     (each-weaker (λ v. (v.point ≡ k) × (suc i ≤ v.operand)) (Elsewhere u) (uses_at k (suc i) xs rs) (λ v h p o. omega (arith, h.1, o)) (uses-place k (suc i) xs rs), point-apart k (suc i) xs rs)
 
-uses-later : (k : ℕ) (ps : List Point) → Each (λ u. k ≤ u.point) (uses_from k ps)
-uses-later k [] = tt
-uses-later k (q ∷ ps) =
-    let rs = place_roles q.place in
-    each-append (λ u. k ≤ u.point) (uses_at k 0 q.uses rs) (uses_from (suc k) ps)
-    (each-weaker (λ u. (u.point ≡ k) × (0 ≤ u.operand)) (λ u. k ≤ u.point) (uses_at k 0 q.uses rs) (λ u h. omega (arith, h.0)) (uses-place k 0 q.uses rs))
-    (each-weaker (λ u. suc k ≤ u.point) (λ u. k ≤ u.point) (uses_from (suc k) ps) (λ u h. omega (arith, h)) (uses-later (suc k) ps))
-
 uses-apart : (k : ℕ) (ps : List Point) → Pairs Elsewhere (uses_from k ps)
 uses-apart k [] = tt
 uses-apart k (q ∷ ps) =
     let rs = place_roles q.place in
     pairs-append Elsewhere (uses_at k 0 q.uses rs) (uses_from (suc k) ps)
     (each-weaker (λ u. (u.point ≡ k) × (0 ≤ u.operand)) (λ u. Each (Elsewhere u) (uses_from (suc k) ps)) (uses_at k 0 q.uses rs)
-    (λ u h. each-weaker (λ v. suc k ≤ v.point) (Elsewhere u) (uses_from (suc k) ps) (λ v g p o. omega (arith, h.0, g, p)) (uses-later (suc k) ps)) (uses-place k 0 q.uses rs))
+    (λ u h. each-weaker (λ v. suc k ≤ v.point) (Elsewhere u) (uses_from (suc k) ps) (λ v g p o. omega (arith, h.0, g, p)) (uses-from-point (suc k) ps)) (uses-place k 0 q.uses rs))
     (point-apart k 0 q.uses rs) (uses-apart (suc k) ps)
 
 -- ---- columns by name, in lines that are written out
