@@ -1,15 +1,15 @@
 //! What a placement and its form say: the placement is searched by itself, the form in tables by operand and variable.
 
-ghost use Rattle.std.specs.Prelude.{◌≡◌, ℕ, nat_eq, map, IfOk};
+ghost use Rattle.std.specs.Prelude.{◌≡◌, ℕ, map, IfOk};
 ghost use Rattle.std.specs.HashMap.{get};
 ghost use Rattle.ssu_ir.specs.View.{labels_view};
 ghost use Rattle.placement.specs.Plan.{plan_view};
-ghost use Rattle.bank_form.specs.inner.Form.{use_view, value_view};
-ghost use Rattle.bank_assignment.specs.inner.Chosen.{use_in, value_in};
-ghost use Rattle.bank_assignment.specs.inner.PlanTables.{pair_eq, known_number, known_value, known_role, AreTold};
+ghost use Rattle.bank_form.specs.inner.Form.{use_view};
+ghost use Rattle.bank_assignment.specs.inner.Chosen.{use_in};
+ghost use Rattle.bank_assignment.specs.inner.PlanTables.{pair_eq, known_value, known_role, AreTold};
 
 use crate::plan::PlanTables;
-use bank_prog::{Form, Use, Value};
+use bank_prog::{Form, Use, defining_points};
 use nv_base::NoMemory;
 use placement::Placement;
 use std::alloc::Global;
@@ -30,19 +30,6 @@ fn uses_by(alloc: Global, uses: &[Use]) -> Result<HashMap<(u32, u32), Use>, NoMe
     Ok(table)
 }
 
-/// The point of each value.
-fn points_by(alloc: Global, values: &[Value]) -> Result<HashMap<u32, u32>, NoMemory>
-    ensures { IfOk result (λ m. (x : ℕ) → known_number (get nat_eq m x) ≡ (value_in (map value_view values.now) x).point) }
-{
-    let mut table = HashMap::new(alloc);
-    let mut i = values.len();
-    while i > 0 {
-        i -= 1;
-        table.insert(values[i].var, values[i].point)?;
-    }
-    Ok(table)
-}
-
 /// A placement with the tables of its form.
 pub fn plan_tables<'a>(
     alloc: Global,
@@ -52,7 +39,7 @@ pub fn plan_tables<'a>(
     ensures { IfOk result (AreTold (labels_view f.now.ssu.now) (plan_view p.now)) }
 {
     let uses = uses_by(alloc, &f.tables.uses)?;
-    let points = points_by(alloc, &f.tables.values)?;
+    let points = defining_points(alloc, &f.tables.values)?;
     Ok(PlanTables {
         placement: p,
         uses,

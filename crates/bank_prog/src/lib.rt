@@ -17,3 +17,4 @@ pub use bank_form::{
 pub use error::BankError;
 pub use program::{build, program_of};
 pub use tables::{BankTables, bank_tables_of};
+pub use weighing::defining_points;

@@ -58,7 +58,7 @@ fn weights_of_points(
 }
 
 /// The point that defines each value.
-fn points_of(alloc: Global, values: &[Value]) -> Result<HashMap<u32, u32>, NoMemory>
+pub fn defining_points(alloc: Global, values: &[Value]) -> Result<HashMap<u32, u32>, NoMemory>
     ensures { IfOk result (λ m. (x : ℕ) → known_point (get nat_eq m x) ≡ point_in (map value_view values.now) x) }
 {
     let mut points = HashMap::new(alloc);
@@ -78,7 +78,7 @@ fn locate(alloc: Global, f: &Form<'_>, w: &Weights) -> Result<Located, NoMemory>
     Ok(Located {
         weights: weights_of_points(alloc, &f.point_ids, w)?,
         past: w.of(short(f.ssu.labels.len())?),
-        points: points_of(alloc, &f.tables.values)?,
+        points: defining_points(alloc, &f.tables.values)?,
     })
 }
 

@@ -13,6 +13,7 @@ use Rattle.bank_form.specs.declared.form.Use.{Use}
 use Rattle.bank_form.specs.inner.Form.{role_view}
 use Rattle.bank_form.specs.Program.{same_bank}
 use Rattle.bank_prog.specs.Meaning.{Chosen}
+use Rattle.bank_prog.specs.inner.Located.{known_point}
 use Rattle.bank_assignment.specs.declared.plan.PlanTables.{PlanTables}
 use Rattle.bank_assignment.specs.inner.Chosen.{use_at, value_at, bank_of, is_in_bank, preferred_bank, names}
 
@@ -20,10 +21,6 @@ use Rattle.bank_assignment.specs.inner.Chosen.{use_at, value_at, bank_of, is_in_
 
 abbrev pub pair_eq : ℕ × ℕ → ℕ × ℕ → Bool
 pair_eq a b = nat_eq a.0 b.0 && nat_eq a.1 b.1
-
-abbrev pub known_number : Option ℕ → ℕ
-known_number (Some n) = n
-known_number None = 0
 
 abbrev pub known_value : Option Use → ℕ
 known_value (Some u) = u.value
@@ -66,7 +63,7 @@ abbrev pub role_told : PlanTables → ℕ → ℕ → pure.Role
 role_told t k i = known_role (get pair_eq t.uses (k, i))
 
 abbrev pub point_told : PlanTables → ℕ → ℕ
-point_told t x = known_number (get nat_eq t.points x)
+point_told t x = known_point (get nat_eq t.points x)
 
 abbrev pub waits_told : PlanTables → ℕ → ℕ → Bool
 waits_told t k i = is_write_register (from_told t k i)

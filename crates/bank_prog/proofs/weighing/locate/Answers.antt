@@ -18,5 +18,5 @@ returns-clause-located c =
           ap (λ found. get_or found k c.of.result)
           (c.in_ok-weights_of_points.ensures s ∙ ap (λ point_ids. map (weight_of ws) (labels_behind 0 (map (kind_of_point s) point_ids))) c.deref.ensures.value ∙ ap (λ qs. map (weight_of ws) (labels_behind 0 qs)) c.args.f.now.in_order)
           ∙ point-weights labels ws k c.of.result (c.of.ensures.weight ∙ ap (weight_of ws) (c.in_ok-short.ensures ∙ c.len.ensures ∙ c.args.f.now.ssu.now.labels.ok.0 ∙ sym (length-view s)));
-      points = λ x. c.in_ok-points_of.ensures x ∙ ap (λ vs. point_in (map value_view vs) x) c.deref-2.ensures.value ∙ ap (λ vs. point_in vs x) c.args.f.now.right.values;
+      points = λ x. c.in_ok-defining_points.ensures x ∙ ap (λ vs. point_in (map value_view vs) x) c.deref-2.ensures.value ∙ ap (λ vs. point_in vs x) c.args.f.now.right.values;
     }
