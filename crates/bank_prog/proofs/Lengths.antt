@@ -103,7 +103,7 @@ numbered-long : (k : ℕ) (origin : ℕ → ValueOrigin) (i : ℕ) (xs : List �
 numbered-long k origin i [] = refl
 numbered-long k origin i (x ∷ xs) = let h = numbered-long k origin (suc i) xs in omega (arith, h)
 
-values-long : (k : ℕ) (q : PointKind) → length (place_values k q) ≡ length (pure.place_values q)
+pub values-long : (k : ℕ) (q : PointKind) → length (place_values k q) ≡ length (pure.place_values q)
 values-long k (Entry l params) = numbered-long k (Parameter l) 0 params
 values-long k (At (Does (Lit x v))) = refl
 values-long k (At (Does (Una x op y))) = refl

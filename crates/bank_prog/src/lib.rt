@@ -16,5 +16,5 @@ pub use bank_form::{
 };
 pub use error::BankError;
 pub use program::{build, program_of};
-pub use tables::{BankTables, bank_tables_of};
+pub use tables::{BankTables, bank_tables_of, with_columns};
 pub use weighing::defining_points;

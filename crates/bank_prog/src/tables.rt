@@ -31,6 +31,27 @@ pub struct BankTables<'a> {
     ghost numbered: { (c : column.Column) → get same_column numbers c ≡ number_of (labels_view form.ssu.now) c },
 }
 
+/// A form's tables, with those of its columns.
+///
+/// # Errors
+///
+/// `TooLarge` tells the number of columns, where it is above 2^26.
+pub fn with_columns(alloc: Global, form: Form<'_>) -> Result<BankTables<'_>, BankError>
+    ensures form { IfOk result (λ t. t.form.ssu.now ≡ form.entry.ssu.now) }
+    ensures many { (n : ℕ) → result ≡ Err (Exceeds n) → (n ≡ length (columns.columns (labels_view form.entry.ssu.now))) × (2 ^ 26 < n) }
+{
+    let priced = columns_of(alloc, &form)?;
+    if priced.len() > COUNT_LIMIT {
+        return Err(BankError::TooLarge(priced.len() as u64));
+    }
+    let numbers = number_columns(alloc, &priced)?;
+    Ok(BankTables {
+        form,
+        priced,
+        numbers,
+    })
+}
+
 /// The tables of a form and of its columns.
 ///
 /// # Errors
@@ -42,16 +63,7 @@ pub fn bank_tables_of(alloc: Global, s: &Ssu) -> Result<BankTables<'_>, BankErro
     ensures many { (n : ℕ) → result ≡ Err (Exceeds n) → (n ≡ length (columns.columns (labels_view s.now))) × (2 ^ 26 < n) }
 {
     let form = form_of(alloc, s)?;
-    let priced = columns_of(alloc, &form)?;
-    if priced.len() > COUNT_LIMIT {
-        return Err(BankError::TooLarge(priced.len() as u64));
-    }
-    let numbers = number_columns(alloc, &priced)?;
-    Ok(BankTables {
-        form,
-        priced,
-        numbers,
-    })
+    with_columns(alloc, form)
 }
 
 /// The names of columns without their costs.

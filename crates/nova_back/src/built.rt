@@ -68,7 +68,7 @@ fn code_of(
 /// # Errors
 ///
 /// The size of the program is looked at first, then whether the search found a choice, and last how long the code is. A form that needs more
-/// memory than `MEMORY_BOUND` by `need_of` is refused as out of memory before its tables are made.
+/// memory than `MEMORY_BOUND` by `need_of` is refused as out of memory before its columns are made.
 #[tactic(auto, using(crate::proofs::Reported::light_by))]
 pub fn back(
     alloc: Global,

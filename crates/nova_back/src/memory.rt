@@ -1,6 +1,6 @@
-//! What the choice of banks of a form takes, counted before its tables are made.
+//! What the choice of banks of a form takes, counted by the form's tables before its columns are made.
 
-ghost use Rattle.std.specs.Prelude.{◌≡◌, ◌<◌, ◌+◌, ◌*◌, ◌^◌, ℕ, true, length, Err, IfOk};
+ghost use Rattle.std.specs.Prelude.{◌≡◌, ◌<◌, ◌≤◌, ◌+◌, ◌*◌, ◌^◌, ℕ, nat_le, true, length, Err, IfOk};
 ghost use Rattle.ssu_ir.specs.Measures as measures;
 ghost use Rattle.ssu_ir.specs.Single.{single};
 ghost use Rattle.ssu_ir.specs.View.{labels_view};
@@ -10,13 +10,12 @@ ghost use Rattle.bank_prog.specs.declared.error.BankError.TheVariants.{TooLarge 
 ghost use Rattle.nova_back.specs.Memory as memory;
 ghost use Rattle.nova_back.specs.inner.Lengths as inner;
 
-use bank_prog::{BankError, BankTables, bank_tables_of};
+use bank_prog::{BankError, BankTables, Form, form_of, with_columns};
 use nv_base::NoMemory;
-use ssu_ir::{Ssu, size};
-use ssu_liveness::held;
+use ssu_ir::Ssu;
 use std::alloc::Global;
 
-/// A choice of banks that takes more bytes than this is refused as out of memory before its tables are made. Such a form holds hundreds of
+/// A choice of banks that takes more bytes than this is refused as out of memory before its columns are made. Such a form holds hundreds of
 /// values at hundreds of points; its search would take minutes, and not every machine has the memory.
 pub const MEMORY_BOUND: u64 = 1 << 31;
 
@@ -67,13 +66,31 @@ fn lengths(rows: &[Vec<u32>]) -> Result<u64, NoMemory>
     Ok(total)
 }
 
-/// The live values of all points.
-fn live_of(alloc: Global, s: &Ssu) -> Result<u64, NoMemory>
-    requires single { single (labels_view s.now) ≡ true }
-    ensures { IfOk result (λ n. n ≡ memory.live_total (labels_view s.now)) }
+/// The sum of three lengths.
+fn sum_of_three(a: usize, b: usize, c: usize) -> Result<u64, NoMemory>
+    ensures { IfOk result (λ n. n ≡ a + (b + c)) }
 {
-    let rows = held(alloc, s)?;
-    lengths(&rows)
+    sum(a as u64, sum(b as u64, c as u64)?)
+}
+
+/// The points, values and uses together.
+fn size_of(f: &Form<'_>) -> Result<u64, NoMemory>
+    requires { single (labels_view f.now.ssu.now) ≡ true }
+    ensures { IfOk result (λ n. n ≡ measures.size (labels_view f.now.ssu.now)) }
+{
+    sum_of_three(
+        f.point_ids.len(),
+        f.tables.values.len(),
+        f.tables.uses.len(),
+    )
+}
+
+/// The live values of all points.
+fn live_of(f: &Form<'_>) -> Result<u64, NoMemory>
+    requires { single (labels_view f.now.ssu.now) ≡ true }
+    ensures { IfOk result (λ n. n ≡ memory.live_total (labels_view f.now.ssu.now)) }
+{
+    lengths(&f.live)
 }
 
 /// The bytes for so many points, values and uses, and so many live values.
@@ -85,23 +102,24 @@ fn bytes_of(size: u64, live: u64) -> Result<u64, NoMemory>
 
 /// What the choice of banks of a form takes. The bytes are an estimate from what was measured; `back` refuses a form where they are above
 /// `MEMORY_BOUND`.
-pub fn need_of(alloc: Global, s: &Ssu) -> Result<Need, NoMemory>
-    requires single { single (labels_view s.now) ≡ true }
-    ensures size { IfOk result (λ n. n.size ≡ measures.size (labels_view s.now)) }
-    ensures live { IfOk result (λ n. n.live ≡ memory.live_total (labels_view s.now)) }
+pub fn need_of(f: &Form<'_>) -> Result<Need, NoMemory>
+    requires single { single (labels_view f.now.ssu.now) ≡ true }
+    ensures size { IfOk result (λ n. n.size ≡ measures.size (labels_view f.now.ssu.now)) }
+    ensures live { IfOk result (λ n. n.live ≡ memory.live_total (labels_view f.now.ssu.now)) }
     ensures bytes { IfOk result (λ n. n.bytes ≡ memory.bytes_of n.size n.live) }
 {
-    let size = size(alloc, s)?;
-    let live = live_of(alloc, s)?;
+    let size = size_of(f)?;
+    let live = live_of(f)?;
     let bytes = bytes_of(size, live)?;
     Ok(Need { size, live, bytes })
 }
 
 /// Whether a form needs at most the bound.
-fn is_within(alloc: Global, s: &Ssu) -> Result<bool, NoMemory>
-    requires single { single (labels_view s.now) ≡ true }
+fn is_within(f: &Form<'_>) -> Result<bool, NoMemory>
+    requires { single (labels_view f.now.ssu.now) ≡ true }
+    ensures { IfOk result (λ b. b ≡ nat_le (memory.bytes_of (measures.size (labels_view f.now.ssu.now)) (memory.live_total (labels_view f.now.ssu.now))) (2 ^ 31)) }
 {
-    let need = need_of(alloc, s)?;
+    let need = need_of(f)?;
     Ok(need.bytes <= MEMORY_BOUND)
 }
 
@@ -109,10 +127,12 @@ fn is_within(alloc: Global, s: &Ssu) -> Result<bool, NoMemory>
 pub fn bounded_tables_of(alloc: Global, s: &Ssu) -> Result<BankTables<'_>, BankError>
     requires single { single (labels_view s.now) ≡ true }
     ensures form { IfOk result (λ t. t.form.ssu.now ≡ s.now) }
+    ensures bounded { IfOk result (λ _. memory.bytes_of (measures.size (labels_view s.now)) (memory.live_total (labels_view s.now)) ≤ 2 ^ 31) }
     ensures many { (n : ℕ) → result ≡ Err (Exceeds n) → (n ≡ length (columns (labels_view s.now))) × (2 ^ 26 < n) }
 {
-    match is_within(alloc, s) {
-        Ok(true) => bank_tables_of(alloc, s),
-        Ok(false) | Err(NoMemory) => Err(BankError::NoMemory),
+    let form = form_of(alloc, s)?;
+    if !is_within(&form)? {
+        return Err(BankError::NoMemory);
     }
+    with_columns(alloc, form)
 }
