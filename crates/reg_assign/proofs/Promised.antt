@@ -1,5 +1,5 @@
 -- The placement that is read off from a vector that meets the rows fits, and costs no more than the vector.
-use Rattle.std.proofs.Common.{◌≡◌, ℕ, ◌≤◌, Bool, true, List, map, sym, ap, subst, ◌∙◌, arith}
+use Rattle.std.proofs.Common.{◌≡◌, ℕ, ◌≤◌, Bool, true, List, map, sym, ap, subst, arith}
 use Rattle.std.proofs.lemmas.Result.{IfOk-weaker}
 use Rattle.std.specs.Prelude.{Result as Outcome, IfOk}
 use Rattle.ssu_ir.specs.declared.ssu.Ssu.{Ssu}
@@ -12,7 +12,6 @@ use Rattle.placement.specs.Fits.{Fits}
 use Rattle.placement.specs.Plan.{Plan, home_view, plan_view}
 use Rattle.zo_model.specs.Program.{vector, costs_of}
 use Rattle.bank_form.specs.Columns.{priced, costs}
-use Rattle.bank_prog.specs.Weighted.{weighted_costs}
 use Rattle.bank_prog.specs.Meaning.{on, named_cost, IsFeasible}
 use Rattle.bank_prog.proofs.LawsColumns.{on-there}
 use Rattle.bank_prog.proofs.LawsCost.{costs-by-name}
@@ -20,7 +19,6 @@ use Rattle.reg_assign.specs.declared.given.AssignmentInputs.{AssignmentInputs}
 use Rattle.bank_assignment.specs.declared.numbers.BankNumbers.{BankNumbers}
 use Rattle.bank_assignment.specs.declared.reading.Reading.{Reading}
 use Rattle.label_weights.specs.ByLabel.{label_cost}
-use Rattle.label_weights.specs.Weighted.{weighted_cost}
 use Rattle.bank_assignment.specs.ByLabel.{label_price}
 use Rattle.bank_assignment.specs.inner.Facts.{OnlyThere}
 use Rattle.bank_assignment.specs.inner.ReadOff.{Numbers, AreNumbered, read_off}

@@ -1,6 +1,6 @@
 -- Numbers that were found by hints are those that a placement asks for.
-use Rattle.std.proofs.Common.{◌≡◌, ℕ, suc, nat_eq, Bool, true, Option, Some, None, List, [], ◌∷◌, length, map, filter, refl, sym, ap, subst, ◌∙◌}
-use Rattle.std.specs.Prelude.{All, IfSome}
+use Rattle.std.proofs.Common.{◌≡◌, ℕ, suc, nat_eq, Bool, true, Option, List, [], ◌∷◌, length, map, filter, refl, sym, ap, subst, ◌∙◌}
+use Rattle.std.specs.Prelude.{All}
 use Rattle.std.specs.HashMap.{get}
 use Rattle.std.specs.List.{AllZip}
 use Rattle.std.proofs.lemmas.Bool.{and_from}
@@ -17,12 +17,6 @@ use Rattle.bank_assignment.specs.inner.ReadOff.{has_home}
 use Rattle.bank_assignment.specs.inner.Reading.{says, labels_of}
 use Rattle.bank_assignment.proofs.Numbered.{rows-kept}
 use Rattle.register_hints.specs.Rows.{HasNumbers}
-
--- ---- what is said where there is a table
-
-pub if-some-map : {X : Type 0} (o : Option X) (P Q : X → Type 0) → ((x : X) → P x → Q x) → IfSome o P → IfSome o Q
-if-some-map None P Q f h = tt
-if-some-map (Some x) P Q f h = f x h
 
 -- ---- from rows to points
 
