@@ -398,9 +398,9 @@ def believed_as_made(top):
 
 
 def nothing_new_twice(top):
-    """No function and no lemma stands twice but those that bench/repeated.txt lists, and these still do."""
+    """No function and no lemma stands twice but those that bench/repeated.txt lists with a reason, and these still do."""
     ran = subprocess.run([sys.executable, os.path.join(top, "bench", "repeated")], capture_output=True, text=True)
-    return [] if ran.returncode == 0 else [it for it in ran.stdout.split("\n") if it.startswith(("NEW", "GONE"))] + [ran.stderr]
+    return [] if ran.returncode == 0 else [it for it in ran.stdout.split("\n") if it.startswith(("NEW", "GONE", "NO REASON"))] + [ran.stderr]
 
 
 LONGEST_LINE, LONGEST_SENTENCE = 160, 30
