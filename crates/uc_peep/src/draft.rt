@@ -43,8 +43,9 @@ fn refresh(code: &[Instr], sets: &mut [LiveSet], p: usize, k: usize) -> bool
     new.is_within(&old)
 }
 
-// Where something was replaced: gives p the set of what its instruction needs, if all that is in it was there before.
-fn renew(code: &[Instr], sets: &mut [LiveSet], p: usize, changed: bool)
+// Where something was replaced: gives p the set of what its instruction needs, if all that is in it was there before. What
+// isn't a branch needs what it did unless the next place's set has moved.
+fn renew(code: &[Instr], sets: &mut [LiveSet], p: usize, changed: bool, moved: bool)
     requires lawful { IsProgram code.now }
     requires sets { length sets.old ≡ length code.now }
     requires inside { p < length code.now }
@@ -53,6 +54,9 @@ fn renew(code: &[Instr], sets: &mut [LiveSet], p: usize, changed: bool)
     ensures same { changed ≡ false → sets.new ≡ sets.old }
 {
     if !changed {
+        return;
+    }
+    if !moved && !matches!(code[p], Instr::Br { .. }) {
         return;
     }
     let old = sets[p];
@@ -72,6 +76,7 @@ fn replace_at<R: Window>(
     sets: &mut [LiveSet],
     p: usize,
     changed: bool,
+    moved: bool,
 ) -> Turn
     requires ready { R.ready r.now }
     requires lawful { IsProgram code.old }
@@ -92,7 +97,7 @@ fn replace_at<R: Window>(
             Turn::Stops
         }
         None => {
-            renew(code, sets, p, changed);
+            renew(code, sets, p, changed, moved);
             Turn::Stays
         }
     }
@@ -121,12 +126,15 @@ pub fn pass<R: Window>(
     ensures { IsPassed (R.answers r.now) code.old starts.now entered.now started.now gone.old sets.old code.new gone.new result }
 {
     let mut changed = false;
+    let mut moved = false;
     for p in (0..code.len()).rev() {
-        match replace_at(r, code, gone, entered, started, sets, p, changed) {
+        let old = sets[p];
+        match replace_at(r, code, gone, entered, started, sets, p, changed, moved) {
             Turn::Stays => {}
             Turn::Changed => changed = true,
             Turn::Stops => return true,
         }
+        moved = !sets[p].same(&old);
     }
     changed
 }
