@@ -5,7 +5,7 @@ use Rattle.nv_base.specs.declared.outcome.Outcome.{Outcome}
 use Rattle.nv_base.specs.declared.outcome.Outcome.TheVariants.{Ended, Raised, Fault, Going}
 use Rattle.nv_base.specs.declared.term.Mem.{Mem}
 use Rattle.schedule_text.specs.ScheduleText.{Gives}
-use Rattle.schedule_text.proofs.Reading.{bad_one, gives_one, gives_not_bad}
+use Rattle.schedule_text.proofs.Reading.{bad_one, gives_not_bad}
 use Rattle.uc_contexts.specs.declared.state.Context.{Context}
 use Rattle.uc_contexts.specs.Alone.{lone_runs}
 use Rattle.uc_contexts.specs.Footprints.{Isolated}
@@ -28,9 +28,6 @@ turns-refused-one params u _ e' h k = absurd h
 pub turns-good : (params : ℕ) (u : List ℕ) (e : Refusal) (args : List (List ℕ)) (es : List (ℕ × ℕ)) → Gives params u args es → IsScheduleRefusedFor params u e → ⊥
 turns-good params u (BadSchedule n) args es g h = gives_not_bad params u args es n g h
 turns-good params u _ args es g h = h
-
-pub turns-one : (params : ℕ) (u : List ℕ) (args args' : List (List ℕ)) (es es' : List (ℕ × ℕ)) → Gives params u args es → Gives params u args' es' → (args ≡ args') × (es ≡ es')
-turns-one params u args args' es es' g h = gives_one params u args args' es es' g h
 
 -- ---- turns
 

@@ -1,5 +1,5 @@
 -- Code that does what its source says writes the same as the source, as far as both go.
-use Rattle.std.proofs.Common.{◌≡◌, ◌≢◌, ℕ, zero, suc, ◌+◌, ◌^◌, ◌<◌, ◌≤◌, List, [], ◌∷◌, ◌++◌, Option, Some, None, All, length, map, take, drop, refl, sym, ap, ◌∙◌, subst, append_assoc, append-nil, unwrap_or, arith, ◌⊎◌, inl, inr}
+use Rattle.std.proofs.Common.{◌≡◌, ◌≢◌, ℕ, zero, suc, ◌+◌, ◌^◌, ◌<◌, List, [], ◌∷◌, ◌++◌, Option, Some, None, All, length, map, take, drop, refl, sym, ap, ◌∙◌, subst, append_assoc, append-nil, unwrap_or, arith, ◌⊎◌, inl, inr}
 use Rattle.std.specs.Prelude.{slice_get}
 use Rattle.std.proofs.lemmas.List.{take-append-drop, take-map}
 use Rattle.std.proofs.lemmas.Bool.{cases_lt}
@@ -7,7 +7,7 @@ use Rattle.std.proofs.lemmas.Int.Digits.{digits_value-lt}
 use Rattle.std.proofs.lemmas.List.Elements.{All-nil, All-cons}
 use Rattle.std.specs.Str.Parse.{digits_value}
 use Rattle.line_text.specs.Number.{SpellsWord}
-use Rattle.nv_base.specs.Memories.{Memories, HasSizes, blank, stored, first_too_large}
+use Rattle.nv_base.specs.Memories.{Memories, HasSizes, blank, stored}
 use Rattle.nv_base.specs.Meanings.{IsPrefix, seen, source_writes}
 use Rattle.nv_base.specs.declared.outcome.Write.{Write}
 use Rattle.nv_base.proofs.Blank.{blank-sizes}
@@ -21,6 +21,7 @@ use Rattle.nv_meaning.specs.Meaning.{source, traced}
 use Rattle.nv_memtext.specs.MemoryText.{Gives, SpellStretches, stretched}
 use Rattle.nv_memtext.specs.Spelling.{SpellWords}
 use Rattle.nv_memtext.specs.declared.line.Stretch.{Stretch}
+use Rattle.nv_memtext.proofs.TextLemmas.{small_sizes}
 use Rattle.nv_trace.specs.Unlike.{IsFirstUnlike}
 use Rattle.nv_trace.proofs.FirstMade.{plain-source}
 use Rattle.uc_isa.specs.Agrees.{Agrees, IsStart}
@@ -39,7 +40,7 @@ word-small p w h =
     let value : digits_value 16 p ≡ w = h.value in
     omega (arith, below, bound, value)
 
-words-small : (ps : List (List ℕ)) (ws : List ℕ) → SpellWords ps ws → All (λ w. w < 2 ^ 32) ws
+pub words-small : (ps : List (List ℕ)) (ws : List ℕ) → SpellWords ps ws → All (λ w. w < 2 ^ 32) ws
 words-small [] [] h = All-nil (λ (w : ℕ). w < 2 ^ 32)
 words-small [] (w ∷ ws) h = absurd h
 words-small (p ∷ ps) [] h = absurd h
@@ -55,13 +56,10 @@ stretched-sizes sram sdram (l ∷ ls) (s ∷ ss) p h sizes = stretched-sizes sra
     by None e = sizes
     by (Some q) e = stored-sizes s.mem s.at s.words p q sizes (words-small h.0.parts s.words h.0.words) e
 
-not-large : (sram sdram : ℕ) → first_too_large sram sdram ≡ None → (sram ≤ 65536) × (sdram ≤ 65536)
-not-large sram sdram e = grind arith
-
 given-start : (params : ℕ) (bytes : List ℕ) (p : Memories) (args : List ℕ) → Gives params bytes p args → IsStart params args p spill_base
 given-start params bytes p args g =
     let t = g.text in
-    let small = not-large t.sram t.sdram t.small in
+    let small = small_sizes t.sram t.sdram t.small in
     record {
       words = (t.number, words-small t.arguments.parts args t.arguments.words);
       memories = subst HasSizes (sym t.memories) (stretched-sizes t.sram t.sdram t.others t.stretches (blank t.sram t.sdram) t.spelled (blank-sizes t.sram t.sdram small.0 small.1));

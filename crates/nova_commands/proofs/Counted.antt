@@ -1,13 +1,9 @@
 -- What `counts` saves and prints.
-use Rattle.std.proofs.Common.{◌≡◌, ℕ, ◌^◌, ◌<◌, List, [], ◌∷◌, All, length, ap, subst, arith}
-use Rattle.std.proofs.lemmas.Int.Digits.{digits_value-lt}
-use Rattle.std.proofs.lemmas.List.Elements.{All-nil, All-cons}
-use Rattle.line_text.specs.Number.{SpellsWord}
+use Rattle.std.proofs.Common.{◌≡◌, ℕ, List, [], ◌∷◌, arith}
 use Rattle.nv_ast.specs.Sizes.{main_words}
 use Rattle.nv_ast.specs.Tree.{ProgramTree}
 use Rattle.nv_base.specs.Memories.{Memories, HasSizes}
 use Rattle.nv_memtext.specs.MemoryText.{Gives}
-use Rattle.nv_memtext.specs.Spelling.{SpellWords}
 use Rattle.ssu_ir.specs.Meaning.{ssu_meaning}
 use Rattle.ssu_ir.specs.Tree.{Label}
 use Rattle.entry_counts.specs.Counting.{AreCounted}
@@ -19,19 +15,7 @@ use Rattle.machine_commands.specs.inner.Files.{files_of}
 use Rattle.machine_commands.specs.declared.save.Made.{Made}
 use Rattle.nova_commands.specs.Entries.{CountsMake}
 use Rattle.nova_commands.specs.Forms.{IsFormOf}
-
--- eight digits of base 16 write a word
-word-fits : (p : List ℕ) (w : ℕ) → SpellsWord p w → w < 2 ^ 32
-word-fits p w h =
-    let low = digits_value-lt 16 p h.digits in
-    let eight : 16 ^ length p ≡ 16 ^ 8 = ap (λ (k : ℕ). 16 ^ k) h.eight in
-    subst (λ (x : ℕ). x < 2 ^ 32) h.value (omega (arith, low, eight))
-
-words-fit : (ps : List (List ℕ)) (ws : List ℕ) → SpellWords ps ws → All (λ w. w < 2 ^ 32) ws
-words-fit [] [] h = All-nil (λ w. w < 2 ^ 32)
-words-fit (p ∷ ps) (w ∷ ws) h = All-cons (λ w. w < 2 ^ 32) w ws (word-fits p w h.0) (words-fit ps ws h.1)
-words-fit [] (w ∷ ws) h = absurd h
-words-fit (p ∷ ps) [] h = absurd h
+use Rattle.nova_commands.proofs.Agreeing.{words-small}
 
 pub counts-made : (text memory name : List ℕ) (jumps : ℕ) (program : ProgramTree) (form : List Label) (packet : Memories) (args counts : List ℕ) (m : Made) → IsTypedSource text program → IsFormOf program form → Gives (main_words program) memory packet args → HasSizes packet
     → AreCounted form args packet jumps counts → files_of m.outputs ≡ file name counts ∷ [] → m.status ≡ outcome_status (ssu_meaning form args packet jumps).outcome → m.text.items ≡ full_text (ssu_meaning form args packet jumps)
@@ -49,5 +33,5 @@ counts-made text memory name jumps program form packet args counts m typed is gi
   counted = counted;
   ends = ends;
   prints = prints;
-  same = λ over. (is.kept.same args packet (given.text.number, words-fit given.text.arguments.parts args given.text.arguments.words) sizes).ends_only jumps over;
+  same = λ over. (is.kept.same args packet (given.text.number, words-small given.text.arguments.parts args given.text.arguments.words) sizes).ends_only jumps over;
 }

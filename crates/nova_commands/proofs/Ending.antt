@@ -1,5 +1,5 @@
 -- What the program ends with.
-use Rattle.std.proofs.Common.{◌≡◌, ◌∙◌, ℕ, List, Option, Some, None, Result, Ok, Err, IfErr}
+use Rattle.std.proofs.Common.{◌≡◌, ◌∙◌, ℕ, List, Option, Some, None}
 use Rattle.std.specs.Process.{exit_status}
 use Rattle.std.specs.declared.process.ExitCode.{ExitCode}
 use Rattle.nv_outside.specs.Calls.{Call, AsksAtMost}
@@ -17,11 +17,3 @@ exits-with e code s P is number p = (s, is ∙ number, p)
 pub asks-nothing : {S : Type 0} (history : S → List Call → Type 0) (s : S) (o : Option Command) → IfCommand o (λ c. AsksAtMost history s s (calls_of c))
 asks-nothing history s None = tt
 asks-nothing history s (Some c) = at_most-none history s (calls_of c)
-
-pub if-err-weaker : {T E : Type 0} (r : Result T E) (P Q : E → Type 0) → ((e : E) → P e → Q e) → IfErr r P → IfErr r Q
-if-err-weaker (Ok v) P Q f h = tt
-if-err-weaker (Err e) P Q f h = f e h
-
-pub if-err-all : {T E : Type 0} (r : Result T E) (Q : E → Type 0) → ((e : E) → Q e) → IfErr r Q
-if-err-all (Ok v) Q f = tt
-if-err-all (Err e) Q f = f e

@@ -41,6 +41,7 @@ use Rattle.command_line.specs.Lines.{counted, refusal_status}
 use Rattle.machine_commands.specs.Machine.{IsBadObjectFor, IsUnlawfulFor, IsMemoryRefusedFor, LintRefuses, RunRefuses, IsLinted, IsRun, spill_base, full_text, run_text}
 use Rattle.machine_commands.specs.Scheduled.{ContextsRefuse, HaveTakenTurns, IsScheduleRefusedFor, IsScheduled}
 use Rattle.schedule_text.specs.ScheduleText.{Gives as GivesTurns}
+use Rattle.schedule_text.proofs.Reading.{gives_one as turns-one}
 use Rattle.uc_contexts.specs.Turns.{entries, scheduled, started}
 use Rattle.machine_commands.specs.Saving.{File}
 use Rattle.nova_commands.specs.Tracing.{IsTraced, TraceRefuses, ObjectRefuses, CodeRefuses, IsOtherFor, made_writes, code_writes}
@@ -48,7 +49,7 @@ use Rattle.nv_values.specs.Running.{plain}
 use Rattle.nv_trace.specs.TraceText.{shown, trace_text}
 use Rattle.nv_trace.specs.Unlike.{AgreeAsFar}
 use Rattle.nv_trace.proofs.Unlikes.{unlike-one, unlike-agree}
-use Rattle.machine_commands.proofs.OneSchedule.{taken-one, taken-outcome, turns-one, turns-good, turns-refused-one}
+use Rattle.machine_commands.proofs.OneSchedule.{taken-one, taken-outcome, turns-good, turns-refused-one}
 use Rattle.command_line.specs.Status.{outcome_status, MaySave}
 use Rattle.machine_commands.specs.inner.Outcomes.{IsOutcome}
 use Rattle.command_line.specs.declared.refusal.Refusal.{Refusal}

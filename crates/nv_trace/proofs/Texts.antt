@@ -1,9 +1,9 @@
 -- The text of a trace, write by write.
-use Rattle.std.proofs.Common.{◌≡◌, ℕ, zero, suc, Option, min, inl, inr, ◌+◌, ◌<◌, ◌≤◌, ◌==◌, Bool, true, false, List, [], ◌∷◌, ◌++◌, length, map, take, drop, get_or, codes, decimal, refl, sym, ap, ◌∙◌, append_assoc, append-nil, if◌then◌else◌, arith}
+use Rattle.std.proofs.Common.{◌≡◌, ℕ, Option, min, inl, inr, ◌+◌, ◌<◌, ◌≤◌, ◌==◌, Bool, true, false, List, [], ◌∷◌, ◌++◌, length, map, take, drop, get_or, codes, decimal, refl, sym, ap, ◌∙◌, append_assoc, append-nil, if◌then◌else◌, arith}
 use Rattle.std.specs.List.{flat_map}
 use Rattle.std.proofs.lemmas.Bool.{eqb-true, eq-eqb, cases_lt}
 use Rattle.std.proofs.lemmas.Grind.{take_at_read}
-use Rattle.std.proofs.lemmas.List.{map-append, take-map, take_all, drop_all, length-take, length-take-le, length-map}
+use Rattle.std.proofs.lemmas.List.{map-append, take-map, take-take, take_all, drop_all, length-take, length-take-le, length-map}
 use Rattle.line_text.specs.Line.{text_of}
 use Rattle.line_text.specs.LineColumn.{line_at}
 use Rattle.nv_ast.proofs.Items.{next_item}
@@ -71,14 +71,6 @@ pub write-pieces : (m : Mem) (at : ℕ) (ws : List ℕ) → codes "write " ++ (n
 write-pieces m at ws = ap (λ t. codes "write " ++ (name_of m ++ (32 ∷ t))) (sym (words_line (decimal at) ws))
 
 -- ---- the whole text
-take-less : {A : Type 0} (i k : ℕ) (xs : List A) → i ≤ k → take i (take k xs) ≡ take i xs
-take-less zero zero xs le = refl
-take-less zero (suc k) [] le = refl
-take-less zero (suc k) (x ∷ xs) le = refl
-take-less (suc i) zero xs le = absurd (omega arith)
-take-less (suc i) (suc k) [] le = refl
-take-less (suc i) (suc k) (x ∷ xs) le = ap (λ l. x ∷ l) (take-less i k xs (omega arith))
-
 take-min : {A : Type 0} (xs : List A) (most n : ℕ) → n ≡ min most (length xs) → take most xs ≡ take n xs
 take-min xs most n e = elim (cases_lt most (length xs)) [
   | inl less ↦ ap (λ k. take k xs) (grind (arith, e, less))
@@ -96,7 +88,7 @@ whole-text source line chains kept most n count a b d e is_n inside is_shown is_
     let few : count ≤ n = grind (arith, long, inside) in
     let within : count ≤ length kept = grind (arith, long, inside) in
     let same : map f (take count kept) ≡ all =
-    ap (map f) (sym (take-less count n kept few)) ∙ is_shown ∙ ap (shown source line) (sym (take-map f most kept ∙ ap (map f) (take-min kept most n is_n))) in
+    ap (map f) (sym (take-take count n kept few)) ∙ is_shown ∙ ap (shown source line) (sym (take-map f most kept ∙ ap (map f) (take-min kept most n is_n))) in
     let number : count ≡ length all =
     sym (sym (ap (λ (ms : List Made). length ms) same) ∙ length-map (take count kept) f ∙ length-take-le count kept within) in
     let text : a ≡ text_of (map (made_line source) all) = is_a ∙ lines-text source chains (take count kept) ∙ ap (λ (ms : List Made). text_of (map (made_line source) ms)) same in

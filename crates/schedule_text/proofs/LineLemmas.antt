@@ -1,5 +1,5 @@
 -- What each line's parts are.
-use Rattle.std.proofs.Common.{◌≡◌, ℕ, ◌-◌, ◌≤◌, List, [], ◌∷◌, length, refl, sym, ap, ◌∙◌, subst, arith, codes, decimal, lit≤, Option, None, Some, IfSome, IfNone}
+use Rattle.std.proofs.Common.{◌≡◌, ℕ, ◌-◌, ◌≤◌, List, [], ◌∷◌, length, refl, sym, ap, ◌∙◌, subst, arith, codes, decimal, lit≤}
 use Rattle.line_text.specs.Line.{Lacks, parts, parted}
 use Rattle.line_text.proofs.SplitLaws.{parts-parted, parted-parts, Lacks-parted, Lacks-test}
 use Rattle.line_text.proofs.NumberLaws.{Lacks-decimal}
@@ -110,13 +110,3 @@ entries_lack k left line e a b h =
     subst (Lacks 10) (sym h.spelled)
     (Lacks-parted 10 (codes "run" ∷ decimal e.0 ∷ decimal e.1 ∷ []) (λ e. omega (arith, e))
     (Lacks-test 10 (codes "run") refl, (Lacks-decimal 10 e.0 (lit≤ tt) (omega (arith, h.named)), (Lacks-decimal 10 e.1 (lit≤ tt) (omega (arith, h.few)), tt))))
-
--- ---- options
-
-pub if_some : {X : Type 0} (r : Option X) (P Q : X → Type 0) → ((x : X) → P x → Q x) → IfSome r P → IfSome r Q
-if_some None P Q f h = tt
-if_some (Some x) P Q f h = f x h
-
-pub if_none : {X : Type 0} (r : Option X) {P Q : Type 0} → (P → Q) → IfNone r P → IfNone r Q
-if_none None f h = f h
-if_none (Some x) f h = tt

@@ -1,10 +1,12 @@
 use Rattle.std.proofs.Common.{◌≡◌, ◌∙◌, sym, refl, inr, ap, List, ℕ}
 use Rattle.std.proofs.lemmas.Bool.{false≢true}
+use Rattle.std.proofs.lemmas.Result.{IfErr-weaker}
 use Rattle.nv_outside.specs.Causes.{Rose}
+use Rattle.nv_outside.proofs.Steps.{if-err}
 use Rattle.command_line.specs.Command.{command_of}
 use Rattle.command_line.specs.declared.status.Status.TheVariants as status
 use Rattle.nova_commands.specs.Exits.{words_given}
-use Rattle.nova_commands.proofs.Ending.{asks-nothing, if-err-weaker, if-err-all}
+use Rattle.nova_commands.proofs.Ending.{asks-nothing}
 use Rattle.nova_commands.proofs.Printing.{memory-printed}
 use Rattle.nova_commands.proofs.program.exit_code.Goals as goal
 
@@ -25,7 +27,7 @@ pub returns-in-Ok-clause-asked : goal.returns-in-Ok-clause-asked
 returns-in-Ok-clause-asked g c = rw (sym c.in-Ok.ensures.words) c.run.ensures.asked
 
 pub returns-in-Ok-clause-memory : goal.returns-in-Ok-clause-memory
-returns-in-Ok-clause-memory g c = if-err-weaker c.args.given _ _ (λ e h. λ kind. absurd (false≢true (h.0 kind))) c.in-Ok.ensures.memory
+returns-in-Ok-clause-memory g c = IfErr-weaker c.args.given _ _ (λ e h. λ kind. absurd (false≢true (h.0 kind))) c.in-Ok.ensures.memory
 
 pub returns-in-Ok-clause-untouched : goal.returns-in-Ok-clause-untouched
 returns-in-Ok-clause-untouched g c = λ none. c.run.ensures.untouched (ap command_of c.in-Ok.ensures.words ∙ none)
@@ -54,7 +56,7 @@ pub returns-in-Err-clause-asked : goal.returns-in-Err-clause-asked
 returns-in-Err-clause-asked g c = asks-nothing g.F.Files.history c.args.files.now (command_of (words_given c.args.given))
 
 pub returns-in-Err-clause-memory : goal.returns-in-Err-clause-memory
-returns-in-Err-clause-memory g c = if-err-all c.args.given _ (λ e kind. (status.NoMemory, c.from-in-Err.ensures ∙ c.code-in-Err.ensures, refl))
+returns-in-Err-clause-memory g c = if-err c.args.given _ (λ e kind. (status.NoMemory, c.from-in-Err.ensures ∙ c.code-in-Err.ensures, refl))
 
 pub returns-in-Err-clause-silent : goal.returns-in-Err-clause-silent
 returns-in-Err-clause-silent g c = (status.NoMemory, c.from-in-Err.ensures ∙ c.code-in-Err.ensures, λ memory. refl)
