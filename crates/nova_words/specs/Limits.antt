@@ -1,11 +1,15 @@
--- Within which limits the numbers of a command are, and which words save files.
+-- Within which limits the numbers of a command are, by which name it is called, and which words save files.
 use Rattle.std.specs.Prelude.{◌≡◌, ◌≤◌, ◌⊎◌, ℕ, List, MatchOption, String, slice_get, string_bytes, codes, ⊤}
 use Rattle.std.specs.Global.{Global}
 use Rattle.nova_words.specs.declared.command.Command.{Command}
-use Rattle.nova_words.specs.declared.command.Command.TheVariants.{Build, Run, Page, Test}
+use Rattle.nova_words.specs.declared.command.Command.TheVariants.{Build, Run, List as ListCommand, Check, Test, Page, Explain, Help, Version}
 use Rattle.nova_words.specs.declared.command.Build.{Build as BuildWords}
 use Rattle.nova_words.specs.declared.verb.Verb.{Verb}
 use Rattle.nova_words.specs.declared.verb.Verb.TheVariants as verb
+
+-- how many steps of code, or calls of the interpreter, words can allow
+abbrev pub steps_limit : ℕ
+steps_limit = 100000000
 
 -- those of a compilation
 pub record AreInLimits (b : BuildWords) : Type 0 where
@@ -17,9 +21,9 @@ pub record AreInLimits (b : BuildWords) : Type 0 where
 -- those of a command
 abbrev pub HasLimits : Command → Type 0
 HasLimits (Build b) = AreInLimits b
-HasLimits (Run r) = r.steps ≤ 100000000
-HasLimits (Page p) = p.steps ≤ 100000000
-HasLimits (Test t) = t.steps ≤ 100000000
+HasLimits (Run r) = r.steps ≤ steps_limit
+HasLimits (Page p) = p.steps ≤ steps_limit
+HasLimits (Test t) = t.steps ≤ steps_limit
 HasLimits _ = ⊤
 
 -- the command may save files
@@ -29,17 +33,38 @@ Saves (Run r) = ⊤
 Saves (Page p) = ⊤
 Saves _ = ⊥
 
--- the command of this name may
-abbrev pub IsSaver : Verb → Type 0
-IsSaver verb.Build = ⊤
-IsSaver verb.Run = ⊤
-IsSaver verb.Page = ⊤
-IsSaver _ = ⊥
+-- the name of a command
+abbrev pub name_of : Verb → List ℕ
+name_of verb.Build = codes "build"
+name_of verb.Run = codes "run"
+name_of verb.List = codes "list"
+name_of verb.Check = codes "check"
+name_of verb.Test = codes "test"
+name_of verb.Page = codes "page"
+name_of verb.Explain = codes "explain"
+name_of verb.Help = codes "help"
+name_of verb.Version = codes "version"
 
--- the word is the name of such a command
+-- the first word calls this command; help may be asked for by an option
+abbrev pub IsCalled : List ℕ → Command → Type 0
+IsCalled word (Build b) = word ≡ codes "build"
+IsCalled word (Run r) = word ≡ codes "run"
+IsCalled word (ListCommand name) = word ≡ codes "list"
+IsCalled word (Check c) = word ≡ codes "check"
+IsCalled word (Test t) = word ≡ codes "test"
+IsCalled word (Page p) = word ≡ codes "page"
+IsCalled word (Explain words) = word ≡ codes "explain"
+IsCalled word (Help verb) = ⊤
+IsCalled word Version = (word ≡ codes "version") ⊎ (word ≡ codes "--version")
+
+-- the word is the name of a command that may save files
 abbrev pub NamesSaver : List ℕ → Type 0
 NamesSaver word = (word ≡ codes "build") ⊎ (word ≡ codes "run") ⊎ (word ≡ codes "page")
 
--- the first of the words is
+-- this holds of the first of the words, and there is one
+abbrev pub FirstIs : List (String Global) → (List ℕ → Type 0) → Type 0
+FirstIs words P = MatchOption (slice_get words 0) ⊥ (λ word. P (string_bytes word))
+
+-- the first of the words is the name of such a command
 abbrev pub MaySave : List (String Global) → Type 0
-MaySave words = MatchOption (slice_get words 0) ⊥ (λ word. NamesSaver (string_bytes word))
+MaySave words = FirstIs words NamesSaver

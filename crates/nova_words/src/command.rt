@@ -1,6 +1,6 @@
 //! Which command words are.
-ghost use Rattle.std.specs.Prelude.{◌≤◌, IfOk};
-ghost use Rattle.nova_words.specs.Limits.{HasLimits, IsSaver, MaySave, NamesSaver, Saves};
+ghost use Rattle.std.specs.Prelude.{◌≤◌, IfOk, codes};
+ghost use Rattle.nova_words.specs.Limits.{FirstIs, HasLimits, IsCalled, MaySave, Saves, name_of};
 
 use crate::fault::WordFault;
 use crate::number::read_number;
@@ -105,6 +105,7 @@ pub enum Command<'a> {
 /// The command that words are, the program's name left out.
 pub fn command_of<'a>(alloc: Global, words: &'a [String]) -> Result<Command<'a>, WordFault<'a>>
     ensures limits { IfOk result HasLimits }
+    ensures called { IfOk result (λ c. FirstIs words.now (λ word. IsCalled word c)) }
     // Only `build`, `run` and `page` save files.
     ensures saves { IfOk result (λ c. Saves c → MaySave words.now) }
 {
@@ -120,7 +121,7 @@ fn command_named<'a>(
     words: &'a [String],
 ) -> Result<Command<'a>, WordFault<'a>>
     ensures limits { IfOk result HasLimits }
-    ensures saves { IfOk result (λ c. Saves c → NamesSaver first.now) }
+    ensures called { IfOk result (IsCalled first.now) }
 {
     if first == "--help" || first == "-h" {
         return Ok(Command::Help(None));
@@ -141,7 +142,7 @@ fn command_with<'a>(
     words: &'a [String],
 ) -> Result<Command<'a>, WordFault<'a>>
     ensures limits { IfOk result HasLimits }
-    ensures saves { IfOk result (λ c. Saves c → IsSaver verb) }
+    ensures called { IfOk result (IsCalled (name_of verb)) }
 {
     let parts = Parts::of(alloc, verb, words)?;
     let command = command_in(alloc, verb, &parts, words);
@@ -156,7 +157,7 @@ fn command_in<'a>(
     words: &'a [String],
 ) -> Result<Command<'a>, WordFault<'a>>
     ensures limits { IfOk result HasLimits }
-    ensures saves { IfOk result (λ c. Saves c → IsSaver verb) }
+    ensures called { IfOk result (IsCalled (name_of verb)) }
 {
     if parts.value(Setting::Help).is_some() {
         return Ok(Command::Help(Some(verb)));
@@ -181,7 +182,8 @@ fn only_name<'a>(parts: &Parts<'a>, what: &'static str) -> Result<&'a str, WordF
 }
 
 fn build_in<'a>(parts: &Parts<'a>) -> Result<Command<'a>, WordFault<'a>>
-    ensures { IfOk result HasLimits }
+    ensures limits { IfOk result HasLimits }
+    ensures called { IfOk result (IsCalled (codes "build")) }
 {
     let source = only_name(parts, "SRC")?;
     let slots = number_in(parts, Setting::Slots, 0, MOST_SLOTS, MOST_SLOTS)?;
@@ -200,7 +202,8 @@ fn build_in<'a>(parts: &Parts<'a>) -> Result<Command<'a>, WordFault<'a>>
 }
 
 fn run_in<'a>(parts: &Parts<'a>) -> Result<Command<'a>, WordFault<'a>>
-    ensures { IfOk result HasLimits }
+    ensures limits { IfOk result HasLimits }
+    ensures called { IfOk result (IsCalled (codes "run")) }
 {
     parts.check_names(2)?;
     let program = parts.name(0, "OBJ or SRC")?;
@@ -217,7 +220,7 @@ fn run_in<'a>(parts: &Parts<'a>) -> Result<Command<'a>, WordFault<'a>>
 
 fn check_in<'a>(alloc: Global, parts: &Parts<'a>) -> Result<Command<'a>, WordFault<'a>>
     ensures limits { IfOk result HasLimits }
-    ensures saves { IfOk result (λ c. Saves c → ⊥) }
+    ensures called { IfOk result (IsCalled (codes "check")) }
 {
     let sources = names_in(alloc, parts, "SRC")?;
     Ok(Command::Check(Check {
@@ -228,7 +231,8 @@ fn check_in<'a>(alloc: Global, parts: &Parts<'a>) -> Result<Command<'a>, WordFau
 }
 
 fn page_in<'a>(parts: &Parts<'a>) -> Result<Command<'a>, WordFault<'a>>
-    ensures { IfOk result HasLimits }
+    ensures limits { IfOk result HasLimits }
+    ensures called { IfOk result (IsCalled (codes "page")) }
 {
     parts.check_names(2)?;
     let source = parts.name(0, "SRC")?;
@@ -247,7 +251,7 @@ fn page_in<'a>(parts: &Parts<'a>) -> Result<Command<'a>, WordFault<'a>>
 
 fn test_in<'a>(alloc: Global, parts: &Parts<'a>) -> Result<Command<'a>, WordFault<'a>>
     ensures limits { IfOk result HasLimits }
-    ensures saves { IfOk result (λ c. Saves c → ⊥) }
+    ensures called { IfOk result (IsCalled (codes "test")) }
 {
     let steps = number_in(parts, Setting::Steps, 1, MOST_STEPS, USUAL_STEPS)?;
     let paths = names_in(alloc, parts, "SRC or FOLDER")?;
@@ -270,7 +274,7 @@ fn names_in<'a>(
 
 fn explain_in<'a>(parts: &Parts<'a>, words: &'a [String]) -> Result<Command<'a>, WordFault<'a>>
     ensures limits { IfOk result HasLimits }
-    ensures saves { IfOk result (λ c. Saves c → ⊥) }
+    ensures called { IfOk result (IsCalled (codes "explain")) }
 {
     let _ = parts.name(0, "CODE")?;
     Ok(Command::Explain(words))
@@ -278,7 +282,7 @@ fn explain_in<'a>(parts: &Parts<'a>, words: &'a [String]) -> Result<Command<'a>,
 
 fn help_in<'a>(parts: &Parts<'a>) -> Result<Command<'a>, WordFault<'a>>
     ensures limits { IfOk result HasLimits }
-    ensures saves { IfOk result (λ c. Saves c → ⊥) }
+    ensures called { IfOk result (IsCalled (codes "help")) }
 {
     parts.check_names(1)?;
     match parts.names.first() {

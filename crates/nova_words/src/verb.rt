@@ -1,6 +1,6 @@
 //! The commands by name.
-ghost use Rattle.std.specs.Prelude.{IfSome};
-ghost use Rattle.nova_words.specs.Limits.{IsSaver, NamesSaver};
+ghost use Rattle.std.specs.Prelude.{◌≡◌, IfSome};
+ghost use Rattle.nova_words.specs.Limits.{name_of};
 
 use crate::setting::Setting;
 
@@ -34,7 +34,7 @@ pub const VERBS: [Verb; 9] = [
 impl Verb {
     /// How it is written.
     pub fn name(self) -> &'static str
-        ensures { IsSaver self → NamesSaver result.now }
+        ensures { result.now ≡ name_of self }
     {
         match self {
             Verb::Build => "build",
@@ -51,7 +51,7 @@ impl Verb {
 
     /// The command of this name.
     pub fn named(word: &str) -> Option<Verb>
-        ensures { IfSome result (λ verb. IsSaver verb → NamesSaver word.now) }
+        ensures { IfSome result (λ verb. word.now ≡ name_of verb) }
     {
         for verb in VERBS.iter() {
             if verb.name() == word {
