@@ -397,6 +397,11 @@ def believed_as_made(top):
     return [] if same else ["docs/PROOFS.md is to be written again by bench/believed --page"]
 
 
+def pinned_or_told(top):
+    """Each public function has a clause, or bench/unpinned.txt a reason why it has none."""
+    return module(top, "bench/unpinned").differences()
+
+
 def nothing_new_twice(top):
     """No function and no lemma stands twice but those that bench/repeated.txt lists with a reason, and these still do."""
     ran = subprocess.run([sys.executable, os.path.join(top, "bench", "repeated")], capture_output=True, text=True)
@@ -576,7 +581,7 @@ def all_rows(top):
     rows += [("VS Code's problem matcher reads each fault", problems), ("Vim's errorformat reads each fault", quickfix)]
     rows += [("the pages of `nova explain` are those of docs/FAULTS.md", pages_as_made)]
     rows += [("the man pages are those of README", man_as_made), ("completion for bash", completion)]
-    rows += [("what has to be believed is listed in docs/PROOFS.md", believed_as_made)]
+    rows += [("what has to be believed is listed in docs/PROOFS.md", believed_as_made), ("each public function has a clause or a reason", pinned_or_told)]
     rows += [("README has short lines and sentences", readable), ("the files that the pages name are there", named_files), ("the walks and recipes of docs/ARCHITECTURE.md", walks_and_recipes)]
     rows += [("a packet's hex dump and back", there_and_back), ("forms of hex dumps", dumps), ("nothing stands twice that didn't", nothing_new_twice), ("capture files", captures), ("tables from a CSV file", tables)]
     sources = sorted(it for it in os.listdir(os.path.join(top, "examples")) if it.endswith(".nova"))
