@@ -1,4 +1,5 @@
 //! Names and options among the words.
+ghost use Rattle.std.specs.Prelude.{◌≡◌, ◌<◌, ◌≤◌, Some, length, slice_get, IfErr, IfOk};
 
 use crate::fault::WordFault;
 use crate::setting::Setting;
@@ -110,7 +111,10 @@ impl<'a> Parts<'a> {
     }
 
     /// The name at a place, which names this.
-    pub fn name(&self, place: usize, what: &'static str) -> Result<&'a str, WordFault<'a>> {
+    pub fn name(&self, place: usize, what: &'static str) -> Result<&'a str, WordFault<'a>>
+        ensures there { IfOk result (λ name. slice_get self.now.names.items place ≡ Some name) }
+        ensures missing { IfErr result (λ _. length self.now.names.items ≤ place) }
+    {
         match self.names.get(place) {
             Some(name) => Ok(*name),
             None => Err(WordFault::MissingName(self.verb, what)),
@@ -118,7 +122,10 @@ impl<'a> Parts<'a> {
     }
 
     /// Refuses more names than so many.
-    pub fn check_names(&self, most: usize) -> Result<(), WordFault<'a>> {
+    pub fn check_names(&self, most: usize) -> Result<(), WordFault<'a>>
+        ensures few { IfOk result (λ _. length self.now.names.items ≤ most) }
+        ensures many { IfErr result (λ _. most < length self.now.names.items) }
+    {
         match self.names.get(most) {
             Some(name) => Err(WordFault::ExtraName(self.verb, *name)),
             None => Ok(()),

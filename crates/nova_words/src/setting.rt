@@ -1,4 +1,6 @@
 //! The options.
+ghost use Rattle.std.specs.Prelude.{◌≡◌};
+ghost use Rattle.nova_words.specs.Settings.{setting_name, takes_value};
 
 /// An option of a command.
 #[derive(Clone, Copy, PartialEq, Eq)]
@@ -31,7 +33,9 @@ pub enum Setting {
 
 impl Setting {
     /// How it is written.
-    pub fn name(self) -> &'static str {
+    pub fn name(self) -> &'static str
+        ensures { result.now ≡ setting_name self }
+    {
         match self {
             Setting::Output => "-o",
             Setting::Report => "--report",
@@ -49,7 +53,9 @@ impl Setting {
     }
 
     /// Whether a value follows.
-    pub fn has_value(self) -> bool {
+    pub fn has_value(self) -> bool
+        ensures { result ≡ takes_value self }
+    {
         match self {
             Setting::Profile | Setting::Verbose | Setting::Json | Setting::Help => false,
             Setting::Output
