@@ -3,3 +3,5 @@ mod ShortForms
 mod ShortStores
 mod ShortTexts
 mod ShortTrees
+mod ShortSaves
+mod ShortTraces

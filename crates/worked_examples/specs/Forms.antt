@@ -1,8 +1,10 @@
 -- How often short forms enter their labels, and what forms and code do besides moves.
-use Rattle.std.specs.Prelude.{◌≡◌, List, [], ◌∷◌}
+use Rattle.std.specs.Prelude.{◌≡◌, ℕ, List, [], ◌∷◌, codes}
+use Rattle.line_text.specs.Line.{text_of}
 use Rattle.nv_base.specs.Memories.{Memories}
 use Rattle.nv_base.specs.declared.term.Mem.TheVariants.{Sram}
 use Rattle.nv_base.specs.declared.term.Bin.TheVariants.{Add, Sub}
+use Rattle.entry_counts.specs.Counting.{AreCounted}
 use Rattle.ssu_ir.specs.Entered.{entered}
 use Rattle.ssu_ir.specs.Examples.{sum_of_two, copied_and_added, less_of_two}
 use Rattle.ssu_ir.specs.Tree.{Jump, End, Label}
@@ -26,6 +28,12 @@ pub record EntriesByJumps : Type 0 where
   pub one : (p : Memories) → entered less_of_two (5 ∷ 7 ∷ []) p 1 1 ≡ 1
   pub over : (p : Memories) → entered less_of_two (5 ∷ 7 ∷ []) p 9 1 ≡ 1
   pub again : (p : Memories) → entered forever [] p 9 0 ≡ 10
+
+-- The less of two parameters enters each of its two labels once. One run has one text.
+pub record ShortCounts : Type 0 where
+  pub less : (p : Memories) → AreCounted less_of_two (5 ∷ 7 ∷ []) p 9 (text_of (codes "weights 2" ∷ codes "l 1" ∷ codes "l 1" ∷ []))
+  pub going : (p : Memories) → AreCounted forever [] p 9 (text_of (codes "weights 1" ∷ codes "l 10" ∷ []))
+  pub one : (labels : List Label) (args : List ℕ) (p : Memories) (n : ℕ) (text text' : List ℕ) → AreCounted labels args p n text → AreCounted labels args p n text' → text ≡ text'
 
 -- ---- operations
 

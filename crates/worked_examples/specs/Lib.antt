@@ -3,3 +3,5 @@ pub mod Forms
 pub mod Reports
 pub mod Texts
 pub mod Stores
+pub mod Traces
+pub mod Saves

@@ -1,5 +1,5 @@
 //! Short forms.
-ghost use Rattle.worked_examples.specs.Forms.{EntriesByJumps, Operations};
+ghost use Rattle.worked_examples.specs.Forms.{EntriesByJumps, Operations, ShortCounts};
 
 /// How often labels are entered.
 #[tactic(auto, using(crate::proofs::ShortForms::entries_by_jumps))]
@@ -11,4 +11,10 @@ pub fn entries_by_jumps()
 #[tactic(auto, using(crate::proofs::ShortForms::operations))]
 pub fn operations()
     ensures { Operations }
+{}
+
+/// The text of how often labels are entered.
+#[tactic(auto, using(crate::proofs::ShortForms::short_counts))]
+pub fn short_counts()
+    ensures { ShortCounts }
 {}

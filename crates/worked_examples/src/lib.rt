@@ -1,4 +1,4 @@
-//! Worked examples: what definitions give of short codes, forms, reports, texts and stores, each as the contract of a function that does nothing.
+//! Worked examples: what definitions give of short codes, forms, reports, texts, traces and stores, each as the contract of a function that does nothing.
 #![tactic(auto)]
 
 pub mod forms;
@@ -6,3 +6,4 @@ pub mod machine;
 pub mod reports;
 pub mod stores;
 pub mod texts;
+pub mod traces;

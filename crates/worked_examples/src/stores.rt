@@ -1,4 +1,5 @@
 //! Stores of few files.
+ghost use Rattle.worked_examples.specs.Saves.{TwoSaves};
 ghost use Rattle.worked_examples.specs.Stores.{CallsInOrder, CountsRise, OnlyThese, SavesReplace};
 
 /// Which calls are some of two, in their order.
@@ -18,4 +19,10 @@ pub fn counts_rise()
 #[tactic(auto, using(crate::proofs::ShortStores::saves_replace))]
 pub fn saves_replace()
     ensures { SavesReplace }
+{}
+
+/// What two saves leave, and what one that failed.
+#[tactic(auto, using(crate::proofs::ShortSaves::two_saves))]
+pub fn two_saves()
+    ensures { TwoSaves }
 {}
