@@ -4,7 +4,8 @@ use Rattle.command_line.specs.Command.{Command, Compile, Run, Exec, Asm, Dis, Li
 use Rattle.command_line.specs.declared.refusal.Refusal.{Refusal}
 use Rattle.command_line.specs.declared.status.Status.{Status}
 use Rattle.nova_commands.specs.Answers.{Makes, MustRefuse, Prints, Refuses}
-use Rattle.command_laws.specs.Answers.{DecidedAnswers}
+use Rattle.nova_commands.proofs.OneAnswer.{made-end, makes-good, prints-good, prints-one, refusal-one}
+use Rattle.command_laws.specs.Answers.{DecidedAnswers, OneAnswer}
 
 refused : (command : Command) (contents : List (List ℕ)) (e : Refusal) → MustRefuse command contents e → Refuses command contents e
 refused (Compile source object report slots budget store weights) [] e h = absurd h
@@ -84,3 +85,6 @@ printed (Counts source memory output jumps) contents status text h = absurd h
 
 pub decided_answers : DecidedAnswers
 decided_answers = record { refused = refused; printed = printed }
+
+pub one_answer : OneAnswer
+one_answer = record { made = makes-good; printed = prints-good; refused = refusal-one; shown = prints-one; ended = made-end }

@@ -3,3 +3,8 @@ mod MessagesProved
 mod MachineProved
 mod AnswersProved
 mod SentencesProved
+mod SourcesProved
+mod ReportsProved
+mod FormsProved
+mod RunsProved
+mod WeightsProved

@@ -3,3 +3,8 @@ pub mod Messages
 pub mod Machine
 pub mod Answers
 pub mod Sentences
+pub mod Sources
+pub mod Reports
+pub mod Forms
+pub mod Runs
+pub mod Weights

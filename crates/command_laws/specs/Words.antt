@@ -1,7 +1,12 @@
 -- Which commands some words are.
-use Rattle.std.specs.Prelude.{◌≡◌, ℕ, List, [], ◌∷◌, Option, Some, None, codes}
-use Rattle.command_line.specs.Command.{Command, Compile, Run, Dis, Gen, Peep, Counts, command_of, outputs_of}
+use Rattle.std.specs.Prelude.{◌≡◌, ℕ, List, [], ◌∷◌, Option, Some, None, codes, ⊤}
+use Rattle.nv_outside.specs.Calls.{Load, Save}
+use Rattle.nv_outside.specs.Holding.{Holding}
+use Rattle.command_line.specs.Command.{Command, Compile, Run, Asm, Dis, Gen, Peep, Counts, command_of, outputs_of}
 use Rattle.command_line.specs.Inputs.{input, inputs_of}
+use Rattle.command_line.specs.declared.refusal.Refusal.TheVariants.{TooLarge}
+use Rattle.nova_commands.specs.Calling.{calls_of}
+use Rattle.nova_commands.specs.Loading.{AreRead, IsUnread, StopsAt}
 
 -- compile s o r, and these words
 abbrev pub compile_with : List (List ℕ) → Option Command
@@ -43,3 +48,18 @@ pub record FilesOfCommands : Type 0 where
   pub no_output : outputs_of (Run (codes "o") (codes "m") 1) ≡ []
   pub peep : outputs_of (Peep (codes "o") (codes "p")) ≡ codes "p" ∷ []
   pub counts : outputs_of (Counts (codes "s") (codes "m") (codes "w") 1) ≡ codes "w" ∷ []
+
+-- each input is loaded, and then each output saved
+pub record CallsOfCommands : Type 0 where
+  pub asm : calls_of (Asm (codes "a") (codes "o")) ≡ Load (codes "a") ∷ Save (codes "o") ∷ []
+  pub run : calls_of (Run (codes "o") (codes "m") 1) ≡ Load (codes "o") ∷ Load (codes "m") ∷ []
+
+-- a store in which every file has two bytes
+abbrev pub two_bytes : Holding
+two_bytes name = Some (1 ∷ 2 ∷ [])
+
+-- files of two bytes are read where each may have two; where the second may have one, reading stops there, and not at the first
+pub record InputsAreRead : Type 0 where
+  pub both : AreRead ⊤ two_bytes (input (codes "a") 2 ∷ input (codes "b") 2 ∷ []) ((1 ∷ 2 ∷ []) ∷ (1 ∷ 2 ∷ []) ∷ [])
+  pub second : StopsAt ⊤ two_bytes (input (codes "a") 2 ∷ input (codes "b") 1 ∷ []) (IsUnread ⊤ two_bytes (λ _. ⊥) (TooLarge 1))
+  pub not_first : StopsAt ⊤ two_bytes (input (codes "a") 2 ∷ input (codes "b") 1 ∷ []) (IsUnread ⊤ two_bytes (λ _. ⊥) (TooLarge 2)) → ⊥

@@ -1,9 +1,15 @@
 //! Laws of the commands' definitions, each as the contract of a function that does nothing: which command some words are, what the commands make
-//! of a short object, and what a compilation says, sentence by sentence.
+//! of a short object, that contents have one answer, that a compiled object runs as its source does, and what a compilation says, sentence by
+//! sentence.
 #![tactic(auto)]
 
 pub mod answers;
+pub mod forms;
 pub mod machine;
 pub mod messages;
+pub mod reports;
+pub mod runs;
 pub mod sentences;
+pub mod sources;
+pub mod weights;
 pub mod words;

@@ -1,5 +1,5 @@
 //! Words of commands.
-ghost use Rattle.command_laws.specs.Words.{CompileWords, FilesOfCommands, OtherWords};
+ghost use Rattle.command_laws.specs.Words.{CallsOfCommands, CompileWords, FilesOfCommands, InputsAreRead, OtherWords};
 
 /// The words of `compile` with its options.
 #[tactic(auto, using(crate::proofs::WordsProved::compile_words))]
@@ -17,4 +17,11 @@ pub fn other_words()
 #[tactic(auto, using(crate::proofs::WordsProved::files_of_commands))]
 pub fn files_of_commands()
     ensures { FilesOfCommands }
+{}
+
+/// Which calls of a store commands make, and where reading stops.
+#[tactic(auto, using(crate::proofs::WordsProved::calls_of_commands, crate::proofs::WordsProved::inputs_are_read))]
+pub fn inputs_are_read()
+    ensures calls { CallsOfCommands }
+    ensures inputs { InputsAreRead }
 {}
