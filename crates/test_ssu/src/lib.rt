@@ -5,6 +5,8 @@
 #[cfg(test)]
 mod banks;
 #[cfg(test)]
+mod crowded;
+#[cfg(test)]
 mod emitted;
 #[cfg(test)]
 mod entries;
