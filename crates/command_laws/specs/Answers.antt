@@ -11,8 +11,8 @@ pub record DecidedAnswers : Type 0 where
   pub refused : (command : Command) (contents : List (List ℕ)) (e : Refusal) → MustRefuse command contents e → Refuses command contents e
   pub printed : (command : Command) (contents : List (List ℕ)) (status : Status) (text : List ℕ) → Prints command contents status text → Makes command contents status [] text
 
--- Contents have one answer. What a command makes or prints of them it doesn't refuse; what must be refused has one cause; what is printed is one
--- status and one text. Where contents allow a command to make its output, it can end in no other ways than `CanEnd` says.
+-- Contents have one answer. What a command prints of them it doesn't refuse, and what it makes isn't what it must refuse; where it must refuse them
+-- there is one cause, and what is printed is one status and one text. Where contents allow a command to make its output, it ends as `CanEnd` says.
 pub record OneAnswer : Type 0 where
   pub made : (command : Command) (contents : List (List ℕ)) (status : Status) (files : List File) (text : List ℕ) (e : Refusal) → Makes command contents status files text → MustRefuse command contents e → ⊥
   pub printed : (command : Command) (contents : List (List ℕ)) (status : Status) (text : List ℕ) (e : Refusal) → Prints command contents status text → Refuses command contents e → ⊥
