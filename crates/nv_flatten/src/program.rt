@@ -41,6 +41,7 @@ use std::alloc::Global;
 /// they are first called. It is at most as wide as the program's room, and at most as large as its
 /// expanded size says.
 pub fn flatten(alloc: Global, t: &Typed) -> Result<FlatProgram, NoMemory>
+    ensures first { IfOk result (λ f. f.main ≡ 0) }
     ensures kept { IfOk result (λ f. KeepsOutcomes (main_words (typed_program t.now)) (params_in f.funs.items f.main) (source (typed_program t.now)) (flat_meaning f.funs.items f.main)) }
     ensures equal { IfOk result (λ f. AreEqual (main_words (typed_program t.now)) (source (typed_program t.now)) (flat_meaning f.funs.items f.main)) }
     ensures reached { IfOk result (λ f. AreReached f.funs.items f.main) }

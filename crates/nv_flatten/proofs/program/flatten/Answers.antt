@@ -1,4 +1,4 @@
-use Rattle.std.proofs.Common.{◌∙◌, ◌≤◌, ap, subst}
+use Rattle.std.proofs.Common.{◌∙◌, ◌≤◌, ap, refl, subst}
 use Rattle.nv_ast.specs.TypedView.{typed_program}
 use Rattle.flat_values.specs.inner.Whole.{whole_of}
 use Rattle.flat_declarations.specs.inner.WholeView.{whole_in}
@@ -18,6 +18,7 @@ pub returns : goal.returns
 returns c =
     let bounded = bounded-main (whole_in c.in_ok-source.source) (whole_of (typed_program c.args.t.now)) c.in-Ok.main c.in-Ok-functions.found.items (c.in_ok-source.ensures ∙ ap whole_of c.program.ensures.same) c.in-Ok.ensures c.in-Ok-functions.ensures in
     record {
+      first = refl;
       kept = keeps (typed_program c.args.t.now) c.program.ensures.typed c.in-Ok-functions.found.items (λ g e. (bounded g e).complete);
       equal = equal (typed_program c.args.t.now) c.program.ensures.typed c.in-Ok-functions.found.items (λ g e. (bounded g e).complete);
       reached = all-reached (typed_program c.args.t.now) c.program.ensures.typed c.in-Ok-functions.found.items (λ g e. (bounded g e).complete);
