@@ -9,6 +9,7 @@ use Rattle.uc_object.specs.declared.object.Object.{Object}
 use Rattle.uc_object.specs.declared.object.Object.TheVariants.{One, Two}
 use Rattle.uc_peep.specs.Becomes.{IsKept}
 use Rattle.uc_peep.specs.Needless.{HasNoNeedless}
+use Rattle.uc_peep.specs.Rewrites.{IsWithout}
 use Rattle.machine_commands.specs.Peeping.{IsWithoutNeedless}
 
 -- what is known of the shorter code
@@ -17,6 +18,7 @@ pub record IsShorterCode (c : CodeView) (starts : List ℕ) (d : CodeView) (star
   pub lawful : IsLawful d.list
   pub agrees : (params : ℕ) (source : SourceMeaning) → Agrees params source c ↔ Agrees params source d
   pub kept : IsKept c.list starts d.list starts'
+  pub without : IsWithout c.list d.list
   pub settled : HasNoNeedless d.list starts'
 
 none-left : (xs : List ℕ) → length xs ≡ 0 → xs ≡ []
@@ -32,6 +34,7 @@ without-one o c d starts' is h =
       lawful = h.lawful;
       agrees = h.agrees;
       kept = subst (λ (l : List ℕ). IsKept c.list [] d.list l) none h.kept;
+      without = h.without;
       settled = subst (λ (l : List ℕ). HasNoNeedless d.list l) none h.settled;
     })
 
@@ -44,5 +47,6 @@ without-two o t u d exceptions starts' is made same h =
       lawful = h.lawful;
       agrees = h.agrees;
       kept = h.kept;
+      without = h.without;
       settled = h.settled;
     }))

@@ -7,6 +7,7 @@ use Rattle.uc_object.specs.declared.object.Object.{Object}
 use Rattle.uc_object.specs.declared.object.Object.TheVariants.{One, Two}
 use Rattle.uc_peep.specs.Becomes.{IsKept}
 use Rattle.uc_peep.specs.Needless.{HasNoNeedless}
+use Rattle.uc_peep.specs.Rewrites.{IsWithout}
 use Rattle.command_line.specs.Lines.{peeped_text}
 use Rattle.command_line.specs.declared.status.Status.{Status}
 use Rattle.command_line.specs.declared.status.Status.TheVariants.{Done}
@@ -24,14 +25,16 @@ IsAlike (Two t) (Two u) = u.exceptions ≡ t.exceptions
 IsAlike _ _ = ⊥
 
 -- The second object is the first with other code and starts. That code is lawful and no longer, does what the first does with the same
--- visits of the starts, and its moves cost no more, whatever the labels weigh; it is code of the same sources. At no window of it
--- does one of the six rules for needless instructions have an answer.
+-- visits of the starts, and its moves cost no more, whatever the labels weigh; it is code of the same sources. It is the first code
+-- without some of its straight instructions, and with copies that test an operand in the place of some that compare it. At no window
+-- of it does one of the six rules for needless instructions have an answer.
 pub record IsWithoutNeedless (o q : Object) : Type 0 where
   pub alike : IsAlike o q
   pub params : (code_of q).params ≡ (code_of o).params
   pub lawful : IsLawful (code_of q).list
   pub agrees : (params : ℕ) (source : SourceMeaning) → Agrees params source (code_of o) ↔ Agrees params source (code_of q)
   pub kept : IsKept (code_of o).list (starts_of o) (code_of q).list (starts_of q)
+  pub without : IsWithout (code_of o).list (code_of q).list
   pub settled : HasNoNeedless (code_of q).list (starts_of q)
 
 -- the bytes are an object of lawful code, which is saved without its needless instructions, and both lengths are told

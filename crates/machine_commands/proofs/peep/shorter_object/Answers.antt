@@ -22,7 +22,7 @@ returns-in_ok-peeped-in-One c =
     without-one c.args.object.now c.in-One.code d starts' c.in-One.is
     (subst (λ (v : CodeView). IsShorterCode v [] d starts') c.in_ok-copy_of-in-One.ensures
     (subst (λ (l : List ℕ). IsShorterCode c.in_ok-copy_of-in-One.field-0 l d starts') c.new.ensures.items
-    (record { params = h.params; lawful = h.lawful; agrees = h.agrees; kept = h.kept; settled = h.settled })))
+    (record { params = h.params; lawful = h.lawful; agrees = h.agrees; kept = h.kept; without = h.without; settled = h.settled })))
 
 pub returns-in_ok-peeped-in-Two : goal.returns-in_ok-peeped-in-Two
 returns-in_ok-peeped-in-Two c =
@@ -33,4 +33,4 @@ returns-in_ok-peeped-in-Two c =
     without-two c.args.object.now c.in-Two.tagged c.new-in-Two.result d c.in_ok-exceptions-in-Two.exceptions.items starts' c.in-Two.is c.new-in-Two.ensures (c.in_ok-exceptions-in-Two.ensures ∙ c.exceptions.ensures.exceptions)
     (subst (λ (v : CodeView). IsShorterCode v c.in-Two.tagged.starts d starts') (c.in_ok-copy_of-in-Two.ensures ∙ c.code.ensures)
     (subst (λ (l : List ℕ). IsShorterCode c.in_ok-copy_of-in-Two.field-0 l d starts') (copied ∙ c.starts.ensures.starts)
-    (record { params = h.params; lawful = h.lawful; agrees = h.agrees; kept = h.kept; settled = h.settled })))
+    (record { params = h.params; lawful = h.lawful; agrees = h.agrees; kept = h.kept; without = h.without; settled = h.settled })))
