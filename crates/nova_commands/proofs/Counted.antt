@@ -14,10 +14,10 @@ use Rattle.machine_commands.specs.Saving.{file}
 use Rattle.machine_commands.specs.inner.Files.{files_of}
 use Rattle.machine_commands.specs.declared.save.Made.{Made}
 use Rattle.nova_commands.specs.Entries.{CountsMake}
-use Rattle.nova_commands.specs.Forms.{IsFormOf}
+use Rattle.nova_commands.specs.Forms.{IsBoundedFormOf}
 use Rattle.nova_commands.proofs.Agreeing.{words-small}
 
-pub counts-made : (text memory name : List ℕ) (jumps : ℕ) (program : ProgramTree) (form : List Label) (packet : Memories) (args counts : List ℕ) (m : Made) → IsTypedSource text program → IsFormOf program form → Gives (main_words program) memory packet args → HasSizes packet
+pub counts-made : (text memory name : List ℕ) (jumps : ℕ) (program : ProgramTree) (form : List Label) (packet : Memories) (args counts : List ℕ) (m : Made) → IsTypedSource text program → IsBoundedFormOf program form → Gives (main_words program) memory packet args → HasSizes packet
     → AreCounted form args packet jumps counts → files_of m.outputs ≡ file name counts ∷ [] → m.status ≡ outcome_status (ssu_meaning form args packet jumps).outcome → m.text.items ≡ full_text (ssu_meaning form args packet jumps)
     → CountsMake text memory name jumps m.status (files_of m.outputs) m.text.items
 counts-made text memory name jumps program form packet args counts m typed is given sizes counted saves ends prints = record {
@@ -33,5 +33,5 @@ counts-made text memory name jumps program form packet args counts m typed is gi
   counted = counted;
   ends = ends;
   prints = prints;
-  same = λ over. (is.kept.same args packet (given.text.number, words-small given.text.arguments.parts args given.text.arguments.words) sizes).ends_only jumps over;
+  same = λ over. (is.form.kept.same args packet (given.text.number, words-small given.text.arguments.parts args given.text.arguments.words) sizes).ends_only jumps over;
 }

@@ -10,20 +10,20 @@ use Rattle.ssu_ir.specs.Meaning.{ssu_meaning}
 use Rattle.ssu_ir.specs.Tree.{Label}
 use Rattle.entry_counts.specs.Counting.{AreCounted}
 use Rattle.nova_front.specs.Sources.{IsTypedSource}
-use Rattle.nova_commands.specs.Forms.{IsFormOf}
+use Rattle.nova_commands.specs.Forms.{IsBoundedFormOf}
 use Rattle.machine_commands.specs.Machine.{full_text}
 use Rattle.machine_commands.specs.Saving.{File, file}
 use Rattle.command_line.specs.Status.{outcome_status}
 use Rattle.command_line.specs.declared.status.Status.{Status}
 
--- The status and the text are those of the run of a form in single use that has the program's outcomes, with so many jumps, on the arguments
--- and memories that the memory text gives; how often that run has entered each label is saved. A run that is over is the program's, with some
--- number of calls.
+-- The status and the text are those of the run of a form in single use that has the program's outcomes and keeps to its bounds, with so many
+-- jumps, on the arguments and memories that the memory text gives; how often that run has entered each label is saved. A run that is over is
+-- the program's, with some number of calls.
 pub record CountsMake (source_text memory name : List ℕ) (jumps : ℕ) (status : Status) (files : List File) (text : List ℕ) : Type 0 where
   pub program : ProgramTree
   pub is_source : IsTypedSource source_text program
   pub form : List Label
-  pub is_form : IsFormOf program form
+  pub is_form : IsBoundedFormOf program form
   pub packet : Memories
   pub arguments : List ℕ
   pub given : Gives (main_words program) memory packet arguments

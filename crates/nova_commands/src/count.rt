@@ -4,7 +4,7 @@ ghost use Rattle.nv_ast.specs.TypedView.{typed_program};
 ghost use Rattle.nova_front.specs.Sources.{IsTypedSource};
 ghost use Rattle.nova_commands.specs.Entries.{CountsMake};
 ghost use Rattle.nova_commands.specs.Executing.{ExecRefuses};
-ghost use Rattle.nova_commands.specs.Forms.{IsFormOf};
+ghost use Rattle.nova_commands.specs.Forms.{IsBoundedFormOf};
 ghost use Rattle.nova_commands.specs.Reading.{SourceRefuses};
 ghost use Rattle.command_line.specs.Limits.{source_limit, memory_limit};
 ghost use Rattle.command_line.specs.Lines.{IsUncaused};
@@ -53,7 +53,7 @@ pub fn counts_bytes<'a>(
 fn form_of<'a>(alloc: Global, bytes: &[u8]) -> Result<(Typed, Ssu), Refusal<'a>>
     requires { length bytes.now ≤ source_limit }
     ensures source { IfOk result (λ r. IsTypedSource bytes.now (typed_program r.0)) }
-    ensures form { IfOk result (λ r. IsFormOf (typed_program r.0) (labels_view r.1)) }
+    ensures form { IfOk result (λ r. IsBoundedFormOf (typed_program r.0) (labels_view r.1)) }
     ensures refused { IfErr result (λ e. IsUncaused e ⊎ SourceRefuses bytes.now e) }
 {
     match front(alloc, bytes) {
