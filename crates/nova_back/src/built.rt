@@ -10,6 +10,7 @@ ghost use Rattle.bank_prog.specs.Weighted.{weighted_costs};
 ghost use Rattle.bank_form.specs.Program.{rows, IsTooLarge};
 ghost use Rattle.uc_isa.specs.Moves.{moves};
 ghost use Rattle.nova_back.specs.Causes.{IsCodeOf, AreStartsOf, IsReportOn, HasVector, IsCheapFor, IsCause, report_cost};
+ghost use Rattle.nova_back.specs.Memory.{IsWithinBound};
 ghost use Rattle.nova_back.specs.inner.Search.{IsChoice};
 
 use crate::choice::choice_of;
@@ -95,6 +96,7 @@ pub fn back(
     ensures cheap { peak (labels_view s) ≤ 15 → IfOk result (λ b. IsCheapFor (labels_view s) w.now (report_cost b.report)) }
     ensures few { IfOk result (λ _. length (columns (labels_view s)) ≤ 2 ^ 26) }
     ensures few_rows { IfOk result (λ _. length (rows (labels_view s) slots) ≤ 2 ^ 26) }
+    ensures bounded { MatchResult result (λ _. IsWithinBound (labels_view s)) (λ e. (e ≡ BackError.NoMemory) ⊎ IsWithinBound (labels_view s)) }
     ensures refused { IfErr result (λ e. (e ≡ BackError.NoMemory) ⊎ IsCause (labels_view s) slots w.now budget store e) }
     ensures only_large { (n : ℕ) → IsTooLarge (labels_view s) slots n → MatchResult result (λ _. ⊥) (λ e. (e ≡ BackError.NoMemory) ⊎ (e ≡ BackError.TooLarge n)) }
 {

@@ -1,6 +1,6 @@
 //! What the choice of banks of a form takes, counted by the form's tables before its columns are made.
 
-ghost use Rattle.std.specs.Prelude.{◌≡◌, ◌<◌, ◌≤◌, ◌+◌, ◌*◌, ◌^◌, ℕ, nat_le, true, length, Err, IfOk};
+ghost use Rattle.std.specs.Prelude.{◌≡◌, ◌<◌, ◌+◌, ◌*◌, ◌^◌, ◌⊎◌, ℕ, nat_le, true, length, Err, IfOk, MatchResult};
 ghost use Rattle.ssu_ir.specs.Measures as measures;
 ghost use Rattle.ssu_ir.specs.Single.{single};
 ghost use Rattle.ssu_ir.specs.View.{labels_view};
@@ -127,7 +127,7 @@ fn is_within(f: &Form<'_>) -> Result<bool, NoMemory>
 pub fn bounded_tables_of(alloc: Global, s: &Ssu) -> Result<BankTables<'_>, BankError>
     requires single { single (labels_view s.now) ≡ true }
     ensures form { IfOk result (λ t. t.form.ssu.now ≡ s.now) }
-    ensures bounded { IfOk result (λ _. memory.bytes_of (measures.size (labels_view s.now)) (memory.live_total (labels_view s.now)) ≤ 2 ^ 31) }
+    ensures bounded { MatchResult result (λ _. memory.IsWithinBound (labels_view s.now)) (λ e. (e ≡ BankError.NoMemory) ⊎ memory.IsWithinBound (labels_view s.now)) }
     ensures many { (n : ℕ) → result ≡ Err (Exceeds n) → (n ≡ length (columns (labels_view s.now))) × (2 ^ 26 < n) }
 {
     let form = form_of(alloc, s)?;
