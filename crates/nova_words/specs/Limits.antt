@@ -1,5 +1,5 @@
 -- Within which limits the numbers of a command are, by which name it is called, and which words save files.
-use Rattle.std.specs.Prelude.{◌≡◌, ◌≤◌, ◌⊎◌, ℕ, List, MatchOption, String, slice_get, string_bytes, codes, ⊤}
+use Rattle.std.specs.Prelude.{◌≡◌, ◌≢◌, ◌≤◌, ◌⊎◌, ℕ, List, MatchOption, None, Some, String, slice_get, string_bytes, codes, ⊤}
 use Rattle.std.specs.Global.{Global}
 use Rattle.nova_words.specs.declared.command.Command.{Command}
 use Rattle.nova_words.specs.declared.command.Command.TheVariants.{Build, Run, List as ListCommand, Check, Test, Page, Explain, Help, Version}
@@ -26,6 +26,14 @@ HasLimits (Page p) = p.steps ≤ steps_limit
 HasLimits (Test t) = t.steps ≤ steps_limit
 HasLimits _ = ⊤
 
+-- the store and the steps that it allows are not 0
+abbrev pub AllowsSome : Command → Type 0
+AllowsSome (Build b) = 1 ≤ b.store
+AllowsSome (Run r) = 1 ≤ r.steps
+AllowsSome (Page p) = 1 ≤ p.steps
+AllowsSome (Test t) = 1 ≤ t.steps
+AllowsSome _ = ⊤
+
 -- the command may save files
 abbrev pub Saves : Command → Type 0
 Saves (Build b) = ⊤
@@ -45,7 +53,15 @@ name_of verb.Explain = codes "explain"
 name_of verb.Help = codes "help"
 name_of verb.Version = codes "version"
 
--- the first word calls this command; help may be asked for by an option
+-- no command has this name
+abbrev pub NamesNone : List ℕ → Type 0
+NamesNone word = (verb : Verb) → word ≢ name_of verb
+
+-- the word asks for the help of all commands, whatever follows
+abbrev pub AsksHelp : List ℕ → Type 0
+AsksHelp word = (word ≡ codes "--help") ⊎ (word ≡ codes "-h")
+
+-- the first word calls this command; an option asks for the help of its command
 abbrev pub IsCalled : List ℕ → Command → Type 0
 IsCalled word (Build b) = word ≡ codes "build"
 IsCalled word (Run r) = word ≡ codes "run"
@@ -54,7 +70,8 @@ IsCalled word (Check c) = word ≡ codes "check"
 IsCalled word (Test t) = word ≡ codes "test"
 IsCalled word (Page p) = word ≡ codes "page"
 IsCalled word (Explain words) = word ≡ codes "explain"
-IsCalled word (Help verb) = ⊤
+IsCalled word (Help None) = AsksHelp word ⊎ (word ≡ codes "help")
+IsCalled word (Help (Some verb)) = (word ≡ name_of verb) ⊎ (word ≡ codes "help")
 IsCalled word Version = (word ≡ codes "version") ⊎ (word ≡ codes "--version")
 
 -- the word is the name of a command that may save files

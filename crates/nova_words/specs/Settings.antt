@@ -1,5 +1,7 @@
--- How the options are written, and which have a value.
-use Rattle.std.specs.Prelude.{List, ℕ, Bool, true, false, codes}
+-- How the options are written, which have a value, and which each command has.
+use Rattle.std.specs.Prelude.{List, [], ◌∷◌, ℕ, Bool, true, false, codes}
+use Rattle.nova_words.specs.declared.verb.Verb.{Verb}
+use Rattle.nova_words.specs.declared.verb.Verb.TheVariants as verb
 use Rattle.nova_words.specs.declared.setting.Setting.{Setting}
 use Rattle.nova_words.specs.declared.setting.Setting.TheVariants.{Output, Report, Slots, Budget, Store, Weights, Steps, Profile, Counts, Verbose, Json, Help}
 
@@ -24,3 +26,12 @@ takes_value Verbose = false
 takes_value Json = false
 takes_value Help = false
 takes_value _ = true
+
+-- those of each command
+abbrev pub settings_of : Verb → List Setting
+settings_of verb.Build = Output ∷ Report ∷ Slots ∷ Budget ∷ Store ∷ Weights ∷ Json ∷ Help ∷ []
+settings_of verb.Run = Steps ∷ Profile ∷ Counts ∷ Help ∷ []
+settings_of verb.Check = Verbose ∷ Json ∷ Help ∷ []
+settings_of verb.Page = Output ∷ Steps ∷ Help ∷ []
+settings_of verb.Test = Steps ∷ Help ∷ []
+settings_of _ = Help ∷ []

@@ -1,6 +1,8 @@
 //! Which command words are.
-ghost use Rattle.std.specs.Prelude.{◌≤◌, IfOk, codes};
-ghost use Rattle.nova_words.specs.Limits.{FirstIs, HasLimits, IsCalled, MaySave, Saves, name_of};
+ghost use Rattle.std.specs.Prelude.{◌≡◌, ◌≤◌, IfErr, IfOk, [], codes};
+ghost use Rattle.nova_words.specs.Faults.{HaveFault, IsFaultAt};
+ghost use Rattle.nova_words.specs.Limits.{AllowsSome, AsksHelp, FirstIs, HasLimits, IsCalled, MaySave, Saves, name_of};
+ghost use Rattle.nova_words.specs.Values.{HasNumbers, IsNumberOf};
 
 use crate::fault::WordFault;
 use crate::number::read_number;
@@ -105,9 +107,14 @@ pub enum Command<'a> {
 /// The command that words are, the program's name left out.
 pub fn command_of<'a>(alloc: Global, words: &'a [String]) -> Result<Command<'a>, WordFault<'a>>
     ensures limits { IfOk result HasLimits }
+    ensures some { IfOk result AllowsSome }
     ensures called { IfOk result (λ c. FirstIs words.now (λ word. IsCalled word c)) }
     // Only `build`, `run` and `page` save files.
     ensures saves { IfOk result (λ c. Saves c → MaySave words.now) }
+    ensures empty { words.now ≡ [] → result ≡ Err WordFault.NoWords }
+    ensures help { FirstIs words.now AsksHelp → result ≡ Ok (Command.Help None) }
+    ensures version { FirstIs words.now (λ word. word ≡ codes "--version") → result ≡ Ok Command.Version }
+    ensures refused { IfErr result (HaveFault words.now) }
 {
     match words.first() {
         Some(first) => command_named(alloc, first.as_str(), &words[1..]),
@@ -121,7 +128,11 @@ fn command_named<'a>(
     words: &'a [String],
 ) -> Result<Command<'a>, WordFault<'a>>
     ensures limits { IfOk result HasLimits }
+    ensures some { IfOk result AllowsSome }
     ensures called { IfOk result (IsCalled first.now) }
+    ensures help { AsksHelp first.now → result ≡ Ok (Command.Help None) }
+    ensures version { first.now ≡ codes "--version" → result ≡ Ok Command.Version }
+    ensures refused { IfErr result (IsFaultAt first.now) }
 {
     if first == "--help" || first == "-h" {
         return Ok(Command::Help(None));
@@ -142,23 +153,28 @@ fn command_with<'a>(
     words: &'a [String],
 ) -> Result<Command<'a>, WordFault<'a>>
     ensures limits { IfOk result HasLimits }
+    ensures some { IfOk result AllowsSome }
     ensures called { IfOk result (IsCalled (name_of verb)) }
+    ensures refused { IfErr result (IsFaultAt (name_of verb)) }
 {
     let parts = Parts::of(alloc, verb, words)?;
-    let command = command_in(alloc, verb, &parts, words);
+    let command = command_in(alloc, &parts, words);
     drop(parts);
     command
 }
 
 fn command_in<'a>(
     alloc: Global,
-    verb: Verb,
     parts: &Parts<'a>,
     words: &'a [String],
 ) -> Result<Command<'a>, WordFault<'a>>
     ensures limits { IfOk result HasLimits }
-    ensures called { IfOk result (IsCalled (name_of verb)) }
+    ensures some { IfOk result AllowsSome }
+    ensures numbers { IfOk result (HasNumbers parts.now.given.items) }
+    ensures called { IfOk result (IsCalled (name_of parts.now.verb)) }
+    ensures refused { IfErr result (IsFaultAt (name_of parts.now.verb)) }
 {
+    let verb = parts.verb;
     if parts.value(Setting::Help).is_some() {
         return Ok(Command::Help(Some(verb)));
     }
@@ -176,14 +192,19 @@ fn command_in<'a>(
 }
 
 // The one name, which names this.
-fn only_name<'a>(parts: &Parts<'a>, what: &'static str) -> Result<&'a str, WordFault<'a>> {
+fn only_name<'a>(parts: &Parts<'a>, what: &'static str) -> Result<&'a str, WordFault<'a>>
+    ensures { IfErr result (IsFaultAt (name_of parts.now.verb)) }
+{
     parts.check_names(1)?;
     parts.name(0, what)
 }
 
 fn build_in<'a>(parts: &Parts<'a>) -> Result<Command<'a>, WordFault<'a>>
     ensures limits { IfOk result HasLimits }
+    ensures some { IfOk result AllowsSome }
+    ensures numbers { IfOk result (HasNumbers parts.now.given.items) }
     ensures called { IfOk result (IsCalled (codes "build")) }
+    ensures refused { IfErr result (IsFaultAt (name_of parts.now.verb)) }
 {
     let source = only_name(parts, "SRC")?;
     let slots = number_in(parts, Setting::Slots, 0, MOST_SLOTS, MOST_SLOTS)?;
@@ -203,7 +224,10 @@ fn build_in<'a>(parts: &Parts<'a>) -> Result<Command<'a>, WordFault<'a>>
 
 fn run_in<'a>(parts: &Parts<'a>) -> Result<Command<'a>, WordFault<'a>>
     ensures limits { IfOk result HasLimits }
+    ensures some { IfOk result AllowsSome }
+    ensures numbers { IfOk result (HasNumbers parts.now.given.items) }
     ensures called { IfOk result (IsCalled (codes "run")) }
+    ensures refused { IfErr result (IsFaultAt (name_of parts.now.verb)) }
 {
     parts.check_names(2)?;
     let program = parts.name(0, "OBJ or SRC")?;
@@ -220,7 +244,10 @@ fn run_in<'a>(parts: &Parts<'a>) -> Result<Command<'a>, WordFault<'a>>
 
 fn check_in<'a>(alloc: Global, parts: &Parts<'a>) -> Result<Command<'a>, WordFault<'a>>
     ensures limits { IfOk result HasLimits }
+    ensures some { IfOk result AllowsSome }
+    ensures numbers { IfOk result (HasNumbers parts.now.given.items) }
     ensures called { IfOk result (IsCalled (codes "check")) }
+    ensures refused { IfErr result (IsFaultAt (name_of parts.now.verb)) }
 {
     let sources = names_in(alloc, parts, "SRC")?;
     Ok(Command::Check(Check {
@@ -232,7 +259,10 @@ fn check_in<'a>(alloc: Global, parts: &Parts<'a>) -> Result<Command<'a>, WordFau
 
 fn page_in<'a>(parts: &Parts<'a>) -> Result<Command<'a>, WordFault<'a>>
     ensures limits { IfOk result HasLimits }
+    ensures some { IfOk result AllowsSome }
+    ensures numbers { IfOk result (HasNumbers parts.now.given.items) }
     ensures called { IfOk result (IsCalled (codes "page")) }
+    ensures refused { IfErr result (IsFaultAt (name_of parts.now.verb)) }
 {
     parts.check_names(2)?;
     let source = parts.name(0, "SRC")?;
@@ -251,7 +281,10 @@ fn page_in<'a>(parts: &Parts<'a>) -> Result<Command<'a>, WordFault<'a>>
 
 fn test_in<'a>(alloc: Global, parts: &Parts<'a>) -> Result<Command<'a>, WordFault<'a>>
     ensures limits { IfOk result HasLimits }
+    ensures some { IfOk result AllowsSome }
+    ensures numbers { IfOk result (HasNumbers parts.now.given.items) }
     ensures called { IfOk result (IsCalled (codes "test")) }
+    ensures refused { IfErr result (IsFaultAt (name_of parts.now.verb)) }
 {
     let steps = number_in(parts, Setting::Steps, 1, MOST_STEPS, USUAL_STEPS)?;
     let paths = names_in(alloc, parts, "SRC or FOLDER")?;
@@ -263,7 +296,9 @@ fn names_in<'a>(
     alloc: Global,
     parts: &Parts<'a>,
     what: &'static str,
-) -> Result<Vec<&'a str>, WordFault<'a>> {
+) -> Result<Vec<&'a str>, WordFault<'a>>
+    ensures { IfErr result (IsFaultAt (name_of parts.now.verb)) }
+{
     let _ = parts.name(0, what)?;
     let mut names = Vec::new(alloc);
     for name in parts.names.iter() {
@@ -274,15 +309,22 @@ fn names_in<'a>(
 
 fn explain_in<'a>(parts: &Parts<'a>, words: &'a [String]) -> Result<Command<'a>, WordFault<'a>>
     ensures limits { IfOk result HasLimits }
+    ensures some { IfOk result AllowsSome }
+    ensures numbers { IfOk result (HasNumbers parts.now.given.items) }
     ensures called { IfOk result (IsCalled (codes "explain")) }
+    ensures refused { IfErr result (IsFaultAt (name_of parts.now.verb)) }
 {
     let _ = parts.name(0, "CODE")?;
     Ok(Command::Explain(words))
 }
 
 fn help_in<'a>(parts: &Parts<'a>) -> Result<Command<'a>, WordFault<'a>>
+    requires { parts.now.verb ≡ Verb.Help }
     ensures limits { IfOk result HasLimits }
+    ensures some { IfOk result AllowsSome }
+    ensures numbers { IfOk result (HasNumbers parts.now.given.items) }
     ensures called { IfOk result (IsCalled (codes "help")) }
+    ensures refused { IfErr result (IsFaultAt (name_of parts.now.verb)) }
 {
     parts.check_names(1)?;
     match parts.names.first() {
@@ -306,6 +348,8 @@ fn number_in<'a>(
     requires most { usual ≤ most }
     ensures least { IfOk result (λ n. least ≤ n) }
     ensures most { IfOk result (λ n. n ≤ most) }
+    ensures given { IfOk result (IsNumberOf parts.now.given.items setting usual) }
+    ensures refused { IfErr result (IsFaultAt (name_of parts.now.verb)) }
 {
     let Some(value) = parts.value(setting) else {
         return Ok(usual);

@@ -1,5 +1,8 @@
 //! Names and options among the words.
-ghost use Rattle.std.specs.Prelude.{◌≡◌, ◌<◌, ◌≤◌, Some, length, slice_get, IfErr, IfOk};
+ghost use Rattle.std.specs.Prelude.{◌≡◌, ◌<◌, ◌≤◌, Some, length, slice_get, IfErr, IfNone, IfOk, IfSome, MatchOption};
+ghost use Rattle.nova_words.specs.Faults.{IsFaultAt};
+ghost use Rattle.nova_words.specs.Limits.{name_of};
+ghost use Rattle.nova_words.specs.Values.{IsLastValue, IsNotGiven};
 
 use crate::fault::WordFault;
 use crate::setting::Setting;
@@ -27,7 +30,10 @@ pub struct Parts<'a> {
 
 impl<'a> Parts<'a> {
     /// Those of the words after the command.
-    pub fn of(alloc: Global, verb: Verb, words: &'a [String]) -> Result<Parts<'a>, WordFault<'a>> {
+    pub fn of(alloc: Global, verb: Verb, words: &'a [String]) -> Result<Parts<'a>, WordFault<'a>>
+        ensures verb { IfOk result (λ parts. parts.verb ≡ verb) }
+        ensures refused { IfErr result (IsFaultAt (name_of verb)) }
+    {
         let mut parts = Parts {
             verb,
             names: Vec::new(alloc),
@@ -44,7 +50,10 @@ impl<'a> Parts<'a> {
         }
     }
 
-    fn read(&mut self, word: &'a str) -> Result<(), WordFault<'a>> {
+    fn read(&mut self, word: &'a str) -> Result<(), WordFault<'a>>
+        ensures verb { self.new.verb ≡ self.old.verb }
+        ensures refused { IfErr result (IsFaultAt (name_of self.old.verb)) }
+    {
         if let Some(setting) = self.pending {
             self.pending = None;
             self.give(setting, word)
@@ -59,20 +68,29 @@ impl<'a> Parts<'a> {
         }
     }
 
-    fn give(&mut self, setting: Setting, value: &'a str) -> Result<(), WordFault<'a>> {
+    fn give(&mut self, setting: Setting, value: &'a str) -> Result<(), WordFault<'a>>
+        ensures verb { self.new.verb ≡ self.old.verb }
+        ensures refused { IfErr result (IsFaultAt (name_of self.old.verb)) }
+    {
         self.given.push(Given { setting, value })?;
         Ok(())
     }
 
     // `--NAME`, `--NAME=VALUE` or `-o`.
-    fn read_option(&mut self, word: &'a str) -> Result<(), WordFault<'a>> {
+    fn read_option(&mut self, word: &'a str) -> Result<(), WordFault<'a>>
+        ensures verb { self.new.verb ≡ self.old.verb }
+        ensures refused { IfErr result (IsFaultAt (name_of self.old.verb)) }
+    {
         match word.split_once('=') {
             Some((name, value)) => self.read_with_value(word, name, value),
             None => self.read_alone(word),
         }
     }
 
-    fn read_alone(&mut self, word: &'a str) -> Result<(), WordFault<'a>> {
+    fn read_alone(&mut self, word: &'a str) -> Result<(), WordFault<'a>>
+        ensures verb { self.new.verb ≡ self.old.verb }
+        ensures refused { IfErr result (IsFaultAt (name_of self.old.verb)) }
+    {
         let Some(setting) = self.verb.setting(word) else {
             return Err(WordFault::UnknownOption(self.verb, word));
         };
@@ -89,7 +107,10 @@ impl<'a> Parts<'a> {
         word: &'a str,
         name: &'a str,
         value: &'a str,
-    ) -> Result<(), WordFault<'a>> {
+    ) -> Result<(), WordFault<'a>>
+        ensures verb { self.new.verb ≡ self.old.verb }
+        ensures refused { IfErr result (IsFaultAt (name_of self.old.verb)) }
+    {
         let Some(setting) = self.verb.setting(name) else {
             return Err(WordFault::UnknownOption(self.verb, word));
         };
@@ -101,19 +122,25 @@ impl<'a> Parts<'a> {
     }
 
     /// The value that was given an option last.
-    pub fn value(&self, setting: Setting) -> Option<&'a str> {
-        for given in self.given.iter().rev() {
+    pub fn value(&self, setting: Setting) -> Option<&'a str>
+        ensures given { IfSome result (λ value. IsLastValue self.now.given.items setting value.now) }
+        ensures none { IfNone result (IsNotGiven self.now.given.items setting) }
+    {
+        let mut last = None;
+        for given in &self.given {
             if given.setting == setting {
-                return Some(given.value);
+                last = Some(given.value);
             }
         }
-        None
+        last
     }
 
     /// The name at a place, which names this.
     pub fn name(&self, place: usize, what: &'static str) -> Result<&'a str, WordFault<'a>>
         ensures there { IfOk result (λ name. slice_get self.now.names.items place ≡ Some name) }
         ensures missing { IfErr result (λ _. length self.now.names.items ≤ place) }
+        ensures fault { IfErr result (λ fault. fault ≡ WordFault.MissingName self.now.verb what.entry) }
+        ensures refused { IfErr result (IsFaultAt (name_of self.now.verb)) }
     {
         match self.names.get(place) {
             Some(name) => Ok(*name),
@@ -125,6 +152,8 @@ impl<'a> Parts<'a> {
     pub fn check_names(&self, most: usize) -> Result<(), WordFault<'a>>
         ensures few { IfOk result (λ _. length self.now.names.items ≤ most) }
         ensures many { IfErr result (λ _. most < length self.now.names.items) }
+        ensures fault { IfErr result (λ fault. MatchOption (slice_get self.now.names.items most) ⊥ (λ name. fault ≡ WordFault.ExtraName self.now.verb name)) }
+        ensures refused { IfErr result (IsFaultAt (name_of self.now.verb)) }
     {
         match self.names.get(most) {
             Some(name) => Err(WordFault::ExtraName(self.verb, *name)),

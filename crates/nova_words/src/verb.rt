@@ -1,6 +1,7 @@
 //! The commands by name.
-ghost use Rattle.std.specs.Prelude.{◌≡◌, IfSome};
-ghost use Rattle.nova_words.specs.Limits.{name_of};
+ghost use Rattle.std.specs.Prelude.{◌≡◌, ◌≢◌, All, Contains, IfNone, IfSome};
+ghost use Rattle.nova_words.specs.Limits.{NamesNone, name_of};
+ghost use Rattle.nova_words.specs.Settings.{setting_name, settings_of};
 
 use crate::setting::Setting;
 
@@ -51,7 +52,8 @@ impl Verb {
 
     /// The command of this name.
     pub fn named(word: &str) -> Option<Verb>
-        ensures { IfSome result (λ verb. word.now ≡ name_of verb) }
+        ensures some { IfSome result (λ verb. word.now ≡ name_of verb) }
+        ensures none { IfNone result (NamesNone word.now) }
     {
         for verb in VERBS.iter() {
             if verb.name() == word {
@@ -62,7 +64,9 @@ impl Verb {
     }
 
     /// Its options.
-    pub fn settings(self) -> &'static [Setting] {
+    pub fn settings(self) -> &'static [Setting]
+        ensures { result.now ≡ settings_of self }
+    {
         match self {
             Verb::Build => &BUILD,
             Verb::Run => &RUN,
@@ -74,7 +78,10 @@ impl Verb {
     }
 
     /// Its option of this name.
-    pub fn setting(self, word: &str) -> Option<Setting> {
+    pub fn setting(self, word: &str) -> Option<Setting>
+        ensures some { IfSome result (λ setting. Contains (settings_of self) setting × (word.now ≡ setting_name setting)) }
+        ensures none { IfNone result (All (λ s. word.now ≢ setting_name s) (settings_of self)) }
+    {
         for setting in self.settings() {
             if setting.name() == word {
                 return Some(*setting);

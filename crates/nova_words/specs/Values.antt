@@ -1,0 +1,28 @@
+-- Which value is given an option, and which number that is.
+use Rattle.std.specs.Prelude.{◌≡◌, ◌≢◌, ◌⊎◌, ◌++◌, ◌∷◌, ℕ, All, List, decimal, ⊤}
+use Rattle.nova_words.specs.declared.command.Command.{Command}
+use Rattle.nova_words.specs.declared.command.Command.TheVariants.{Build, Run, Page, Test}
+use Rattle.nova_words.specs.declared.parts.Given.{Given}
+use Rattle.nova_words.specs.declared.setting.Setting.{Setting}
+use Rattle.nova_words.specs.declared.setting.Setting.TheVariants.{Slots, Budget, Store, Steps}
+
+abbrev pub IsNotGiven : List Given → Setting → Type 0
+IsNotGiven given setting = All (λ g. g.setting ≢ setting) given
+
+-- the value is given the option, which no later one is
+abbrev pub IsLastValue : List Given → Setting → List ℕ → Type 0
+IsLastValue given setting value =
+    (front : List Given) × (g : Given) × (rest : List Given)
+    × (given ≡ front ++ g ∷ rest) × (g.setting ≡ setting) × (g.value.now ≡ value) × IsNotGiven rest setting
+
+-- the option's last value spells the number; without the option it is the usual one
+abbrev pub IsNumberOf : List Given → Setting → ℕ → ℕ → Type 0
+IsNumberOf given setting usual n = IsLastValue given setting (decimal n) ⊎ (IsNotGiven given setting × (n ≡ usual))
+
+-- each number of the command is that of its option
+abbrev pub HasNumbers : List Given → Command → Type 0
+HasNumbers given (Build b) = IsNumberOf given Slots 128 b.slots × IsNumberOf given Budget 2000 b.budget × IsNumberOf given Store 2048 b.store
+HasNumbers given (Run r) = IsNumberOf given Steps 1000000 r.steps
+HasNumbers given (Page p) = IsNumberOf given Steps 1000000 p.steps
+HasNumbers given (Test t) = IsNumberOf given Steps 1000000 t.steps
+HasNumbers given _ = ⊤
