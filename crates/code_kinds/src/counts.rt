@@ -1,7 +1,7 @@
 //! How many instructions are for what.
 ghost use Rattle.std.specs.Prelude.{◌≡◌, ◌+◌, ◌<◌, ◌^◌, ℕ, List, [], length};
 ghost use Rattle.uc_isa.specs.Moves.{moves};
-ghost use Rattle.code_kinds.specs.Kinds.{AreParts, cost_of, kind_weight};
+ghost use Rattle.code_kinds.specs.Kinds.{AddsOne, AreNumbers, AreParts, cost_of, kind_weight};
 
 use crate::kind::{Kind, kind_of};
 use uc_isa::Instr;
@@ -23,6 +23,7 @@ impl Counts {
         requires parts { AreParts self.old }
         ensures all { self.new.all ≡ self.old.all + 1 }
         ensures parts { AreParts self.new }
+        ensures one { AddsOne kind self.old self.new }
         ensures cost { cost_of self.new ≡ cost_of self.old + kind_weight kind }
     {
         self.all += 1;
@@ -41,6 +42,7 @@ impl Counts {
 pub fn counts_of(list: &[Instr]) -> Counts
     requires few { length list.now < 2 ^ 31 }
     ensures all { result.all ≡ length list.now }
+    ensures each { AreNumbers result list.now }
     ensures cost { (starts : List ℕ) → moves list.now starts [] ≡ cost_of result }
 {
     let mut counts = Counts {

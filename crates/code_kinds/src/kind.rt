@@ -1,8 +1,8 @@
 //! What one instruction is for.
-ghost use Rattle.std.specs.Prelude.{◌≡◌, nat_eq, if◌then◌else◌};
+ghost use Rattle.std.specs.Prelude.{◌≡◌, nat_eq, if◌then◌else◌, false, true};
 ghost use Rattle.uc_isa.specs.Moves.{weight, copy_weight, access_weight};
 ghost use Rattle.uc_isa.specs.declared.instruction.Instr.{Instr};
-ghost use Rattle.code_kinds.specs.Kinds.{kind_weight};
+ghost use Rattle.code_kinds.specs.Kinds.{kind, kind_by, kind_weight};
 
 use nv_base::Mem;
 use uc_isa::{Dst, Gpr, Instr, Src, UnOp};
@@ -28,7 +28,8 @@ pub enum Kind {
 
 /// What an instruction is for. Its kind says what it costs.
 pub fn kind_of(i: &Instr) -> Kind
-    ensures { weight i.now ≡ kind_weight result }
+    ensures kind { result ≡ kind i.now }
+    ensures cost { weight i.now ≡ kind_weight result }
 {
     match i {
         Instr::Un { dst, op, x } => operation_kind(dst, op, x),
@@ -60,7 +61,8 @@ pub fn kind_of(i: &Instr) -> Kind
 
 // An operation on one word.
 fn operation_kind(dst: &Dst, op: &UnOp, x: &Src) -> Kind
-    ensures { weight (Instr.Un dst.now op.now x.now) ≡ kind_weight result }
+    ensures kind { result ≡ kind (Instr.Un dst.now op.now x.now) }
+    ensures cost { weight (Instr.Un dst.now op.now x.now) ≡ kind_weight result }
 {
     match op {
         UnOp::Copy => copy_kind(dst, x),
@@ -70,7 +72,8 @@ fn operation_kind(dst: &Dst, op: &UnOp, x: &Src) -> Kind
 
 // A copy.
 fn copy_kind(dst: &Dst, x: &Src) -> Kind
-    ensures { copy_weight dst.now x.now ≡ kind_weight result }
+    ensures kind { result ≡ kind (Instr.Un dst.now UnOp.Copy x.now) }
+    ensures cost { copy_weight dst.now x.now ≡ kind_weight result }
 {
     match dst {
         Dst::Nowhere => Kind::Other,
@@ -92,7 +95,8 @@ fn copy_kind(dst: &Dst, x: &Src) -> Kind
 
 // A copy between two banks, of which one is A, with this register there.
 fn copy_by(number: u8) -> Kind
-    ensures { (if nat_eq number 15 then 0 else 1) ≡ kind_weight result }
+    ensures kind { result ≡ kind_by true (if nat_eq number 15 then 0 else 1) }
+    ensures cost { (if nat_eq number 15 then 0 else 1) ≡ kind_weight result }
 {
     if number == FREE {
         Kind::Within
@@ -103,7 +107,8 @@ fn copy_by(number: u8) -> Kind
 
 // An access to a memory at an address in a register.
 fn access_kind(mem: Mem, x: &Gpr) -> Kind
-    ensures { access_weight mem x.now ≡ kind_weight result }
+    ensures kind { result ≡ kind_by false (access_weight mem x.now) }
+    ensures cost { access_weight mem x.now ≡ kind_weight result }
 {
     match mem {
         Mem::Scratch => match x {
