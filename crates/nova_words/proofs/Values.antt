@@ -1,5 +1,6 @@
 -- The last value of an option, one given value further.
-use Rattle.std.proofs.Common.{◌≡◌, ◌≢◌, ◌<◌, ◌+◌, ◌++◌, ℕ, List, [], ◌∷◌, MatchOption, Option, None, Some, length, take, get_or, Bor, refl, ap, sym, ◌∙◌, subst, append_assoc}
+use Rattle.std.proofs.Common.{◌≡◌, ◌≢◌, ◌<◌, ◌+◌, ◌++◌, ℕ, List, [], ◌∷◌, MatchOption, Option, None, Some, length, take, get_or, Bor, refl, ap, sym, ◌∙◌, subst, append_assoc, arith, length-append, IfSome}
+use Rattle.std.proofs.Math.Seq.{get_or-append_seam}
 use Rattle.std.proofs.lemmas.List.{take_more}
 use Rattle.std.proofs.lemmas.List.Elements.{All-nil, All-push}
 use Rattle.nova_words.specs.declared.parts.Given.{Given}
@@ -43,3 +44,16 @@ last-else items setting i d old new h is not last =
     let P : List Given → Type 0 = λ l. IsLast l setting old in
     let Q : Option (Bor (List ℕ)) → Type 0 = λ o. IsLast (take (i + 1) items) setting o in
     subst Q (sym is) (subst P (sym (take_more items i d h)) (last-other (take i items) setting (get_or items i d) old not last))
+
+not-both : (items : List Given) (setting : Setting) (value : List ℕ) → IsNotGiven items setting → IsLastValue items setting value → ⊥
+not-both items setting value none last =
+    let P : List Given → Type 0 = λ l. IsNotGiven l setting in
+    let Q : Given → Type 0 = λ g. g.setting ≢ setting in
+    let long : length (last.0 ++ last.1 ∷ last.2) ≡ length last.0 + length (last.1 ∷ last.2) = length-append last.0 (last.1 ∷ last.2) in
+    subst Q (get_or-append_seam last.0 last.1 last.2 last.1) (subst P last.3 none (length last.0) last.1 (omega (arith, long))) last.4
+
+-- an option that isn't given has no value
+pub no-last : (items : List Given) (setting : Setting) (o : Option (Bor (List ℕ))) → IsNotGiven items setting
+    → IfSome o (λ value. IsLastValue items setting value.now) → o ≡ None
+no-last items setting None none last = refl
+no-last items setting (Some value) none last = absurd (not-both items setting value.now none last)

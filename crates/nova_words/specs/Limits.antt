@@ -1,5 +1,5 @@
 -- Within which limits the numbers of a command are, by which name it is called, and which words save files.
-use Rattle.std.specs.Prelude.{◌≡◌, ◌≢◌, ◌≤◌, ◌⊎◌, ℕ, List, MatchOption, None, Some, String, slice_get, string_bytes, codes, ⊤}
+use Rattle.std.specs.Prelude.{◌≡◌, ◌≢◌, ◌≤◌, ◌⊎◌, ℕ, All, List, MatchOption, None, Some, String, slice_get, string_bytes, codes, ⊤}
 use Rattle.std.specs.Global.{Global}
 use Rattle.nova_words.specs.declared.command.Command.{Command}
 use Rattle.nova_words.specs.declared.command.Command.TheVariants.{Build, Run, List as ListCommand, Check, Test, Page, Explain, Help, Version}
@@ -73,6 +73,15 @@ IsCalled word (Explain words) = word ≡ codes "explain"
 IsCalled word (Help None) = AsksHelp word ⊎ (word ≡ codes "help")
 IsCalled word (Help (Some verb)) = (word ≡ name_of verb) ⊎ (word ≡ codes "help")
 IsCalled word Version = (word ≡ codes "version") ⊎ (word ≡ codes "--version")
+
+-- the command is help
+abbrev pub IsHelp : Command → Type 0
+IsHelp (Help verb) = ⊤
+IsHelp _ = ⊥
+
+-- no word is the option that asks for help
+abbrev pub HaveNoHelp : List (String Global) → Type 0
+HaveNoHelp words = All (λ word. string_bytes word ≢ codes "--help") words
 
 -- the word is the name of a command that may save files
 abbrev pub NamesSaver : List ℕ → Type 0

@@ -1,13 +1,19 @@
 -- Which value is given an option, and which number that is.
-use Rattle.std.specs.Prelude.{◌≡◌, ◌≢◌, ◌⊎◌, ◌++◌, ◌∷◌, ℕ, All, List, decimal, ⊤}
+use Rattle.std.specs.Prelude.{◌≡◌, ◌≢◌, ◌⊎◌, ◌++◌, ◌∷◌, ℕ, All, List, Some, decimal, ⊤}
 use Rattle.nova_words.specs.declared.command.Command.{Command}
 use Rattle.nova_words.specs.declared.command.Command.TheVariants.{Build, Run, Page, Test}
 use Rattle.nova_words.specs.declared.parts.Given.{Given}
+use Rattle.nova_words.specs.declared.parts.Parts.{Parts}
 use Rattle.nova_words.specs.declared.setting.Setting.{Setting}
-use Rattle.nova_words.specs.declared.setting.Setting.TheVariants.{Slots, Budget, Store, Steps}
+use Rattle.nova_words.specs.declared.setting.Setting.TheVariants.{Slots, Budget, Store, Steps, Help}
 
 abbrev pub IsNotGiven : List Given → Setting → Type 0
 IsNotGiven given setting = All (λ g. g.setting ≢ setting) given
+
+-- neither a value so far nor the next is of the option for help
+pub record AsksNone (parts : Parts) : Type 0 where
+  pub given : IsNotGiven parts.given.items Help
+  pub pending : parts.pending ≢ Some Help
 
 -- the value is given the option, which no later one is
 abbrev pub IsLastValue : List Given → Setting → List ℕ → Type 0

@@ -1,8 +1,8 @@
 //! Which command words are.
-ghost use Rattle.std.specs.Prelude.{◌≡◌, ◌≤◌, IfErr, IfOk, [], codes};
+ghost use Rattle.std.specs.Prelude.{◌≡◌, ◌≤◌, ◌⊎◌, IfErr, IfOk, [], codes};
 ghost use Rattle.nova_words.specs.Faults.{HaveFault, IsFaultAt};
-ghost use Rattle.nova_words.specs.Limits.{AllowsSome, AsksHelp, FirstIs, HasLimits, IsCalled, MaySave, Saves, name_of};
-ghost use Rattle.nova_words.specs.Values.{HasNumbers, IsNumberOf};
+ghost use Rattle.nova_words.specs.Limits.{AllowsSome, AsksHelp, FirstIs, HasLimits, HaveNoHelp, IsCalled, IsHelp, MaySave, Saves, name_of};
+ghost use Rattle.nova_words.specs.Values.{HasNumbers, IsNotGiven, IsNumberOf};
 
 use crate::fault::WordFault;
 use crate::number::read_number;
@@ -114,6 +114,8 @@ pub fn command_of<'a>(alloc: Global, words: &'a [String]) -> Result<Command<'a>,
     ensures empty { words.now ≡ [] → result ≡ Err WordFault.NoWords }
     ensures help { FirstIs words.now AsksHelp → result ≡ Ok (Command.Help None) }
     ensures version { FirstIs words.now (λ word. word ≡ codes "--version") → result ≡ Ok Command.Version }
+    // But for the first word `help` or `-h`, only a word `--help` asks for help.
+    ensures asks { HaveNoHelp words.now → IfOk result (λ c. IsHelp c → FirstIs words.now (λ word. AsksHelp word ⊎ (word ≡ codes "help"))) }
     ensures refused { IfErr result (HaveFault words.now) }
 {
     match words.first() {
@@ -132,6 +134,7 @@ fn command_named<'a>(
     ensures called { IfOk result (IsCalled first.now) }
     ensures help { AsksHelp first.now → result ≡ Ok (Command.Help None) }
     ensures version { first.now ≡ codes "--version" → result ≡ Ok Command.Version }
+    ensures asks { HaveNoHelp words.now → IfOk result (λ c. IsHelp c → AsksHelp first.now ⊎ (first.now ≡ codes "help")) }
     ensures refused { IfErr result (IsFaultAt first.now) }
 {
     if first == "--help" || first == "-h" {
@@ -155,6 +158,7 @@ fn command_with<'a>(
     ensures limits { IfOk result HasLimits }
     ensures some { IfOk result AllowsSome }
     ensures called { IfOk result (IsCalled (name_of verb)) }
+    ensures asks { HaveNoHelp words.now → IfOk result (λ c. IsHelp c → verb ≡ Verb.Help) }
     ensures refused { IfErr result (IsFaultAt (name_of verb)) }
 {
     let parts = Parts::of(alloc, verb, words)?;
@@ -172,6 +176,7 @@ fn command_in<'a>(
     ensures some { IfOk result AllowsSome }
     ensures numbers { IfOk result (HasNumbers parts.now.given.items) }
     ensures called { IfOk result (IsCalled (name_of parts.now.verb)) }
+    ensures asks { IsNotGiven parts.now.given.items Setting.Help → IfOk result (λ c. IsHelp c → parts.now.verb ≡ Verb.Help) }
     ensures refused { IfErr result (IsFaultAt (name_of parts.now.verb)) }
 {
     let verb = parts.verb;
@@ -204,6 +209,7 @@ fn build_in<'a>(parts: &Parts<'a>) -> Result<Command<'a>, WordFault<'a>>
     ensures some { IfOk result AllowsSome }
     ensures numbers { IfOk result (HasNumbers parts.now.given.items) }
     ensures called { IfOk result (IsCalled (codes "build")) }
+    ensures asks { IfOk result (λ c. IsHelp c → ⊥) }
     ensures refused { IfErr result (IsFaultAt (name_of parts.now.verb)) }
 {
     let source = only_name(parts, "SRC")?;
@@ -227,6 +233,7 @@ fn run_in<'a>(parts: &Parts<'a>) -> Result<Command<'a>, WordFault<'a>>
     ensures some { IfOk result AllowsSome }
     ensures numbers { IfOk result (HasNumbers parts.now.given.items) }
     ensures called { IfOk result (IsCalled (codes "run")) }
+    ensures asks { IfOk result (λ c. IsHelp c → ⊥) }
     ensures refused { IfErr result (IsFaultAt (name_of parts.now.verb)) }
 {
     parts.check_names(2)?;
@@ -247,6 +254,7 @@ fn check_in<'a>(alloc: Global, parts: &Parts<'a>) -> Result<Command<'a>, WordFau
     ensures some { IfOk result AllowsSome }
     ensures numbers { IfOk result (HasNumbers parts.now.given.items) }
     ensures called { IfOk result (IsCalled (codes "check")) }
+    ensures asks { IfOk result (λ c. IsHelp c → ⊥) }
     ensures refused { IfErr result (IsFaultAt (name_of parts.now.verb)) }
 {
     let sources = names_in(alloc, parts, "SRC")?;
@@ -262,6 +270,7 @@ fn page_in<'a>(parts: &Parts<'a>) -> Result<Command<'a>, WordFault<'a>>
     ensures some { IfOk result AllowsSome }
     ensures numbers { IfOk result (HasNumbers parts.now.given.items) }
     ensures called { IfOk result (IsCalled (codes "page")) }
+    ensures asks { IfOk result (λ c. IsHelp c → ⊥) }
     ensures refused { IfErr result (IsFaultAt (name_of parts.now.verb)) }
 {
     parts.check_names(2)?;
@@ -284,6 +293,7 @@ fn test_in<'a>(alloc: Global, parts: &Parts<'a>) -> Result<Command<'a>, WordFaul
     ensures some { IfOk result AllowsSome }
     ensures numbers { IfOk result (HasNumbers parts.now.given.items) }
     ensures called { IfOk result (IsCalled (codes "test")) }
+    ensures asks { IfOk result (λ c. IsHelp c → ⊥) }
     ensures refused { IfErr result (IsFaultAt (name_of parts.now.verb)) }
 {
     let steps = number_in(parts, Setting::Steps, 1, MOST_STEPS, USUAL_STEPS)?;
@@ -312,6 +322,7 @@ fn explain_in<'a>(parts: &Parts<'a>, words: &'a [String]) -> Result<Command<'a>,
     ensures some { IfOk result AllowsSome }
     ensures numbers { IfOk result (HasNumbers parts.now.given.items) }
     ensures called { IfOk result (IsCalled (codes "explain")) }
+    ensures asks { IfOk result (λ c. IsHelp c → ⊥) }
     ensures refused { IfErr result (IsFaultAt (name_of parts.now.verb)) }
 {
     let _ = parts.name(0, "CODE")?;

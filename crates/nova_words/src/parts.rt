@@ -1,8 +1,8 @@
 //! Names and options among the words.
-ghost use Rattle.std.specs.Prelude.{◌≡◌, ◌<◌, ◌≤◌, Some, length, slice_get, IfErr, IfNone, IfOk, IfSome, MatchOption};
+ghost use Rattle.std.specs.Prelude.{◌≡◌, ◌≢◌, ◌<◌, ◌≤◌, Some, length, slice_get, IfErr, IfNone, IfOk, IfSome, MatchOption, codes};
 ghost use Rattle.nova_words.specs.Faults.{IsFaultAt};
-ghost use Rattle.nova_words.specs.Limits.{name_of};
-ghost use Rattle.nova_words.specs.Values.{IsLastValue, IsNotGiven};
+ghost use Rattle.nova_words.specs.Limits.{HaveNoHelp, name_of};
+ghost use Rattle.nova_words.specs.Values.{AsksNone, IsLastValue, IsNotGiven};
 
 use crate::fault::WordFault;
 use crate::setting::Setting;
@@ -32,6 +32,7 @@ impl<'a> Parts<'a> {
     /// Those of the words after the command.
     pub fn of(alloc: Global, verb: Verb, words: &'a [String]) -> Result<Parts<'a>, WordFault<'a>>
         ensures verb { IfOk result (λ parts. parts.verb ≡ verb) }
+        ensures asks { HaveNoHelp words.now → IfOk result (λ parts. IsNotGiven parts.given.items Setting.Help) }
         ensures refused { IfErr result (IsFaultAt (name_of verb)) }
     {
         let mut parts = Parts {
@@ -52,6 +53,7 @@ impl<'a> Parts<'a> {
 
     fn read(&mut self, word: &'a str) -> Result<(), WordFault<'a>>
         ensures verb { self.new.verb ≡ self.old.verb }
+        ensures asks { IfOk result (λ _. word.now ≢ codes "--help" → AsksNone self.old → AsksNone self.new) }
         ensures refused { IfErr result (IsFaultAt (name_of self.old.verb)) }
     {
         if let Some(setting) = self.pending {
@@ -70,6 +72,7 @@ impl<'a> Parts<'a> {
 
     fn give(&mut self, setting: Setting, value: &'a str) -> Result<(), WordFault<'a>>
         ensures verb { self.new.verb ≡ self.old.verb }
+        ensures asks { IfOk result (λ _. setting ≢ Setting.Help → AsksNone self.old → AsksNone self.new) }
         ensures refused { IfErr result (IsFaultAt (name_of self.old.verb)) }
     {
         self.given.push(Given { setting, value })?;
@@ -79,6 +82,7 @@ impl<'a> Parts<'a> {
     // `--NAME`, `--NAME=VALUE` or `-o`.
     fn read_option(&mut self, word: &'a str) -> Result<(), WordFault<'a>>
         ensures verb { self.new.verb ≡ self.old.verb }
+        ensures asks { IfOk result (λ _. word.now ≢ codes "--help" → AsksNone self.old → AsksNone self.new) }
         ensures refused { IfErr result (IsFaultAt (name_of self.old.verb)) }
     {
         match word.split_once('=') {
@@ -89,6 +93,7 @@ impl<'a> Parts<'a> {
 
     fn read_alone(&mut self, word: &'a str) -> Result<(), WordFault<'a>>
         ensures verb { self.new.verb ≡ self.old.verb }
+        ensures asks { IfOk result (λ _. word.now ≢ codes "--help" → AsksNone self.old → AsksNone self.new) }
         ensures refused { IfErr result (IsFaultAt (name_of self.old.verb)) }
     {
         let Some(setting) = self.verb.setting(word) else {
@@ -109,6 +114,7 @@ impl<'a> Parts<'a> {
         value: &'a str,
     ) -> Result<(), WordFault<'a>>
         ensures verb { self.new.verb ≡ self.old.verb }
+        ensures asks { IfOk result (λ _. AsksNone self.old → AsksNone self.new) }
         ensures refused { IfErr result (IsFaultAt (name_of self.old.verb)) }
     {
         let Some(setting) = self.verb.setting(name) else {
