@@ -7,6 +7,7 @@ ghost use Rattle.ssu_ir.specs.Measures.{peak};
 ghost use Rattle.ssu_ir.specs.View.{labels_view};
 ghost use Rattle.uc_isa.specs.Moves.{moves};
 ghost use Rattle.nova_back.specs.Causes.{AreStartsOf, IsReportOn, HasVector, IsCheapFor, report_cost};
+ghost use Rattle.nova_back.specs.Memory.{IsWithinBound};
 ghost use Rattle.nova_front.specs.Sources.{IsTypedSource};
 ghost use Rattle.nova_commands.specs.Building.{IsCompileCause, IsFormCause, IsTextCause};
 ghost use Rattle.nova_commands.specs.Forms.{form_bound, IsCodeFor, IsBoundedFormOf, HasBanks};
@@ -121,6 +122,7 @@ pub fn compile_text(
     // Where all live values at once fit a bank, at most two copies a value and one a use, each times the greatest weight.
     ensures cheap { IfOk result (λ t. peak (labels_view t.built.ssu) ≤ 15 → IsCheapFor (labels_view t.built.ssu) w.now (report_cost t.built.report)) }
     ensures banks { IfOk result (λ t. HasBanks (typed_program t.typed) slots w.now budget t.built.code t.built.starts.items t.built.report) }
+    ensures bounded { IfOk result (λ t. IsWithinBound (labels_view t.built.ssu)) }
     ensures only_program { (p : ProgramTree) → IsTypedSource bytes.now p → MatchResult result (λ t. typed_program t.typed ≡ p) (λ e. (e ≡ CompileError.NoMemory) ⊎ IsFormCause p slots w.now budget store e) }
     ensures refused { IfErr result (λ e. (e ≡ CompileError.NoMemory) ⊎ IsCompileCause bytes.now slots w.now budget store e) }
     ensures only_refused { (f : CompileError) → IsTextCause bytes.now f → MatchResult result (λ _. ⊥) (λ e. (e ≡ CompileError.NoMemory) ⊎ (e ≡ f)) }
