@@ -31,8 +31,8 @@ pub enum Saved {
 /// A store of files, each a list of bytes under a name.
 ///
 /// A store that tells what it holds says of each load and save what it did to these bytes. Every
-/// store counts, for each name, the loads and the saves that failed; a count starts at 0, never falls, and
-/// stands still at the end of its type. And it has a history: of each list of calls that were made before a
+/// store counts, for each name, the loads and the saves that failed; a count starts at 0, rises only where a load
+/// or a save fails, never falls, and stands still at the end of its type. And it has a history: of each list of calls that were made before a
 /// load or a save, the list with this call after it was made after it.
 pub trait Files {
     /// Whether stores of this kind tell what they hold.
@@ -59,10 +59,11 @@ pub trait Files {
         ensures only_too_long { tells → IsLonger (held self.old) name.now limit → result ≢ Loaded.Done }
         ensures not_done { result ≢ Loaded.Done → into.new.items ≡ into.old.items }
         ensures cause { result ≡ Loaded.Failed → Rose (load_faults self.old name.now) (load_faults self.new name.now) }
+        ensures no_cause { result ≢ Loaded.Failed → (q : List ℕ) → load_faults self.new q ≡ load_faults self.old q }
         ensures held { held self.new ≡ held self.old }
         ensures asked { Asked history self.old self.new (Load name.now ∷ []) }
         ensures load_faults { (q : List ℕ) → load_faults self.old q ≤ load_faults self.new q }
-        ensures save_faults { (q : List ℕ) → save_faults self.old q ≤ save_faults self.new q };
+        ensures save_faults { (q : List ℕ) → save_faults self.new q ≡ save_faults self.old q };
 
     /// Makes these bytes the whole of a file, which need not be there before. Whatever the answer, no
     /// other name changes.
@@ -71,6 +72,7 @@ pub trait Files {
         ensures elsewhere { tells → SameElsewhere (held self.old) (held self.new) name.now }
         ensures asked { Asked history self.old self.new (Save name.now ∷ []) }
         ensures cause { result ≡ Saved.Failed → Rose (save_faults self.old name.now) (save_faults self.new name.now) }
-        ensures load_faults { (q : List ℕ) → load_faults self.old q ≤ load_faults self.new q }
+        ensures no_cause { result ≡ Saved.Done → (q : List ℕ) → save_faults self.new q ≡ save_faults self.old q }
+        ensures load_faults { (q : List ℕ) → load_faults self.new q ≡ load_faults self.old q }
         ensures save_faults { (q : List ℕ) → save_faults self.old q ≤ save_faults self.new q };
 }
