@@ -90,10 +90,10 @@ struct DiskCalls<'a, R: rt::Files> {
 }
 
 impl<'a, R: rt::Files + RandomSource + AllocGlobal> SaveCalls for DiskCalls<'a, R> {
-    // The system doesn't tell what was called.
+    // The system doesn't tell what was called and what it told.
     ghost history = { λ _ _. Unit {0} };
 
-    ghost leads_to = { λ _ _. Unit {0} };
+    ghost told = { λ _ _. Unit {0} };
 
     fn look(&self, name: &str) -> io::Result<Metadata> {
         fs::metadata(self.rt, name)

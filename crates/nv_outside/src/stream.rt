@@ -7,6 +7,8 @@ use std::io::{ErrorKind, Read};
 
 /// Appends what a file has left, where that is at most `limit` bytes. Of a longer one at most a buffer more is
 /// read. A read that is interrupted is tried again.
+///
+/// No clause says that a read failed where the answer is `Failed`: `Read` has nothing that tells of one.
 pub fn read_whole<F: Read>(file: &mut F, limit: u64, into: &mut Vec<u8>) -> Loaded
     ensures whole { result ≡ Loaded.Done → IfSome (F.remaining file.old) (λ left. into.new.items ≡ into.old.items ++ left) }
     ensures within { result ≡ Loaded.Done → (bytes : List ℕ) × (length bytes ≤ limit) × (into.new.items ≡ into.old.items ++ bytes) }

@@ -61,7 +61,7 @@ impl Folder {
 impl SaveCalls for Folder {
     ghost history = { λ _ _. Unit {0} };
 
-    ghost leads_to = { λ _ _. Unit {0} };
+    ghost told = { λ _ _. Unit {0} };
 
     fn look(&self, _name: &str) -> io::Result<Metadata> {
         self.found()
