@@ -6,7 +6,7 @@ use Rattle.type_table.specs.declared.table.Facts.{Facts}
 use Rattle.type_table.specs.declared.table.Cell.{Cell}
 use Rattle.type_table.specs.declared.table.Cell.TheVariants.{Word, Bool as BoolCell, NoParts, Tuple, Record, Part}
 use Rattle.type_table.specs.inner.Cells.{fact_at, over, with_front, IsTable}
-use Rattle.type_table.specs.inner.Store.{IsType, IsParts, AreFieldCells}
+use Rattle.type_table.specs.inner.Store.{IsType, IsParts, IsFields, AreFieldCells}
 use Rattle.type_table.proofs.KnownRows.{fact_is, KnowCells, known_row}
 use Rattle.type_table.specs.inner.Knowing.{IsKnown, AreKnown, KnowsFields}
 
@@ -55,3 +55,6 @@ mutual
   known_cells names cells facts is [] (named_ty_and x t ts) h = absurd h
   known_cells names cells facts is (p ∷ ps) no_named_tys h = absurd h
   known_cells names cells facts is (p ∷ ps) (named_ty_and x t ts) h = (known_type names cells facts is p.1 t h.1, known_cells names cells facts is ps ts h.2)
+
+pub known_fields : (names : List (List ℕ)) (cells : List Cell) (facts : List Facts) → IsTable names cells facts → (i : ℕ) (ts : NamedTys) → IsFields (record { names = names; cells = cells }) i ts → KnowsFields (fact_at facts i) ts
+known_fields names cells facts is i ts h = known_row names cells facts is i h.0 ts h.1 (known_cells names cells facts is h.0 ts h.2)

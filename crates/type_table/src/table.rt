@@ -1,10 +1,10 @@
 //! Types by number, each kept once.
 
-ghost use Rattle.std.specs.Prelude.{◌≡◌, ◌<◌, ◌∷◌, [], ℕ, true, Some, is_none, IfSome, IfOk, OnOk, length, slice_get};
+ghost use Rattle.std.specs.Prelude.{◌≡◌, ◌<◌, ◌≤◌, ◌∷◌, [], ℕ, true, Some, is_none, IfSome, IfOk, OnOk, length, slice_get};
 ghost use Rattle.nv_ast.specs.Types.{Ty, TupleTy, RecordTy, Tys, ty_and, NamedTys, Form, RecordForm, ChoiceForm, Forms, words_ty, word_parts, same_type, is_too_large};
 ghost use Rattle.nv_ast.specs.Faults.{can_store};
 ghost use Rattle.type_table.specs.inner.Store.{Extends, IsType, IsParts, IsFields, IsForm, IsForms, IsStore, tuple_of, record_in, part_of, AreTypes};
-ghost use Rattle.type_table.specs.inner.Knowing.{IsKnown, AreKnown};
+ghost use Rattle.type_table.specs.inner.Knowing.{IsKnown, AreKnown, KnowsFields, IsFactOf};
 ghost use Rattle.type_table.specs.inner.Cells.{AreBelow, over, lone, with_front, fact_at as fact_in, cell_facts as facts_of_cell};
 
 use crate::limits::{HIGHEST, MOST_WORDS};
@@ -136,6 +136,7 @@ impl<'a> Table<'a> {
     pub fn part_number(&self, i: usize) -> usize
         ensures below { result < length self.now.cells }
         ensures same { (c : Cell) → slice_get self.now.cells i ≡ Some c → result ≡ i }
+        ensures no_cell { length self.now.cells ≤ i → result ≡ 0 }
         ensures store { IsStore self.now }
     {
         if i < self.cells.len() { i } else { WORD }
@@ -149,10 +150,12 @@ impl<'a> Table<'a> {
         self.cells.get_index(i).copied()
     }
 
-    /// What is known of a type or list.
+    /// What is known of a type or list, or nothing where the number has no cell.
     pub fn known(&self, i: usize) -> Facts
         ensures of_type { (t : Ty) → IsType self.now i t → IsKnown result t }
         ensures of_parts { (ts : Tys) → IsParts self.now i ts → AreKnown result ts }
+        ensures of_fields { (ts : NamedTys) → IsFields self.now i ts → KnowsFields result ts }
+        ensures of_cells { IsFactOf self.now i result }
     {
         fact_at(&self.facts, i)
     }

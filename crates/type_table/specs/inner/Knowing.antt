@@ -3,7 +3,7 @@ use Rattle.std.specs.Prelude.{◌≡◌, ℕ, true, List, All}
 use Rattle.nv_ast.specs.Types.{Ty, Tys, NamedTys, words, total_words, total_named_words, ty_height, highest_ty, highest_named_ty, has_bool, some_bool, some_named_bool, Form, can_pack}
 use Rattle.nv_ast.specs.Faults.{words_alone}
 use Rattle.type_table.specs.declared.table.Facts.{Facts}
-use Rattle.type_table.specs.inner.Cells.{still}
+use Rattle.type_table.specs.inner.Cells.{still, fact_at, IsTable}
 use Rattle.type_table.specs.inner.Store.{Store, IsType, IsForm}
 
 pub record IsKnown (f : Facts) (t : Ty) : Type 0 where
@@ -21,6 +21,12 @@ pub record KnowsFields (f : Facts) (ts : NamedTys) : Type 0 where
   pub of_words : f.words ≡ still (total_named_words ts)
   pub of_height : f.height ≡ still (highest_named_ty ts)
   pub of_bool : f.has_bool ≡ some_named_bool ts
+
+-- what is known by a number, of a cell of any kind and also where there is none: what is known of a cell's parts determines what is known of it
+pub record IsFactOf (s : Store) (i : ℕ) (f : Facts) : Type 0 where
+  pub facts : List Facts
+  pub of_cells : IsTable s.names s.cells facts
+  pub here : f ≡ fact_at facts i
 
 -- pairs of a form and a type whose values it packs
 abbrev pub ArePacked : Store → List (ℕ × ℕ) → Type 0
