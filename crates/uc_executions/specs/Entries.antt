@@ -10,8 +10,12 @@ use Rattle.uc_executions.specs.Visits.{stood}
 abbrev pub EntryCount : Type 0
 EntryCount = List ℕ → Memories → ℕ → ℕ → ℕ
 
--- after each number of steps there is a number of jumps after which each label was entered as often as the engine stood at its
--- start
-abbrev pub IsVisited : ℕ → EntryCount → List Instr → List ℕ → Type 0
-IsVisited params entered code starts = (args : List ℕ) (p : Memories) (base : ℕ) → IsStart params args p base
-    → (m : ℕ) → (n : ℕ) × ((k : ℕ) → k < length starts → stood code (slice_index starts k) m (start args base) p ≡ entered args p n k)
+-- after m steps the engine has stood at the start of each label as often as the label was entered with n jumps
+abbrev pub VisitedAsEntered : EntryCount → List Instr → List ℕ → List ℕ → Memories → (base m n : ℕ) → Type 0
+VisitedAsEntered entered code starts args p base m n = (k : ℕ) → k < length starts → stood code (slice_index starts k) m (start args base) p ≡ entered args p n k
+
+-- the engine comes to the start of each label as often as the label is entered: for each number of steps there is a number of jumps with the
+-- same counts, and for each number of jumps a number of steps
+pub record IsVisited (params : ℕ) (entered : EntryCount) (code : List Instr) (starts : List ℕ) : Type 0 where
+  pub visits : (args : List ℕ) (p : Memories) (base : ℕ) → IsStart params args p base → (m : ℕ) → (n : ℕ) × VisitedAsEntered entered code starts args p base m n
+  pub visits_only : (args : List ℕ) (p : Memories) (base : ℕ) → IsStart params args p base → (n : ℕ) → (m : ℕ) × VisitedAsEntered entered code starts args p base m n
