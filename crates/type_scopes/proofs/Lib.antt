@@ -14,6 +14,7 @@ pub mod BlockWhole
 pub mod Bound
 pub mod DeclWalk
 pub mod Declaring
+pub mod Entered
 pub mod GroupNames
 pub mod Groups
 pub mod Holding

@@ -1,6 +1,7 @@
 //! What is declared.
 
-ghost use Rattle.std.specs.Prelude.{◌≡◌, ◌++◌, ◌∷◌, [], None, OnOk};
+ghost use Rattle.std.specs.Prelude.{◌≡◌, ◌++◌, ◌∷◌, [], None, OnOk, OnErr, bytes_eq};
+ghost use Rattle.indexmap.specs.IndexMap.{insert_entry};
 ghost use Rattle.nv_ast.specs.Tests.{look_up};
 
 use indexmap::IndexMap;
@@ -41,9 +42,11 @@ impl<'a, T: Copy + Drop> Declared<'a, T> {
         self.entries.get(&name).copied()
     }
 
-    /// One more declaration, of a new name.
+    /// One more declaration. A name that is there keeps its place and gets the value.
     pub fn add(&mut self, name: &'a Name, value: T) -> Result<(), NoMemory>
-        ensures { look_up name.now self.old ≡ None → OnOk result (self.new ≡ self.old ++ (name.now, value) ∷ []) }
+        ensures new_name { look_up name.now self.old ≡ None → OnOk result (self.new ≡ self.old ++ (name.now, value) ∷ []) }
+        ensures entries { OnOk result (self.new ≡ insert_entry bytes_eq self.old name.now value) }
+        ensures failed { OnErr result (self.new ≡ self.old) }
     {
         self.entries.insert(name, value)?;
         Ok(())

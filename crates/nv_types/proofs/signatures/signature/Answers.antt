@@ -72,4 +72,4 @@ returns c =
     let twice = subst (λ (l : List (Bor (List ℕ) × ℕ)). at_span c.args.f.now.span (variable_twice (names_of (named l))) ≡ []) c.deref-2.ensures.value c.in_ok-without_twice_param.ensures in
     let same : c.deref-4.result.now ≡ bound_types (named c.in_ok-params.params.items) = c.deref-4.ensures.value ∙ c.in_ok-types.ensures ∙ ap (λ (l : List (Bor (List ℕ) × ℕ)). bound_types (named l)) c.deref-3.ensures.value in
     let listed : Listed c.type_text.new.self.table c.parts_of.new.self (named c.in_ok-params.params.items) c.in_ok-list.list = record { grows = c.in_ok-list.ensures.grows; made = λ ts h. c.in_ok-list.ensures.made ts (subst (λ (l : List ℕ). AreTypes c.type_text.new.self.table l ts) (sym same) h) } in
-    sign_ok (Unit {0}) c.args.checker.now c.type_text.new.self f (named c.in_ok-params.params.items) c.in_ok-result.result c.parts_of.new.self c.in_ok-list.list c.add.new.self tt tt read twice listed c.in_ok-fitting_main.ensures c.in_ok-add.ensures
+    sign_ok (Unit {0}) c.args.checker.now c.type_text.new.self f (named c.in_ok-params.params.items) c.in_ok-result.result c.parts_of.new.self c.in_ok-list.list c.add.new.self tt tt read twice listed c.in_ok-fitting_main.ensures c.in_ok-add.ensures.new_name

@@ -25,7 +25,7 @@ loop-f-preserved c =
       so = λ fresh.
           subst (λ done. Costed c.args.self.now (record c.loop-f.self { costs = c.add.new.self }) c.args.whole done (map fun_tree (drop (i + 1) fs))) (sym (image_before fun_tree fs i f c.loop-f-test.true c.f-item.is))
           (costed_more c.args.self.now c.loop-f.self (record c.loop-f.self { costs = c.add.new.self }) c.args.whole (map fun_tree (take i fs)) (map fun_tree (drop (i + 1) fs)) (fun_tree f)
-          (subst (λ rest. Costed c.args.self.now c.loop-f.self c.args.whole (map fun_tree (take i fs)) rest) (image_behind fun_tree fs i f c.loop-f-test.true c.f-item.is) (last.so fresh)) c.in_ok-add.ensures);
+          (subst (λ rest. Costed c.args.self.now c.loop-f.self c.args.whole (map fun_tree (take i fs)) rest) (image_behind fun_tree fs i f c.loop-f-test.true c.f-item.is) (last.so fresh)) c.in_ok-add.ensures.new_name);
       same_table = last.same_table;
       same_layouts = last.same_layouts;
       same_exceptions = last.same_exceptions;

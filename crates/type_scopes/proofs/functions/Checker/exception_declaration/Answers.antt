@@ -34,4 +34,4 @@ pub returns : goal.returns
 returns c =
     let found : c.is_some.result ≡ is_some (look_up c.args.name.now c.args.self.now.exceptions) = c.is_some.ensures ∙ ap is_some c.get.ensures in
     let none = subst (λ b. at_span c.args.span (where_true b 2) ≡ []) found c.in_ok-fault_where.ensures in
-    exception_ok c.args.self.now c.type_texts.new.self c.args.name.now (list_types c.args.ts.now) c.args.span c.in_ok-types.types c.known.result c.add.new.self tt none c.in_ok-types.ensures c.known.ensures.of_parts c.in_ok-fault_where-2.ensures c.in_ok-add.ensures
+    exception_ok c.args.self.now c.type_texts.new.self c.args.name.now (list_types c.args.ts.now) c.args.span c.in_ok-types.types c.known.result c.add.new.self tt none c.in_ok-types.ensures c.known.ensures.of_parts c.in_ok-fault_where-2.ensures c.in_ok-add.ensures.new_name

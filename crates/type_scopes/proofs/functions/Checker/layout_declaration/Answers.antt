@@ -26,4 +26,4 @@ pub returns : goal.returns
 returns c =
     let found : c.is_some.result ≡ is_some (look_up c.args.name.now c.args.self.now.layouts) = c.is_some.ensures ∙ ap is_some c.get.ensures in
     let none = subst (λ b. at_span c.args.span (where_true b 2) ≡ []) found c.in_ok-fault_where.ensures in
-    layout_ok c.args.self.now c.whole_layout.new.self c.args.name.now (layout_tree c.args.l.now) c.args.span c.in_ok-shape.shape c.add.new.self tt none c.in_ok-shape.ensures c.in_ok-add.ensures
+    layout_ok c.args.self.now c.whole_layout.new.self c.args.name.now (layout_tree c.args.l.now) c.args.span c.in_ok-shape.shape c.add.new.self tt none c.in_ok-shape.ensures c.in_ok-add.ensures.new_name
