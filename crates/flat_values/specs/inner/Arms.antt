@@ -41,11 +41,17 @@ ValueBy t (value.Fetch m n a) = (s : Span) × (t ≡ FetchTree s m n (tree_of a.
 ValueBy t (value.Block sts a) = (s : Span) × (t ≡ BlockTree s (list_statements sts.now) (tree_of a.now))
 ValueBy t value.Named = is_named t ≡ true
 
+-- in brackets or negated
+abbrev pub is_wrapped : Tree → Bool
+is_wrapped (ParenTree s a) = true
+is_wrapped (NegateTree s a) = true
+is_wrapped _ = false
+
 abbrev pub TestBy : Tree → TestArm → Type 0
 TestBy t (test.Paren a) = (s : Span) × (t ≡ ParenTree s (tree_of a.now))
 TestBy t (test.Negate a) = (s : Span) × (t ≡ NegateTree s (tree_of a.now))
 TestBy t (test.Compare cmp swapped a b) = (s : Span) × (o : Op) × (comparison_of o ≡ Some (cmp, swapped)) × (t ≡ BinaryTree s o (tree_of a.now) (tree_of b.now))
-TestBy t test.Truth = is_comparison t ≡ false
+TestBy t test.Truth = (is_wrapped t ≡ false) × (is_comparison t ≡ false)
 
 abbrev pub EndBy : Tree → EndArm → Type 0
 EndBy t (end.Paren a) = (s : Span) × (t ≡ ParenTree s (tree_of a.now))

@@ -475,7 +475,7 @@ pub endings::condition-returns-in-Compare : goal.endings::condition-returns-in-C
 endings::condition-returns-in-Compare t c = record { flat = mapped c.compare.result (λ x h. test-tree _ _ _ _ _ _ _ _ _ _ _ _ c.in-Compare.ensures.3 (h c.in-Compare.ensures.0 c.in-Compare.ensures.1 c.in-Compare.ensures.2)) c.compare.ensures.flat; scope = c.compare.ensures.scope; names = c.compare.ensures.names; later = c.compare.ensures.later }
 
 pub endings::condition-returns-in-Truth : goal.endings::condition-returns-in-Truth
-endings::condition-returns-in-Truth t c = record { flat = c.truth.ensures.flat c.in-Truth.ensures; scope = c.truth.ensures.scope; names = c.truth.ensures.names; later = c.truth.ensures.later }
+endings::condition-returns-in-Truth t c = record { flat = c.truth.ensures.flat c.in-Truth.ensures.1; scope = c.truth.ensures.scope; names = c.truth.ensures.names; later = c.truth.ensures.later }
 
 pub endings::condition-returns-in-Ok-clause-flat : goal.endings::condition-returns-in-Ok-clause-flat
 endings::condition-returns-in-Ok-clause-flat t c = test-tree _ _ _ _ _ _ _ _ _ _ _ _ c.in-Negate.ensures.1 (negate-test-flat _ _ _ _ _ _ _ _ _ c.in-Ok.found.cmp _ _ _ c.turned.ensures c.in-Ok.ensures.flat)
@@ -490,7 +490,7 @@ pub endings::condition-compare-requires : goal.endings::condition-compare-requir
 endings::condition-compare-requires t c = (let w : weight (tree_of c.args.e.now) ≡ 1 + (weight (tree_of c.in-Compare.a.now) + weight (tree_of c.in-Compare.b.now)) = ap (λ t. weight t) c.in-Compare.ensures.3 in omega (arith, w, c.decreases), tt)
 
 pub endings::condition-truth-requires : goal.endings::condition-truth-requires
-endings::condition-truth-requires t c = (omega (arith, truth-below (tree_of c.args.e.now) c.in-Truth.ensures, c.decreases), tt)
+endings::condition-truth-requires t c = (omega (arith, truth-below (tree_of c.args.e.now) c.in-Truth.ensures.1, c.decreases), tt)
 
 pub endings::compare-returns-in-Err : goal.endings::compare-returns-in-Err
 endings::compare-returns-in-Err t c = record { flat = tt; scope = tt; names = c.value.ensures.names; later = c.value.ensures.later }
