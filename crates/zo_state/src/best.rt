@@ -1,10 +1,10 @@
 //! The best vector of a search so far.
 
-ghost use Rattle.std.specs.Prelude.{◌≡◌, IfSome, IfOk, IsTrue, ◌↔◌, Some, false, length};
+ghost use Rattle.std.specs.Prelude.{◌≡◌, IfSome, IfErr, IfOk, IsTrue, ◌↔◌, Some, false, length};
 ghost use Rattle.zo_model.specs.Program.{IsValid, columns, cost_of};
 ghost use Rattle.zo_proof.specs.Fixing.{ones};
 ghost use Rattle.zo_proof.specs.Searched.{IsMet};
-ghost use Rattle.zo_state.specs.Vector.{IsVector, cost_at, start_cost};
+ghost use Rattle.zo_state.specs.Vector.{AreOnes, IsVector, cost_at, start_cost};
 ghost use Rattle.zo_state.specs.inner.Better.{CostsAsMuch, IsBest, IsCheaper, IsWeaker};
 
 use crate::reach::ones_vector;
@@ -27,6 +27,7 @@ impl Best {
         requires start { IfSome start (IsVector z.now) }
         ensures best { IsBest z.now result }
         ensures start { result.start ≡ start_cost z.now start }
+        ensures x { result.x ≡ start }
     {
         match start {
             Some(x) => {
@@ -82,6 +83,9 @@ impl Best {
         ensures weaker { IfOk result (λ _. IsWeaker self.old.claim self.new.claim) }
         ensures start { IfOk result (λ _. self.new.start ≡ self.old.start) }
         ensures at_most { IfOk result (λ _. CostsAsMuch self.new.claim spent) }
+        ensures taken { IfOk result (λ _. IsCheaper self.old.claim spent → IfSome self.new.x (AreOnes fixed.now)) }
+        ensures kept { IfOk result (λ _. CostsAsMuch self.old.claim spent → self.new ≡ self.old) }
+        ensures failed { IfErr result (λ _. self.new ≡ self.old) }
     {
         if costs_as_much(&self.claim, spent) {
             return Ok(());

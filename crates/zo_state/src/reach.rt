@@ -7,7 +7,7 @@ ghost use Rattle.zo_proof.specs.Fixing.{ones};
 ghost use Rattle.zo_proof.specs.Fixing as fixing;
 ghost use Rattle.zo_proof.specs.Searched.{IsMet};
 ghost use Rattle.zo_proof.specs.Searched as searched;
-ghost use Rattle.zo_state.specs.Vector.{IsVector, cost_at};
+ghost use Rattle.zo_state.specs.Vector.{AreOnes, IsVector, cost_at};
 
 use std::alloc::{AllocError, Global};
 use zo_model::{Assignment, Row, ZeroOne};
@@ -92,6 +92,7 @@ pub fn ones_vector(
     requires places { length fixed.now ≡ columns z.now }
     requires met { IsMet z.now fixed.now }
     ensures vector { IfOk result (λ x. IsVector z.now x) }
+    ensures ones { IfOk result (AreOnes fixed.now) }
     ensures cost { IfOk result (λ x. cost_at z.now x ≡ cost_of z.now (ones fixed.now)) }
 {
     Ok(Assignment {

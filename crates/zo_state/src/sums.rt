@@ -1,6 +1,6 @@
 //! Running sums of the rows while columns are fixed and unfixed.
 
-ghost use Rattle.std.specs.Prelude.{◌≡◌, ◌<◌, ◌≤◌, ◌^◌, ◌↔◌, ◌<ℤ◌, length, pos, All, Option, None, Some, IfNone, IfOk, IfSome, IsTrue, slice_get, slice_set, slice_index_or};
+ghost use Rattle.std.specs.Prelude.{◌≡◌, ℕ, ◌<◌, ◌≤◌, ◌^◌, ◌↔◌, ◌<ℤ◌, ◌≤ℤ◌, length, pos, All, Option, None, Some, IfNone, IfOk, IfSome, IsTrue, slice_get, slice_set, slice_index_or};
 ghost use Rattle.zo_model.specs.Program.{IsValid, columns};
 ghost use Rattle.zo_proof.specs.Certificate.{unfixed};
 ghost use Rattle.zo_proof.specs.Fixing.{ones};
@@ -46,6 +46,7 @@ fn first_below(rows: &[Row], sums: &[i128]) -> Option<u32>
     ensures there { IfSome result (λ i. i < length rows.now) }
     ensures below { IfSome result (λ i. IfSome (slice_get rows.now i) (λ r. slice_index_or sums.now i (pos 0) <ℤ r.least)) }
     ensures none { IfNone result (EachReaches rows.now sums.now) }
+    ensures first { IfSome result (λ i. (k : ℕ) → k < i → IfSome (slice_get rows.now k) (λ r. r.least ≤ℤ slice_index_or sums.now k (pos 0))) }
 {
     for i in 0..rows.len() {
         if sums[i] < i128::from(rows[i].least) {
@@ -162,6 +163,7 @@ impl<'a> Sums<'a> {
     pub fn out_of_reach(&self) -> Option<u32>
         ensures some { IfSome result (λ i. IfSome (slice_get self.now.program.rows.items i) (λ row. IsInReach self.now.fixed row → ⊥)) }
         ensures there { IfSome result (λ i. i < length self.now.program.rows.items) }
+        ensures first { IfSome result (λ i. (k : ℕ) → k < i → IfSome (slice_get self.now.program.rows.items k) (IsInReach self.now.fixed)) }
         ensures none { IfNone result (All (IsInReach self.now.fixed) self.now.program.rows.items) }
     {
         first_below(&self.z.rows, &self.reaches)
