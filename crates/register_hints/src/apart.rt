@@ -1,6 +1,6 @@
 //! Whether numbers tell the values of rows apart.
 
-ghost use Rattle.std.specs.Prelude.{◌≡◌, ◌<◌, nat_eq, true, false, Some, All, IfOk, IfSome};
+ghost use Rattle.std.specs.Prelude.{◌≡◌, ◌↔◌, ◌<◌, ℕ, nat_eq, true, false, Some, All, IfNone, IfOk, IfSome, IsTrue};
 ghost use Rattle.std.specs.HashMap.{get};
 ghost use Rattle.nv_base.specs.Sets.{is_in};
 ghost use Rattle.ssu_liveness.specs.LiveRows.{items_of};
@@ -29,6 +29,7 @@ fn new_number(numbers: &Slots, x: u32, limit: u32, seen: &[u32]) -> Option<u32>
     ensures has { IfSome result (λ n. get nat_eq numbers.now x ≡ Some n) }
     ensures below { IfSome result (λ n. n < limit) }
     ensures new { IfSome result (λ n. is_in n seen.now ≡ false) }
+    ensures none { IfNone result ((n : ℕ) → get nat_eq numbers.now x ≡ Some n → n < limit → is_in n seen.now ≡ true) }
 {
     match number_of(numbers, x) {
         Some(n) => {
@@ -42,9 +43,10 @@ fn new_number(numbers: &Slots, x: u32, limit: u32, seen: &[u32]) -> Option<u32>
     }
 }
 
-/// Whether the values of a row have numbers below a limit, no two the same.
+/// Whether each value of a row is there once, and they have numbers below a limit, no two the same.
 fn row_is_apart(alloc: Global, numbers: &Slots, row: &[u32], limit: u32) -> Result<bool, NoMemory>
-    ensures { IfOk result (λ b. b ≡ true → HasNumbers (get nat_eq numbers.now) limit row.now) }
+    ensures apart { IfOk result (λ b. b ≡ true → HasNumbers (get nat_eq numbers.now) limit row.now) }
+    ensures only { IfOk result (λ b. HasNumbers (get nat_eq numbers.now) limit row.now → b ≡ true) }
 {
     let mut seen = Vec::new(alloc);
     for x in row {
@@ -63,7 +65,7 @@ pub fn are_apart(
     rows: &[Vec<u32>],
     limit: u32,
 ) -> Result<bool, NoMemory>
-    ensures { IfOk result (λ b. b ≡ true → All (HasNumbers (get nat_eq numbers.now) limit) (items_of rows.now)) }
+    ensures { IfOk result (λ b. IsTrue b ↔ All (HasNumbers (get nat_eq numbers.now) limit) (items_of rows.now)) }
 {
     for row in rows {
         if !row_is_apart(alloc, numbers, row, limit)? {

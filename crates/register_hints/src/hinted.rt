@@ -20,8 +20,9 @@ pub struct Hints {
     pub fixed: Vec<(u32, u32)>,
 }
 
-/// Numbers below a limit for the values of these rows, by wishes; none where some row has more values than there are
-/// numbers. How many wishes are met isn't promised.
+/// Numbers below a limit for the values of these rows, by wishes; none where those that were found don't tell the values of
+/// a row apart, as where a row has more values than there are numbers. Which numbers are found, and how many wishes they
+/// meet, isn't promised: any numbers that the contract admits make correct code.
 pub fn wished_numbers(
     alloc: Global,
     rows: &[Vec<u32>],

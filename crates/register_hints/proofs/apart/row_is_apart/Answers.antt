@@ -1,7 +1,7 @@
 use Rattle.std.proofs.Common.{◌+◌, [], List, ℕ, nat_eq, take, sym, ap, subst, ◌∙◌, arith}
 use Rattle.std.specs.HashMap.{get}
 use Rattle.nv_base.specs.Sets.{is_in}
-use Rattle.register_hints.proofs.Telling.{Told, told-none, told-step}
+use Rattle.register_hints.proofs.Telling.{Told, told-none, told-step, told-stops}
 use Rattle.register_hints.proofs.apart.row_is_apart.Goals as goal
 
 pub loop-x-init : goal.loop-x-init
@@ -19,3 +19,7 @@ loop-x-preserved c =
     let free = ap (λ (s : List ℕ). is_in n s) (sym c.deref.ensures.value) ∙ e.new in
     subst (λ (s : List ℕ). Told number c.args.limit (take (i + 1) row) s) (sym c.in_ok-push-in-Some.ensures.items)
     (told-step number c.args.limit row c.loop-x.seen.items i n (omega arith) e.has e.below free c.loop-x.invariant)
+
+pub returns-in-None-clause-only : goal.returns-in-None-clause-only
+returns-in-None-clause-only c = λ h. absurd (told-stops (get nat_eq c.args.numbers.now) c.args.limit c.args.row.now c.loop-x.seen.items c.loop-x.x-index (omega arith)
+    (λ k e l. ap (λ (s : List ℕ). is_in k s) (sym c.deref.ensures.value) ∙ c.in-None.ensures.none k e l) c.loop-x.invariant h)
