@@ -1,10 +1,11 @@
 -- The tests of a contracted flow, node by node and label by label.
-use Rattle.std.proofs.Common.{◌≡◌, ℕ, zero, suc, ◌+◌, ◌<◌, ◌≤◌, Bool, true, false, not, ◌&&◌, ◌||◌, nat_eq, nat_le, List, [], ◌∷◌, ◌++◌, Some, map, refl, sym, ap, subst, ◌∙◌, length, take, drop, get_or, slice_get, All, if◌then◌else◌, arith}
-use Rattle.std.proofs.lemmas.Bool.{and_parts, or_cases, not-true, false≢true}
+use Rattle.std.proofs.Common.{◌≡◌, ◌↔◌, ℕ, zero, suc, ◌+◌, ◌<◌, ◌≤◌, min, Bool, true, false, not, ◌&&◌, ◌||◌, nat_eq, nat_le, List, [], ◌∷◌, ◌++◌, Some, map, refl, sym, ap, subst, ◌∙◌, length, take, drop, get_or, slice_get, All, if◌then◌else◌, arith}
+use Rattle.std.below.core.specs.declared.int.u32.TheConstants.{MAX}
+use Rattle.std.proofs.lemmas.Bool.{and_parts, and_from, or_right, or_cases, not-true, false≢true}
 use Rattle.std.proofs.lemmas.Bool.Decides.{nat_tests}
 use Rattle.std.proofs.lemmas.List.{map_more, at_drop_more}
-use Rattle.std.proofs.lemmas.List.Elements.{All-nil, All-cons}
-use Rattle.std.proofs.lemmas.Option.{none-some, same_Some}
+use Rattle.std.proofs.lemmas.List.Elements.{All-nil, All-cons, All-get_or}
+use Rattle.std.proofs.lemmas.Option.{none-some, same_Some, slice_get_within, get_or_from_slice_get}
 use Rattle.flow_ir.specs.Tree.{Label}
 use Rattle.flow_ir.specs.View.{tree_view, label_view}
 use Rattle.flow_ir.specs.declared.flow.Label.{Label as FlowLabel}
@@ -18,13 +19,20 @@ use Rattle.flow_contract.specs.inner.Sizes.{at, fits, all_fit}
 
 -- ---- jumps
 
--- no more was counted than stands in front of cur
+-- what stands in front of cur was counted
 pub record Noted (t cur : Tree) (old now : List ℕ) : Type 0 where
+  pub as_long : length now ≡ length old
   pub most : (k : ℕ) → at now k + jumps_to k (tree_view cur) ≤ at old k + jumps_to k (tree_view t)
+  pub least : (k : ℕ) → k < length old → min (at old k + jumps_to k (tree_view t)) MAX ≤ at now k + jumps_to k (tree_view cur)
   pub size : size-Tree cur ≤ size-Tree t
 
 noted_on : {t cur : Tree} {old now : List ℕ} (rest : Tree) → Noted t cur old now → ((k : ℕ) → jumps_to k (tree_view cur) ≡ jumps_to k (tree_view rest)) → size-Tree rest ≤ size-Tree cur → Noted t rest old now
-noted_on rest h e le = record { most = λ k. let m = h.most k in let s = e k in omega (arith, m, s); size = let s = h.size in omega arith }
+noted_on rest h e le = record {
+  as_long = h.as_long;
+  most = λ k. let m = h.most k in let s = e k in omega (arith, m, s);
+  least = λ k lt. let m = h.least k lt in let s = e k in omega (arith, m, s);
+  size = let s = h.size in omega arith;
+}
 
 pub noted_let : {t cur : Tree} {old now : List ℕ} (x : ℕ) (p : _) (q : _) (r rest : Tree) → Noted t cur old now → cur ≡ Let' x p q r → rest ≡ r → Noted t rest old now
 noted_let {cur = cur} x p q r rest h is e =
@@ -38,40 +46,81 @@ pub noted_write : {t cur : Tree} {old now : List ℕ} (m : _) (a : _) (bs : _) (
 noted_write {cur = cur} m a bs q r rest h is e =
     noted_on rest h (λ k. ap (λ z. jumps_to k (tree_view z)) is ∙ ap (λ z. jumps_to k (tree_view z)) (sym e)) (smaller cur (Write' m a bs q r) rest r is e (omega (arith, deep-Write' m a bs q r)))
 
-pub noted_if : {t cur : Tree} {old now : List ℕ} (c a b : _) (q q' : _) (f r part rest : Tree) (next : List ℕ) → Noted t cur old now → cur ≡ If' c a b q f q' r → part ≡ f → rest ≡ r → ((k : ℕ) → at next k ≤ at now k + jumps_to k (tree_view part)) → Noted t rest old next
+-- a number of jumps to each label is added to the counts
+pub record Adds (n : ℕ → ℕ) (old now : List ℕ) : Type 0 where
+  pub as_long : length now ≡ length old
+  pub most : (k : ℕ) → at now k ≤ at old k + n k
+  pub least : (k : ℕ) → k < length old → min (at old k + n k) MAX ≤ at now k
+
+pub noted_if : {t cur : Tree} {old now : List ℕ} (c a b : _) (q q' : _) (f r part rest : Tree) (next : List ℕ) → Noted t cur old now → cur ≡ If' c a b q f q' r → part ≡ f → rest ≡ r → Adds (λ k. jumps_to k (tree_view part)) now next → Noted t rest old next
 noted_if {cur = cur} c a b q q' f r part rest next h is ef e added = record {
+  as_long = added.as_long ∙ h.as_long;
   most = λ k.
       let m = h.most k in
       let s = ap (λ z. jumps_to k (tree_view z)) is in
       let one = ap (λ z. jumps_to k (tree_view z)) ef in
       let two = ap (λ z. jumps_to k (tree_view z)) e in
-      let more = added k in
+      let more = added.most k in
+      omega (arith, m, s, one, two, more);
+  least = λ k lt.
+      let m = h.least k lt in
+      let s = ap (λ z. jumps_to k (tree_view z)) is in
+      let one = ap (λ z. jumps_to k (tree_view z)) ef in
+      let two = ap (λ z. jumps_to k (tree_view z)) e in
+      let more = added.least k (subst (λ n. k < n) (sym h.as_long) lt) in
       omega (arith, m, s, one, two, more);
   size = let s = h.size in let le = smaller cur (If' c a b q f q' r) rest r is e (omega (arith, deep-If' c a b q f q' r)) in omega arith;
 }
 
-pub noted_jump : {t cur : Tree} {old now : List ℕ} (l : ℕ) (bs : _) (next : List ℕ) → Noted t cur old now → cur ≡ Jump l bs → ((k : ℕ) → at next k ≤ at now k + (if nat_eq l k then 1 else 0)) → (k : ℕ) → at next k ≤ at old k + jumps_to k (tree_view t)
-noted_jump l bs next h is added k =
-    let m = h.most k in
-    let s = ap (λ z. jumps_to k (tree_view z)) is in
-    let more = added k in
-    omega (arith, m, s, more)
+pub noted_jump : {t cur : Tree} {old now : List ℕ} (l : ℕ) (bs : _) (next : List ℕ) → Noted t cur old now → cur ≡ Jump l bs → Adds (λ k. if nat_eq l k then 1 else 0) now next → Adds (λ k. jumps_to k (tree_view t)) old next
+noted_jump l bs next h is added = record {
+  as_long = added.as_long ∙ h.as_long;
+  most = λ k.
+      let m = h.most k in
+      let s = ap (λ z. jumps_to k (tree_view z)) is in
+      let more = added.most k in
+      omega (arith, m, s, more);
+  least = λ k lt.
+      let m = h.least k lt in
+      let s = ap (λ z. jumps_to k (tree_view z)) is in
+      let more = added.least k (subst (λ n. k < n) (sym h.as_long) lt) in
+      omega (arith, m, s, more);
+}
 
-pub noted_halt : {t cur : Tree} {old now : List ℕ} (x : ℕ) (bs : _) → Noted t cur old now → cur ≡ Halt x bs → (k : ℕ) → at now k ≤ at old k + jumps_to k (tree_view t)
-noted_halt x bs h is k = let m = h.most k in omega arith
+pub noted_halt : {t cur : Tree} {old now : List ℕ} (x : ℕ) (bs : _) → Noted t cur old now → cur ≡ Halt x bs → Adds (λ k. jumps_to k (tree_view t)) old now
+noted_halt x bs h is = record {
+  as_long = h.as_long;
+  most = λ k. let m = h.most k in omega arith;
+  least = λ k lt. let m = h.least k lt in let s = ap (λ z. jumps_to k (tree_view z)) is in omega (arith, m, s);
+}
 
 jumps_push : (k : ℕ) (ls : List Label) (l : Label) → all_jumps_to k (ls ++ l ∷ []) ≡ all_jumps_to k ls + jumps_to k l.body
 jumps_push k [] l = omega arith
 jumps_push k (m ∷ ls) l = let e = jumps_push k ls l in omega (arith, e)
 
-pub jumps_next : (labels : List FlowLabel) (i : ℕ) (d l : FlowLabel) (now next : List ℕ) → i < length labels → l ≡ get_or labels i d → ((k : ℕ) → at now k ≤ all_jumps_to k (map label_view (take i labels))) → ((k : ℕ) → at next k ≤ at now k + jumps_to k (tree_view l.body))
-    → (k : ℕ) → at next k ≤ all_jumps_to k (map label_view (take (i + 1) labels))
-jumps_next labels i d l now next lt e was added k =
+-- the jumps of these labels are counted
+pub record AreCounted (counts : List ℕ) (many : ℕ) (labels : List Label) : Type 0 where
+  pub as_long : length counts ≡ many
+  pub most : (k : ℕ) → at counts k ≤ all_jumps_to k labels
+  pub least : (k : ℕ) → k < many → min (all_jumps_to k labels) MAX ≤ at counts k
+
+pub jumps_next : (labels : List FlowLabel) (i : ℕ) (d l : FlowLabel) (now next : List ℕ) → i < length labels → l ≡ get_or labels i d → AreCounted now (length labels) (map label_view (take i labels)) → Adds (λ k. jumps_to k (tree_view l.body)) now next
+    → AreCounted next (length labels) (map label_view (take (i + 1) labels))
+jumps_next labels i d l now next lt e was added =
     let front : map label_view (take (i + 1) labels) ≡ map label_view (take i labels) ++ label_view l ∷ [] = map_more label_view labels i d lt ∙ ap (λ v. map label_view (take i labels) ++ label_view v ∷ []) (sym e) in
-    let sum = ap (all_jumps_to k) front ∙ jumps_push k (map label_view (take i labels)) (label_view l) in
-    let a = was k in
-    let b = added k in
-    omega (arith, sum, a, b)
+    record {
+      as_long = added.as_long ∙ was.as_long;
+      most = λ k.
+          let sum = ap (all_jumps_to k) front ∙ jumps_push k (map label_view (take i labels)) (label_view l) in
+          let a = was.most k in
+          let b = added.most k in
+          omega (arith, sum, a, b);
+      least = λ k within.
+          let sum = ap (all_jumps_to k) front ∙ jumps_push k (map label_view (take i labels)) (label_view l) in
+          let a = was.least k within in
+          let b = added.least k (subst (λ n. k < n) (sym was.as_long) within) in
+          omega (arith, sum, a, b);
+    }
 
 -- ---- literals
 
@@ -170,7 +219,7 @@ all_undecided counts i (l ∷ ls) e =
     let parts = and_parts (fits counts i l) (all_fit counts (suc i) ls) e in
     All-cons (λ (m : Label). is_undecided m.body ≡ true) l ls (and_parts (is_undecided l.body) (nat_eq i 0 || (nat_le 2 (at counts i) && not (is_bare i l.body))) parts.0).0 (all_undecided counts (suc i) ls parts.1)
 
-pub tested : (counts : List ℕ) (labels : List Label) → ((k : ℕ) → at counts k ≤ all_jumps_to k labels) → all_fit counts 0 labels ≡ true → AreContracted labels
+tested : (counts : List ℕ) (labels : List Label) → ((k : ℕ) → at counts k ≤ all_jumps_to k labels) → all_fit counts 0 labels ≡ true → AreContracted labels
 tested counts labels most e =
     let parts = λ (l : ℕ) (m : Label) (one : 1 ≤ l) (here : slice_get labels l ≡ Some m).
     and_parts (nat_le 2 (at counts l)) (not (is_bare l m.body))
@@ -187,3 +236,28 @@ tested counts labels most e =
 
     at_least : (n : ℕ) → nat_le 2 n ≡ true → 2 ≤ n
     at_least n h = grind (arith, nat_tests)
+
+fits_there : (counts : List ℕ) (k : ℕ) (m : Label) → is_undecided m.body ≡ true → (1 ≤ k → (2 ≤ at counts k) × (is_bare k m.body ≡ false)) → fits counts k m ≡ true
+fits_there counts zero m e h = and_from (is_undecided m.body) true e refl
+fits_there counts (suc k) m e h =
+    let p = h (omega arith) in
+    let busy = nat_le 2 (at counts (suc k)) && not (is_bare (suc k) m.body) in
+    and_from (is_undecided m.body) (nat_eq (suc k) 0 || busy) e
+    (or_right (nat_eq (suc k) 0) busy (and_from (nat_le 2 (at counts (suc k))) (not (is_bare (suc k) m.body)) (two_or_more (at counts (suc k)) p.0) (ap not p.1)))
+  where
+    two_or_more : (n : ℕ) → 2 ≤ n → nat_le 2 n ≡ true
+    two_or_more n le = grind (arith, nat_tests)
+
+fit_from : (counts : List ℕ) (i : ℕ) (ls : List Label) → ((j : ℕ) (m : Label) → slice_get ls j ≡ Some m → fits counts (i + j) m ≡ true) → all_fit counts i ls ≡ true
+fit_from counts i [] h = refl
+fit_from counts i (l ∷ ls) h =
+    and_from (fits counts i l) (all_fit counts (suc i) ls) (subst (λ k. fits counts k l ≡ true) (omega arith) (h 0 l refl))
+    (fit_from counts (suc i) ls (λ j m here. subst (λ k. fits counts k m ≡ true) (omega arith) (h (suc j) m here)))
+
+all_fit_so : (counts : List ℕ) (labels : List Label) → ((k : ℕ) → k < length labels → min (all_jumps_to k labels) MAX ≤ at counts k) → AreContracted labels → all_fit counts 0 labels ≡ true
+all_fit_so counts labels least h = fit_from counts 0 labels (λ j m here.
+    let within : j < length labels = slice_get_within labels j m here in
+    subst (λ k. fits counts k m ≡ true) (omega arith) (fits_there counts j m (subst (λ (n : Label). is_undecided n.body ≡ true) (get_or_from_slice_get labels j m m here) (All-get_or (λ (n : Label). is_undecided n.body ≡ true) labels j m within h.undecided)) (λ one. ((let two = h.shared j one within in let le = least j within in omega (arith, two, le)), h.busy j m one here))))
+
+pub tests : (counts : List ℕ) (labels : List Label) → ((k : ℕ) → at counts k ≤ all_jumps_to k labels) → ((k : ℕ) → k < length labels → min (all_jumps_to k labels) MAX ≤ at counts k) → (b : Bool) → b ≡ all_fit counts 0 labels → b ≡ true ↔ AreContracted labels
+tests counts labels most least b is = (λ e. tested counts labels most (sym is ∙ e), λ h. is ∙ all_fit_so counts labels least h)

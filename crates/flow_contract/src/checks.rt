@@ -1,6 +1,6 @@
 // Whether a flow is contracted.
 
-ghost use Rattle.std.specs.Prelude.{◌≡◌, ◌≤◌, ◌+◌, ℕ, true, IfOk, map, length, nat_eq, if◌then◌else◌};
+ghost use Rattle.std.specs.Prelude.{◌≡◌, ◌≤◌, ◌<◌, ◌+◌, ◌↔◌, ℕ, true, IfOk, map, length, min, nat_eq, if◌then◌else◌};
 ghost use Rattle.flow_ir.specs.View.{tree_view, label_view};
 ghost use Rattle.flow_contract.specs.Contracted as spec;
 ghost use Rattle.flow_contract.specs.Contracted.{jumps_to, all_jumps_to, AreContracted};
@@ -13,7 +13,9 @@ use std::alloc::Global;
 
 // Counts a jump, as long as there is room.
 fn note(counts: &mut Vec<u32>, l: u32)
-    ensures { (k : ℕ) → at counts.new.items k ≤ at counts.old.items k + (if nat_eq l k then 1 else 0) }
+    ensures length { length counts.new.items ≡ length counts.old.items }
+    ensures most { (k : ℕ) → at counts.new.items k ≤ at counts.old.items k + (if nat_eq l k then 1 else 0) }
+    ensures least { (k : ℕ) → k < length counts.old.items → min (at counts.old.items k + (if nat_eq l k then 1 else 0)) u32.MAX ≤ at counts.new.items k }
 {
     let i = l as usize;
     if i < counts.len() {
@@ -23,7 +25,9 @@ fn note(counts: &mut Vec<u32>, l: u32)
 
 // Counts the jumps of a tree.
 fn note_all(counts: &mut Vec<u32>, t: &Tree)
-    ensures { (k : ℕ) → at counts.new.items k ≤ at counts.old.items k + jumps_to k (tree_view t.now) }
+    ensures length { length counts.new.items ≡ length counts.old.items }
+    ensures most { (k : ℕ) → at counts.new.items k ≤ at counts.old.items k + jumps_to k (tree_view t.now) }
+    ensures least { (k : ℕ) → k < length counts.old.items → min (at counts.old.items k + jumps_to k (tree_view t.now)) u32.MAX ≤ at counts.new.items k }
 {
     let mut cur = t;
     'spine: loop {
@@ -44,9 +48,10 @@ fn note_all(counts: &mut Vec<u32>, t: &Tree)
     }
 }
 
-// How many jumps lead to each label, or fewer.
+// How many jumps lead to each label, or the greatest number that there is room for.
 fn jumps(alloc: Global, labels: &[Label]) -> Result<Vec<u32>, NoMemory>
-    ensures { IfOk result (λ v. (k : ℕ) → at v.items k ≤ all_jumps_to k (map label_view labels.now)) }
+    ensures most { IfOk result (λ v. (k : ℕ) → at v.items k ≤ all_jumps_to k (map label_view labels.now)) }
+    ensures least { IfOk result (λ v. (k : ℕ) → k < length labels.now → min (all_jumps_to k (map label_view labels.now)) u32.MAX ≤ at v.items k) }
 {
     let mut counts = vec![in alloc; 0u32; labels.len()]?;
     for l in labels {
@@ -126,7 +131,7 @@ fn all_fit(counts: &[u32], labels: &[Label]) -> bool
 
 /// Whether labels are contracted.
 pub fn are_contracted(alloc: Global, labels: &[Label]) -> Result<bool, NoMemory>
-    ensures { IfOk result (λ b. b ≡ true → AreContracted (map label_view labels.now)) }
+    ensures { IfOk result (λ b. b ≡ true ↔ AreContracted (map label_view labels.now)) }
 {
     let counts = jumps(alloc, labels)?;
     Ok(all_fit(&counts, labels))

@@ -1,6 +1,6 @@
 // How much code there is.
 
-ghost use Rattle.std.specs.Prelude.{◌≡◌, ◌+◌, true, IfOk, map, min};
+ghost use Rattle.std.specs.Prelude.{◌≡◌, ◌+◌, ◌↔◌, true, IfOk, map, min};
 ghost use Rattle.nv_base.specs.Measures.{IsAtMost, a_node, a_jump, a_label, both};
 ghost use Rattle.flow_ir.specs.Bulk.{tree_bulk, bulk};
 ghost use Rattle.flow_ir.specs.View.{tree_view, label_view};
@@ -126,7 +126,7 @@ pub fn sizes_of(labels: &[Label]) -> Result<Sizes, NoMemory>
 
 /// Whether no size has grown.
 pub fn is_within(a: &Sizes, b: &Sizes) -> bool
-    ensures { result ≡ true → IsAtMost (bulk_of a.now) (bulk_of b.now) }
+    ensures { result ≡ true ↔ IsAtMost (bulk_of a.now) (bulk_of b.now) }
 {
     a.labels <= b.labels
         && a.jumps <= b.jumps
