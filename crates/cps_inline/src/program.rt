@@ -1,6 +1,6 @@
 // Whole programs.
 
-ghost use Rattle.std.specs.Prelude.{◌≡◌, ◌≤◌, true, IfOk, map, All};
+ghost use Rattle.std.specs.Prelude.{◌≡◌, ◌≤◌, true, IfOk, map, length, All};
 ghost use Rattle.nv_base.specs.Meanings.{KeepsOutcomes};
 ghost use Rattle.nv_base.specs.Measures.{IsAtMost};
 ghost use Rattle.cps_ir.specs.Bulk.{bulk, code_bulk};
@@ -21,6 +21,7 @@ use std::alloc::Global;
 /// have no number below 2^32: a copy takes as many numbers as the greatest of its function.
 pub fn inline(alloc: Global, c: Cps) -> Result<Cps, NoMemory>
     ensures kept { IfOk result (λ d. KeepsOutcomes (params_in (map fun_view c.funs.items) c.main) (params_in (map fun_view d.funs.items) d.main) (cps_meaning (map fun_view c.funs.items) c.main) (cps_meaning (map fun_view d.funs.items) d.main)) }
+    ensures one { IfOk result (λ d. length d.funs.items ≡ 1) }
     ensures jumps { IfOk result (λ d. All (λ f. only_jumps f.body ≡ true) (map fun_view d.funs.items)) }
     ensures wide { IfOk result (λ d. wide (map fun_view d.funs.items) d.main ≤ wide (map fun_view c.funs.items) c.main) }
     ensures bulk { IfOk result (λ d. IsAtMost (code_bulk (map fun_view d.funs.items) d.main) (bulk (map fun_view c.funs.items) c.main)) }
