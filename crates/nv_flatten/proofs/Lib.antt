@@ -6,6 +6,7 @@ pub mod WellCalls
 pub mod ListArms
 pub mod WordArms
 pub mod AccessArms
+pub mod SourceFunctions
 pub mod StatementArms
 pub mod TestArms
 pub mod NamedArm

@@ -24,6 +24,7 @@ ghost use Rattle.flat_values.specs.inner.View.{scope_of};
 ghost use Rattle.flat_values.specs.inner.Well.{AreCalled};
 ghost use Rattle.flat_values.specs.inner.Whole.{group_of};
 ghost use Rattle.flat_declarations.specs.inner.WholeView.{whole_in};
+ghost use Rattle.nv_flatten.specs.Functions.{AreFunctionsOf, AreCalledBefore};
 
 use crate::endings::ending;
 use crate::want::{made, put};
@@ -36,12 +37,14 @@ use nv_ast::{Fun, Name, TyText, Typed};
 use nv_base::NoMemory;
 use std::alloc::Global;
 
-/// The flat program of a typed one, which has its outcomes, within each number of calls. Functions
-/// that `main` doesn't reach by calls are left out. `main` is number 0, and the others are numbered as
-/// they are first called. It is at most as wide as the program's room, and at most as large as its
+/// The flat program of a typed one, which has its outcomes, within each number of calls. Each function
+/// that `main` reaches by calls stands in it once, and no others. `main` is number 0, and the others are
+/// numbered as they are first called. It is at most as wide as the program's room, and at most as large as its
 /// expanded size says.
 pub fn flatten(alloc: Global, t: &Typed) -> Result<FlatProgram, NoMemory>
     ensures first { IfOk result (λ f. f.main ≡ 0) }
+    ensures functions { IfOk result (λ f. AreFunctionsOf (typed_program t.now) f.funs.items) }
+    ensures order { IfOk result (λ f. AreCalledBefore f.funs.items) }
     ensures kept { IfOk result (λ f. KeepsOutcomes (main_words (typed_program t.now)) (params_in f.funs.items f.main) (source (typed_program t.now)) (flat_meaning f.funs.items f.main)) }
     ensures equal { IfOk result (λ f. AreEqual (main_words (typed_program t.now)) (source (typed_program t.now)) (flat_meaning f.funs.items f.main)) }
     ensures reached { IfOk result (λ f. AreReached f.funs.items f.main) }
@@ -62,7 +65,8 @@ pub fn flatten(alloc: Global, t: &Typed) -> Result<FlatProgram, NoMemory>
 // The function of a name, and after it those that are called, in the order in which they are first
 // met; none where there is no such function.
 fn functions<'a>(alloc: Global, t: &Source<'a>, main: &Name) -> Result<Vec<FlatFun>, NoMemory>
-    ensures { IfOk result (λ funs. (g : FunTree) → function_in (whole_in t.now).declared.functions main.now ≡ Some g → IsBounded (whole_in t.now) main.now funs.items) }
+    ensures bounded { IfOk result (λ funs. (g : FunTree) → function_in (whole_in t.now).declared.functions main.now ≡ Some g → IsBounded (whole_in t.now) main.now funs.items) }
+    ensures order { IfOk result (λ funs. AreCalledBefore funs.items) }
 {
     match t.function(main) {
         Some((f, _)) => called_from(alloc, t, &f.name),
@@ -72,7 +76,8 @@ fn functions<'a>(alloc: Global, t: &Source<'a>, main: &Name) -> Result<Vec<FlatF
 
 // The functions that are called from one on, which is the first of them.
 fn called_from<'a>(alloc: Global, t: &Source<'a>, first: &'a Name) -> Result<Vec<FlatFun>, NoMemory>
-    ensures { IfOk result (λ funs. IsBounded (whole_in t.now) first.now funs.items) }
+    ensures bounded { IfOk result (λ funs. IsBounded (whole_in t.now) first.now funs.items) }
+    ensures order { IfOk result (λ funs. AreCalledBefore funs.items) }
 {
     let mut names = Names::new(alloc);
     let mut funs = Vec::new(alloc);

@@ -2,6 +2,7 @@ use Rattle.std.proofs.Common.{◌≡◌, ◌∙◌, ap, sym, length, arith}
 use Rattle.std.specs.Prelude.{slice_get}
 use Rattle.flat_declarations.specs.inner.WholeView.{whole_in}
 use Rattle.nv_flatten.proofs.Bounding.{bounded-first, bounded-more, bounded-all}
+use Rattle.nv_flatten.proofs.SourceFunctions.{called-before}
 use Rattle.nv_flatten.proofs.program.called_from.Goals as goal
 
 pub loop-name-init : goal.loop-name-init
@@ -16,4 +17,7 @@ loop-name-preserved c =
 pub returns : goal.returns
 returns c =
     let n : c.len.result ≡ length c.loop-name.funs.items = omega (arith, c.len.ensures, c.loop-name.funs.ok.0) in
-    bounded-all (whole_in c.args.t.now) c.args.first.now c.loop-name.names c.loop-name.funs.items c.loop-name.invariant (ap (slice_get c.loop-name.names) (sym n) ∙ c.in_default.ensures.found) c.get.ensures.once
+    record {
+      bounded = bounded-all (whole_in c.args.t.now) c.args.first.now c.loop-name.names c.loop-name.funs.items c.loop-name.invariant (ap (slice_get c.loop-name.names) (sym n) ∙ c.in_default.ensures.found) c.get.ensures.once;
+      order = called-before c.loop-name.names c.loop-name.funs.items c.loop-name.invariant.made.few c.loop-name.invariant.made.found;
+    }
