@@ -141,10 +141,10 @@ begun-moves src os v b inner.none = moves.none
 begun-moves src os v b (inner.finished {s} {t} {ms} {r} e d) = at-rest s t ms r (source_of-none (same_place s t) (s, t) refl (sym b.0 ∙ e)) (begun-moves src ms r b.1 d)
 begun-moves src os v b (inner.once {s} {t} {w} {ms} a c e d) =
     let it = source_of-some (same_place s t) (s, t) w refl (sym b.0 ∙ e) in
-    subst (λ (p : Place). StandFor ((s, t) ∷ ms) (a ++ ((p, t) ∷ c))) it.0 (moves.once a c (begun-moves src ms (a ++ c) b.1 d))
+    subst (λ (p : Place). StandFor ((s, t) ∷ ms) (a ++ ((p, t) ∷ c))) it.0 (moves.once a c it.1 (begun-moves src ms (a ++ c) b.1 d))
 begun-moves src os v b (inner.around {s} {t} {w} {ms} a c g e n d) =
     let it = source_of-some (same_place s t) (s, t) w refl (sym b.0 ∙ e) in
-    subst (λ (p : Place). StandFor ((s, t) ∷ ms) (a ++ ((p, temporary) ∷ (c ++ ((temporary, t) ∷ g))))) it.0 (moves.around a c g (begun-moves src ms (a ++ (c ++ g)) b.1 d))
+    subst (λ (p : Place). StandFor ((s, t) ∷ ms) (a ++ ((p, temporary) ∷ (c ++ ((temporary, t) ∷ g))))) it.0 (moves.around a c g it.1 (begun-moves src ms (a ++ (c ++ g)) b.1 d))
 
 pub begun-goes : (ms : List Move) (src : Table) → Begun ms (length ms) src → GoTo src ms
 begun-goes ms src b = λ k w. subst (λ (n : List Move). HasTarget n k) (take_all (length ms) ms (omega arith)) (b.others k w)

@@ -42,10 +42,10 @@ SpareTemporary ms = All (λ m. (m.0 ≢ temporary) × (m.1 ≢ temporary)) ms
 abbrev pub IsNoTarget : List Move → Place → Type 0
 IsNoTarget ms q = All (λ m. m.1 ≢ q) ms
 
--- the single moves of the second list stand for the moves of the first: for each of those there is that move, or its source goes to the
--- compiler's own register and later that register to its target, or there is nothing where its ends are one place; and there are no others
+-- the single moves of the second list stand for the moves of the first: for each of those whose ends are two places there is that move, or its
+-- source goes to the compiler's own register and later that register to its target; and there are no others
 pub data StandFor : List Move → List Move → Type 0 where
   none : StandFor [] []
-  once : {s t : Place} {ms : List Move} (a b : List Move) → StandFor ms (a ++ b) → StandFor ((s, t) ∷ ms) (a ++ ((s, t) ∷ b))
-  around : {s t : Place} {ms : List Move} (a b c : List Move) → StandFor ms (a ++ (b ++ c)) → StandFor ((s, t) ∷ ms) (a ++ ((s, temporary) ∷ (b ++ ((temporary, t) ∷ c))))
+  once : {s t : Place} {ms : List Move} (a b : List Move) → s ≢ t → StandFor ms (a ++ b) → StandFor ((s, t) ∷ ms) (a ++ ((s, t) ∷ b))
+  around : {s t : Place} {ms : List Move} (a b c : List Move) → s ≢ t → StandFor ms (a ++ (b ++ c)) → StandFor ((s, t) ∷ ms) (a ++ ((s, temporary) ∷ (b ++ ((temporary, t) ∷ c))))
   at_rest : {p : Place} {ms r : List Move} → StandFor ms r → StandFor ((p, p) ∷ ms) r

@@ -5,8 +5,8 @@ use Rattle.uc_isa.specs.Agrees.{Agrees}
 use Rattle.ssu_ir.specs.Tree.{Label}
 use Rattle.ssu_ir.specs.Meaning.{ssu_meaning, ssu_params}
 use Rattle.placement.specs.Plan.{Plan}
-use Rattle.ucode_emit.specs.inner.Pieces.{Sequences, instr_of, items, starts, parallel_moves}
-use Rattle.ucode_emit.specs.inner.Ready.{AreSequences}
+use Rattle.ucode_emit.specs.Pieces.{Sequences, instr_of, items, starts, parallel_moves}
+use Rattle.ucode_emit.specs.Emits.{AreSequences}
 use Rattle.ucode_emit.specs.inner.Layers.{Placed}
 use Rattle.ucode_emit.proofs.Layer.{ready_layer}
 use Rattle.ucode_emit.proofs.MachineLayers.{machine}

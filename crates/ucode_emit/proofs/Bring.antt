@@ -15,8 +15,9 @@ use Rattle.placement.specs.Fits.{is_slot}
 use Rattle.placement.proofs.Places.{same_place-true, same_place-from}
 use Rattle.par_move.specs.Moves.{Move, Words, put, one_by_one, all_at_once}
 use Rattle.par_move.proofs.Steps.{put-other}
-use Rattle.ucode_emit.specs.inner.Pieces.{named, bring, single_move, single_moves, served_moves}
-use Rattle.ucode_emit.specs.inner.Ready.{Ready, IsSequence}
+use Rattle.ucode_emit.specs.Pieces.{named, bring, single_move, single_moves, served_moves}
+use Rattle.ucode_emit.specs.Emits.{IsSequence}
+use Rattle.ucode_emit.specs.inner.Ready.{Ready}
 use Rattle.ucode_emit.specs.inner.Machine.{IsWritable, IsDirect, AreDirect, copied as in_one}
 use Rattle.ucode_emit.specs.inner.Layers.{Placed}
 use Rattle.ucode_emit.proofs.PointsEach.{all_both}

@@ -13,8 +13,8 @@ use Rattle.placement.specs.declared.place.Serve.{Serve}
 use Rattle.placement.specs.Plan.{Plan, serve, first, pass}
 use Rattle.placement_checks.proofs.Walked.{get-index}
 use Rattle.par_move.specs.Moves.{Move}
-use Rattle.ucode_emit.specs.inner.Pieces.{operands, words, result_place, to_slot, copies, all_copies, single_moves, shift_of, entry_point, Sequences, sequence_at, served_moves, last_moves, entry_moves, label_moves, tree_moves, parallel_moves}
-use Rattle.ucode_emit.specs.inner.Ready.{IsSequence, AreSequences}
+use Rattle.ucode_emit.specs.Pieces.{operands, words, result_place, to_slot, copies, all_copies, single_moves, shift_of, entry_point, Sequences, sequence_at, served_moves, last_moves, entry_moves, label_moves, tree_moves, parallel_moves}
+use Rattle.ucode_emit.specs.Emits.{IsSequence, AreSequences}
 use Rattle.ucode_emit.specs.inner.Machine.{IsWritable, AreDirect}
 use Rattle.ucode_emit.specs.inner.Layers.{Placed, PointsAt, root_point}
 use Rattle.ucode_emit.specs.inner.DraftItems.{CanMove}

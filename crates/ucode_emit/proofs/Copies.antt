@@ -13,7 +13,7 @@ use Rattle.placement.proofs.Places.{same_place-true, same_place-itself, same_pla
 use Rattle.ssu_liveness.proofs.Scoped.{in-itself}
 use Rattle.par_move.specs.Moves.{Move, Words, put, one_by_one}
 use Rattle.par_move.proofs.Steps.{put-other}
-use Rattle.ucode_emit.specs.inner.Pieces.{named, copied, all_copied, copies, all_copies}
+use Rattle.ucode_emit.specs.Pieces.{named, copied, all_copied, copies, all_copies}
 
 -- ---- one word
 

@@ -9,7 +9,7 @@ use Rattle.placement.specs.Plan.{Plan, serve, pass}
 use Rattle.placement.specs.Fits.{is_slot, is_read_register}
 use Rattle.placement.specs.Costs.{served_cost, copied_cost, all_copied_cost}
 use Rattle.par_move.specs.Moves.{Move, temporary, StandFor, none, once, around, at_rest}
-use Rattle.ucode_emit.specs.inner.Pieces.{move_instr, named, bring, brought, to_temporary, to_read_register, each_operand, operands, words, copied, all_copied, single_move, single_moves, served_moves}
+use Rattle.ucode_emit.specs.Pieces.{move_instr, named, bring, brought, to_temporary, to_read_register, each_operand, operands, words, copied, all_copied, single_move, single_moves, served_moves}
 
 -- ---- the weight of one move
 
@@ -386,8 +386,8 @@ rest_light n m w h = omega (arith, h)
 -- single moves weigh no more than what the moves for which they stand are counted for
 pub stand_light : (l : Option ℕ) (moves ms : List Move) → StandFor moves ms → moves_weight (single_moves l ms) ≤ moves_cost moves
 stand_light l moves ms none = omega arith
-stand_light l moves ms (once {s} {t} {ms = ns} a b h) = once_light l s t a b ns (stand_light l ns (a ++ b) h)
-stand_light l moves ms (around {s} {t} {ms = ns} a b c h) = around_light l s t a b c ns (stand_light l ns (a ++ (b ++ c)) h)
+stand_light l moves ms (once {s} {t} {ms = ns} a b n h) = once_light l s t a b ns (stand_light l ns (a ++ b) h)
+stand_light l moves ms (around {s} {t} {ms = ns} a b c n h) = around_light l s t a b c ns (stand_light l ns (a ++ (b ++ c)) h)
 stand_light l moves ms (at_rest {p = q} {ms = ns} {r} h) = rest_light (served_cost q q) (moves_cost ns) (moves_weight (single_moves l r)) (stand_light l ns r h)
 
 pub served_costs : (p : Plan) (k i n : ℕ) → moves_cost (served_moves p k i n) ≡ operands_cost p k i n

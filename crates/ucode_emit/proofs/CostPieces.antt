@@ -27,8 +27,8 @@ use Rattle.placement.specs.Uses.{ValueOrigin, Parameter, Fetched, numbered, plac
 use Rattle.placement.specs.Fits.{is_slot, IsAddressAt}
 use Rattle.placement.specs.Costs.{served_cost, entry_cost, result_cost, all_copied_cost, values_cost}
 use Rattle.par_move.specs.Moves.{Move}
-use Rattle.ucode_emit.specs.inner.Pieces.{Item, Moved, Plain, Branch, move_instr, moved, named, operands, operand_at, words, result_place, to_slot, copies, all_copies, single_moves, un_op, source, target, address_of, shift_of, defines, step_items, entry_point, entry_moves, last_moves}
-use Rattle.ucode_emit.specs.inner.Ready.{IsSequence}
+use Rattle.ucode_emit.specs.Pieces.{Item, Moved, Plain, Branch, move_instr, moved, named, operands, operand_at, words, result_place, to_slot, copies, all_copies, single_moves, un_op, source, target, address_of, shift_of, defines, step_items, entry_point, entry_moves, last_moves}
+use Rattle.ucode_emit.specs.Emits.{IsSequence}
 use Rattle.ucode_emit.specs.inner.Layers.{Placed, PointsAt, root_point}
 use Rattle.ucode_emit.specs.inner.Marks.{node_piece, place_piece, node_moves, place_moves}
 use Rattle.ucode_emit.specs.inner.Cursors.{place_operands}

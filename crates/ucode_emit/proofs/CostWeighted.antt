@@ -12,11 +12,10 @@ use Rattle.ssu_ir.proofs.PointLemmas.{length-tree_points}
 use Rattle.placement.specs.Plan.{Plan}
 use Rattle.label_weights.specs.ByLabel.{label_from}
 use Rattle.label_weights.specs.Weighted.{point_weight, weighted_cost}
-use Rattle.ucode_emit.specs.inner.Drafted.{label_starts}
 use Rattle.ucode_emit.specs.inner.Layers.{Placed}
 use Rattle.ucode_emit.specs.inner.Marks.{Mark, mark, tree_marks, marks_from, marks, point_piece, pieces, joined}
-use Rattle.ucode_emit.specs.inner.Pieces.{Item, moved, instr_of, single_moves, all_copies, label_items, starts, Sequences, sequence_at, parallel_moves}
-use Rattle.ucode_emit.specs.inner.Ready.{AreSequences}
+use Rattle.ucode_emit.specs.Pieces.{Item, moved, instr_of, single_moves, all_copies, label_items, starts, Sequences, sequence_at, parallel_moves}
+use Rattle.ucode_emit.specs.Emits.{label_starts, AreSequences}
 use Rattle.ucode_emit.proofs.CostLabels.{marks_weighted, weighted_by_marks}
 use Rattle.ucode_emit.proofs.CostPieces.{items_weight, place_cost}
 use Rattle.ucode_emit.proofs.CostWhole.{instr_weight, IsLight, each_light}

@@ -10,8 +10,8 @@ use Rattle.placement.specs.Uses.{Value, values_from, values, place_values, Use, 
 use Rattle.placement.specs.Fits.{use_operand}
 use Rattle.placement.specs.Costs.{served_cost, value_cost, values_cost, uses_cost, cost}
 use Rattle.placement_checks.proofs.Walked.{get-index}
-use Rattle.ucode_emit.specs.inner.Pieces.{Item, Moved, Plain, Branch, instr_of, items, starts, Sequences, sequence_at, parallel_moves}
-use Rattle.ucode_emit.specs.inner.Ready.{AreSequences}
+use Rattle.ucode_emit.specs.Pieces.{Item, Moved, Plain, Branch, instr_of, items, starts, Sequences, sequence_at, parallel_moves}
+use Rattle.ucode_emit.specs.Emits.{AreSequences}
 use Rattle.ucode_emit.specs.inner.Layers.{Placed}
 use Rattle.ucode_emit.specs.inner.Marks.{Mark, mark, tree_marks, marks_from, marks, point_piece, pieces, joined}
 use Rattle.ucode_emit.specs.inner.Cursors.{place_operands, operands_from, marks_operands}

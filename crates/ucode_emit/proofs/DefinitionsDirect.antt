@@ -17,7 +17,7 @@ use Rattle.placement.specs.Uses.{Access, place_accesses, accesses_from, accesses
 use Rattle.placement.specs.Fits.{write_place, IsGeneral, IsFirst, IsEighth, is_slot, is_write_register, role_register, word_register, is_early, has_place}
 use Rattle.placement.proofs.Places.{same_place-itself}
 use Rattle.par_move.specs.Moves.{Move}
-use Rattle.ucode_emit.specs.inner.Pieces.{named, copied, all_copied, copies, all_copies}
+use Rattle.ucode_emit.specs.Pieces.{named, copied, all_copied, copies, all_copies}
 use Rattle.ucode_emit.specs.inner.Machine.{IsReadable, IsWritable, IsDirect, write_slot, copied as in_one, AreDirect}
 use Rattle.ucode_emit.specs.inner.Layers.{Placed}
 use Rattle.ucode_emit.proofs.PointsEach.{EachFrom, each_here, all_left, all_right, all_both, all_get}

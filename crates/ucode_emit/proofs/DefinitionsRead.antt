@@ -19,7 +19,7 @@ use Rattle.placement.specs.Fits.{read_place, is_read_register, word_register, Is
 use Rattle.placement.proofs.Places.{same_place-from, same_place-true}
 use Rattle.par_move.specs.Moves.{Words, put}
 use Rattle.par_move.proofs.Steps.{put-other}
-use Rattle.ucode_emit.specs.inner.Pieces.{all_copies}
+use Rattle.ucode_emit.specs.Pieces.{all_copies}
 use Rattle.ucode_emit.specs.inner.Ready.{Ready}
 use Rattle.ucode_emit.specs.inner.Machine.{IsReadable, filled}
 use Rattle.ucode_emit.specs.inner.Layers.{Placed, PointsAt, root_point, HoldsAfterMoves}

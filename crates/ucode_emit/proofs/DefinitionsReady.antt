@@ -18,7 +18,7 @@ use Rattle.placement.specs.Fits.{Waits, same_use, point_values, comes_to_slot, i
 use Rattle.placement.proofs.Places.{same_place-from}
 use Rattle.placement.proofs.Fitting.{vars-of-place}
 use Rattle.par_move.specs.Moves.{Words, one_by_one}
-use Rattle.ucode_emit.specs.inner.Pieces.{named, all_copies}
+use Rattle.ucode_emit.specs.Pieces.{named, all_copies}
 use Rattle.ucode_emit.specs.inner.Ready.{Ready, WaitsAt, lasting}
 use Rattle.ucode_emit.specs.inner.Layers.{Placed}
 use Rattle.ucode_emit.proofs.PointsLabels.{formed_at, below_at}

@@ -18,7 +18,7 @@ use Rattle.placement.specs.Fits.{IsGeneral, is_general, is_slot, is_write_regist
 use Rattle.ssu_liveness.proofs.Scoped.{in-either}
 use Rattle.par_move.specs.Moves.{Move, Words, put, one_by_one}
 use Rattle.par_move.proofs.Steps.{put-other}
-use Rattle.ucode_emit.specs.inner.Pieces.{named, result_place, to_slot, copies}
+use Rattle.ucode_emit.specs.Pieces.{named, result_place, to_slot, copies}
 use Rattle.ucode_emit.specs.inner.Ready.{Ready, WaitsAt}
 use Rattle.ucode_emit.specs.inner.Machine.{IsWritable, AreDirect}
 use Rattle.ucode_emit.specs.inner.Layers.{Placed, PointsAt, root_point, HoldsAfterMoves}

@@ -8,10 +8,10 @@ use Rattle.ssu_ir.specs.View.{labels_view}
 use Rattle.ssu_ir.specs.declared.ssu.Ssu.{Ssu}
 use Rattle.placement.specs.Plan.{Plan}
 use Rattle.ucode_emit.specs.declared.point_ids.EmittedPoint.{EmittedPoint}
-use Rattle.ucode_emit.specs.inner.Pieces.{Sequences, starts, parallel_moves}
-use Rattle.ucode_emit.specs.inner.Ready.{AreSequences}
+use Rattle.ucode_emit.specs.Pieces.{Sequences, starts, parallel_moves}
+use Rattle.ucode_emit.specs.Emits.{AreSequences, entries_from}
 use Rattle.ucode_emit.specs.inner.DraftItems.{draft}
-use Rattle.ucode_emit.specs.inner.Marks.{marks, entries_from, pieces, joined, begins as piece_begins}
+use Rattle.ucode_emit.specs.inner.Marks.{marks, pieces, joined, begins as piece_begins}
 use Rattle.ucode_emit.specs.inner.EmittedPoints.{point_mark}
 use Rattle.ucode_emit.specs.inner.Walk.{pieces_below, IsDrafted}
 use Rattle.ucode_emit.specs.inner.Drafted.{AreDrafted}

@@ -3,7 +3,7 @@ use Rattle.std.proofs.Common.{◌≡◌, ℕ, List, [], ◌∷◌, ◌++◌, Opt
 use Rattle.std.proofs.lemmas.List.{append-nil}
 use Rattle.placement.specs.declared.place.Place.{Place}
 use Rattle.placement.specs.Plan.{Plan, home}
-use Rattle.ucode_emit.specs.inner.Pieces.{all_copied}
+use Rattle.ucode_emit.specs.Pieces.{all_copied}
 use Rattle.ucode_emit.specs.inner.Given.{each_copied}
 
 pub each_copied_last : (p : Plan) (s : Option ℕ) (a : List ℕ) (x : ℕ) → each_copied p s (a ++ x ∷ []) ≡ each_copied p s a ++ all_copied s (home p x).defined (home p x).copied

@@ -13,8 +13,9 @@ use Rattle.placement.specs.Plan.{Plan, home, serve, pass}
 use Rattle.placement.specs.Uses.{Role, Argument, Ending, roles, place_roles, uses_at}
 use Rattle.placement_checks.proofs.Walked.{some-there}
 use Rattle.par_move.specs.Moves.{Move, Words, one_by_one}
-use Rattle.ucode_emit.specs.inner.Pieces.{single_moves, served_moves}
-use Rattle.ucode_emit.specs.inner.Ready.{Ready, Entered, IsSequence}
+use Rattle.ucode_emit.specs.Pieces.{single_moves, served_moves}
+use Rattle.ucode_emit.specs.Emits.{IsSequence}
+use Rattle.ucode_emit.specs.inner.Ready.{Ready, Entered}
 use Rattle.ucode_emit.specs.inner.Layers.{Placed, PointsAt, root_point, HoldsAfterMoves}
 use Rattle.ucode_emit.proofs.PointsLabels.{formed_at}
 use Rattle.ucode_emit.proofs.PointsUses.{in_at, at_in}

@@ -18,8 +18,9 @@ use Rattle.placement.specs.Fits.{IsGeneral, is_general, AreCopies, IsHoused, gen
 use Rattle.placement.proofs.Places.{same_place-from}
 use Rattle.par_move.specs.Moves.{Move, Words, put, one_by_one, all_at_once, temporary, StandFor, none, once, around, at_rest}
 use Rattle.par_move.proofs.Steps.{put-other}
-use Rattle.ucode_emit.specs.inner.Pieces.{entry_point, all_copies, entry_moves, single_move, single_moves}
-use Rattle.ucode_emit.specs.inner.Ready.{Ready, Entered, Begun, IsSequence}
+use Rattle.ucode_emit.specs.Pieces.{entry_point, all_copies, entry_moves, single_move, single_moves}
+use Rattle.ucode_emit.specs.Emits.{IsSequence}
+use Rattle.ucode_emit.specs.inner.Ready.{Ready, Entered, Begun}
 use Rattle.ucode_emit.specs.inner.Machine.{write_slot, copied as in_one}
 use Rattle.ucode_emit.specs.inner.Layers.{Placed, PointsAt, root_point, HoldsAfterMoves}
 use Rattle.ucode_emit.proofs.PointsEach.{each_here, all_left, all_right, all_both}
@@ -89,11 +90,11 @@ entry labels p h l it env e f a d =
 -- what holds of all sources and all targets of moves holds of single moves that stand for them
 pub stand_all : {moves ms : List Move} (P Q : Place → Type 0) → P temporary → Q temporary → StandFor moves ms → AllByRecursion (λ m. P m.0 × Q m.1) moves → AllByRecursion (λ m. P m.0 × Q m.1) ms
 stand_all P Q a b none h = tt
-stand_all P Q a b (once {s} {t} x y sf) h =
+stand_all P Q a b (once {s} {t} x y n sf) h =
     let R = λ (m : Move). P m.0 × Q m.1 in
     let rest = stand_all P Q a b sf h.1 in
     all_both R x ((s, t) ∷ y) (all_left R x y rest) (h.0, all_right R x y rest)
-stand_all P Q a b (around {s} {t} x y z sf) h =
+stand_all P Q a b (around {s} {t} x y z n sf) h =
     let R = λ (m : Move). P m.0 × Q m.1 in
     let rest = stand_all P Q a b sf h.1 in
     let back = all_right R x (y ++ z) rest in

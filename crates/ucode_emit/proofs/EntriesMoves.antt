@@ -19,7 +19,7 @@ use Rattle.placement.specs.Fits.{read_place, is_write_register, word_register, i
 use Rattle.placement.proofs.Places.{same_place-true, same_place-from}
 use Rattle.placement_checks.proofs.Walked.{some-there}
 use Rattle.par_move.specs.Moves.{Move, temporary, HaveOwnTargets, SpareTemporary}
-use Rattle.ucode_emit.specs.inner.Pieces.{served_moves, entry_moves, last_moves, tree_moves, moves_from, parallel_moves}
+use Rattle.ucode_emit.specs.Pieces.{served_moves, entry_moves, last_moves, tree_moves, moves_from, parallel_moves}
 use Rattle.ucode_emit.specs.inner.Layers.{Placed}
 use Rattle.ucode_emit.proofs.PointsEach.{EachFrom, each_here, each_left, each_right, all_left, all_right, all_both}
 use Rattle.ucode_emit.proofs.PointsTree.{arms_at}

@@ -3,7 +3,7 @@ use Rattle.std.proofs.Common.{◌≡◌, ℕ, suc, ◌+◌, List, [], ◌∷◌,
 use Rattle.placement.specs.declared.place.Serve.{Serve}
 use Rattle.placement.specs.Plan.{Plan, serve, pass}
 use Rattle.par_move.specs.Moves.{Move}
-use Rattle.ucode_emit.specs.inner.Pieces.{to_read_register, each_operand, operands, words}
+use Rattle.ucode_emit.specs.Pieces.{to_read_register, each_operand, operands, words}
 use Rattle.ucode_emit.specs.inner.DraftItems.{own_fetch, slot_fetch, word_fetch, each_fetch, fetches}
 
 each_served : (f : Serve → List Move) (p : Plan) (k i : ℕ) (ss : List Serve) → ((j : ℕ) (s : Serve) → slice_get ss j ≡ Some s → serve p k (i + j) ≡ s) → each_operand (λ j. f (serve p k j)) i (length ss) ≡ each_fetch f ss

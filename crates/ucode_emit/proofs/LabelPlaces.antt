@@ -13,11 +13,9 @@ use Rattle.ssu_ir.specs.Tree.{Label}
 use Rattle.ssu_ir.specs.Points.{nodes}
 use Rattle.placement.specs.Plan.{Plan}
 use Rattle.placement_checks.proofs.Walked.{get-index, get-left, some-there}
-use Rattle.ucode_emit.specs.inner.Drafted.{label_starts}
 use Rattle.ucode_emit.specs.inner.Layers.{Placed, ReadyLayer}
-use Rattle.ucode_emit.specs.inner.Marks.{entries_from}
-use Rattle.ucode_emit.specs.inner.Pieces.{Item, Moved, Plain, Branch, instr_of, single_moves, all_copies, entry_point, Sequences, sequence_at, label_items, items_from, items, tree_starts, starts_from, starts, parallel_moves}
-use Rattle.ucode_emit.specs.inner.Ready.{AreSequences}
+use Rattle.ucode_emit.specs.Pieces.{Item, Moved, Plain, Branch, instr_of, single_moves, all_copies, entry_point, Sequences, sequence_at, label_items, items_from, items, tree_starts, starts_from, starts, parallel_moves}
+use Rattle.ucode_emit.specs.Emits.{label_starts, entries_from, AreSequences}
 use Rattle.ucode_emit.proofs.LawfulItems.{IsEnd}
 use Rattle.ucode_emit.proofs.LawfulCode.{label_ends, ends_long, ends_there, code_some, code_lawful}
 use Rattle.ucode_emit.proofs.MachineOperations.{got_some}

@@ -16,8 +16,8 @@ use Rattle.ssu_ir.specs.Points.{Names, own, names_after, nodes}
 use Rattle.ssu_ir.specs.Single.{all_defined, is_entry, is_single}
 use Rattle.placement.specs.Plan.{Plan, pass}
 use Rattle.par_move.specs.Moves.{Move, temporary}
-use Rattle.ucode_emit.specs.inner.Pieces.{Item, Moved, Plain, Branch, instr_of, single_moves, all_copies, moved, step_items, fork_items, last_items, last_moves, entry_point, Sequences, sequence_at, tree_items, label_items, items_from, items, tree_starts, starts_from, starts, parallel_moves}
-use Rattle.ucode_emit.specs.inner.Ready.{AreSequences}
+use Rattle.ucode_emit.specs.Pieces.{Item, Moved, Plain, Branch, instr_of, single_moves, all_copies, moved, step_items, fork_items, last_items, last_moves, entry_point, Sequences, sequence_at, tree_items, label_items, items_from, items, tree_starts, starts_from, starts, parallel_moves}
+use Rattle.ucode_emit.specs.Emits.{AreSequences}
 use Rattle.ucode_emit.specs.inner.Layers.{Placed, ReadyLayer}
 use Rattle.ucode_emit.proofs.PointsEach.{all_both, all_get}
 use Rattle.ucode_emit.proofs.Placing.{part_head, TreeAt, tree_rest, tree_first, tree_second, forks_long, items_long, label_at, code_of}

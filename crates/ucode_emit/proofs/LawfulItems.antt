@@ -25,7 +25,7 @@ use Rattle.placement.specs.declared.place.Place.TheVariants.{A, B, L, LD, S, SD,
 use Rattle.placement.specs.Fits.{IsFirst, different_groups}
 use Rattle.par_move.specs.Moves.{Move}
 use Rattle.ucode_emit.specs.SpillBase.{IsOtherSource, IsOtherTarget, KeepsToSlots, KeepsBase, SpillsByBase}
-use Rattle.ucode_emit.specs.inner.Pieces.{Item, Moved, Plain, Branch, move_instr, instr_of, moved, source, target, address_of, un_op, shift_of}
+use Rattle.ucode_emit.specs.Pieces.{Item, Moved, Plain, Branch, move_instr, instr_of, moved, source, target, address_of, un_op, shift_of}
 use Rattle.ucode_emit.specs.inner.Machine.{IsReadable, IsWritable, IsDirect, read_slot, write_slot, copied, AreDirect}
 use Rattle.ucode_emit.specs.inner.Layers.{IsAddress}
 use Rattle.ucode_emit.proofs.OperatingItems.{IsPlain}

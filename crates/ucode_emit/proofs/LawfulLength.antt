@@ -25,8 +25,8 @@ use Rattle.placement.specs.Plan.{Plan, home, first, serve, pass}
 use Rattle.placement.specs.Uses.{uses}
 use Rattle.placement.specs.Fits.{is_slot, is_read_register}
 use Rattle.par_move.specs.Moves.{Move, temporary, StandFor, none, once, around, at_rest}
-use Rattle.ucode_emit.specs.inner.Pieces.{Item, Plain, Branch, instr_of, named, bring, brought, to_temporary, to_read_register, each_operand, operands, operand_at, words, to_slot, copied, all_copied, copies, all_copies, single_move, single_moves, un_op, source, address_of, shift_of, defines, moved, step_items, fork_items, last_items, entry_point, Sequences, sequence_at, tree_items, label_items, items_from, items, starts, served_moves, entry_moves, last_moves, tree_moves, label_moves, moves_from, parallel_moves}
-use Rattle.ucode_emit.specs.inner.Ready.{AreSequences}
+use Rattle.ucode_emit.specs.Pieces.{Item, Plain, Branch, instr_of, named, bring, brought, to_temporary, to_read_register, each_operand, operands, operand_at, words, to_slot, copied, all_copied, copies, all_copies, single_move, single_moves, un_op, source, address_of, shift_of, defines, moved, step_items, fork_items, last_items, entry_point, Sequences, sequence_at, tree_items, label_items, items_from, items, starts, served_moves, entry_moves, last_moves, tree_moves, label_moves, moves_from, parallel_moves}
+use Rattle.ucode_emit.specs.Emits.{AreSequences}
 use Rattle.ucode_emit.specs.inner.Layers.{Placed}
 use Rattle.ucode_emit.proofs.Placing.{items_long, Part, part_whole, part_head, part_tail, part_left, part_right, label_moves_many, moves_many, code_of}
 use Rattle.ucode_emit.proofs.LawfulPieces.{sequence_here, front_moves}
@@ -108,8 +108,8 @@ rest_short n m h = omega (arith, h)
 
 stand_short : (moves ms : List Move) → StandFor moves ms → length ms ≤ 2 * length moves
 stand_short moves ms none = omega arith
-stand_short moves ms (once {s} {t} {ms = ns} a b h) = once_short (length ns) (s, t) a b (stand_short ns (a ++ b) h)
-stand_short moves ms (around {s} {t} {ms = ns} a b c h) = around_short (length ns) (s, temporary) (temporary, t) a b c (stand_short ns (a ++ (b ++ c)) h)
+stand_short moves ms (once {s} {t} {ms = ns} a b n h) = once_short (length ns) (s, t) a b (stand_short ns (a ++ b) h)
+stand_short moves ms (around {s} {t} {ms = ns} a b c n h) = around_short (length ns) (s, temporary) (temporary, t) a b c (stand_short ns (a ++ (b ++ c)) h)
 stand_short moves ms (at_rest {p = q} {ms = ns} {r} h) = rest_short (length ns) (length r) (stand_short ns r h)
 
 served_many : (p : Plan) (k i n : ℕ) → length (served_moves p k i n) ≡ n

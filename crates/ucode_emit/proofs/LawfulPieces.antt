@@ -20,8 +20,9 @@ use Rattle.placement.specs.Plan.{Plan, first, pass}
 use Rattle.placement_checks.proofs.Walked.{get-index}
 use Rattle.par_move.specs.Moves.{Move, Words, StandFor, none}
 use Rattle.ucode_emit.specs.Operations.{Reading, Writing}
-use Rattle.ucode_emit.specs.inner.Pieces.{Plain, Branch, operands, operand_at, words, result_place, to_slot, copies, all_copies, single_moves, un_op, source, target, address_of, shift_of, defines, moved, step_items, fork_items, last_items, entry_point, Sequences, sequence_at, label_moves, tree_moves, parallel_moves, last_moves, entry_moves}
-use Rattle.ucode_emit.specs.inner.Ready.{Ready, IsSequence, AreSequences}
+use Rattle.ucode_emit.specs.Pieces.{Plain, Branch, operands, operand_at, words, result_place, to_slot, copies, all_copies, single_moves, un_op, source, target, address_of, shift_of, defines, moved, step_items, fork_items, last_items, entry_point, Sequences, sequence_at, label_moves, tree_moves, parallel_moves, last_moves, entry_moves}
+use Rattle.ucode_emit.specs.Emits.{IsSequence, AreSequences}
+use Rattle.ucode_emit.specs.inner.Ready.{Ready}
 use Rattle.ucode_emit.specs.inner.Machine.{AreDirect}
 use Rattle.ucode_emit.specs.inner.Layers.{Placed, PointsAt, root_point, ReadyLayer}
 use Rattle.ucode_emit.proofs.PointsEach.{all_both}

@@ -13,7 +13,7 @@ use Rattle.placement.specs.Plan.{Plan, home, serve, pass}
 use Rattle.placement.specs.Uses.{Use, uses, is_used}
 use Rattle.placement.specs.Fits.{is_slot, is_read_register, is_write_register, same_bank, maybe, IsGeneral, AreFills, AreCopies, IsPutEarly, word_register, is_early, early_uses}
 use Rattle.par_move.specs.Moves.{Move, temporary, StandFor, none, once, around, at_rest}
-use Rattle.ucode_emit.specs.inner.Pieces.{named, bring, brought, to_temporary, to_read_register, each_operand, operands, words, to_slot, copied, copies, all_copied, single_move, single_moves, served_moves, entry_moves}
+use Rattle.ucode_emit.specs.Pieces.{named, bring, brought, to_temporary, to_read_register, each_operand, operands, words, to_slot, copied, copies, all_copied, single_move, single_moves, served_moves, entry_moves}
 use Rattle.ucode_emit.specs.inner.Layers.{Placed}
 use Rattle.ucode_emit.proofs.DefinitionsHomes.{ThereIn, early_register, early_each, unused_bare}
 use Rattle.ucode_emit.proofs.LawfulCopies.{one_if}
@@ -173,8 +173,8 @@ around_long l from at a b c ms h =
 
 pub stand_long : (l : Option ℕ) (moves ms : List Move) → StandFor moves ms → length (single_moves l ms) ≤ ways_long moves
 stand_long l moves ms none = omega arith
-stand_long l moves ms (once {s} {t} {ms = ns} a b h) = once_long l s t a b ns (stand_long l ns (a ++ b) h)
-stand_long l moves ms (around {s} {t} {ms = ns} a b c h) = around_long l s t a b c ns (stand_long l ns (a ++ (b ++ c)) h)
+stand_long l moves ms (once {s} {t} {ms = ns} a b n h) = once_long l s t a b ns (stand_long l ns (a ++ b) h)
+stand_long l moves ms (around {s} {t} {ms = ns} a b c n h) = around_long l s t a b c ns (stand_long l ns (a ++ (b ++ c)) h)
 stand_long l moves ms (at_rest {p = q} {ms = ns} {r} h) = rest_light (way_long q + way_long q) (ways_long ns) (length (single_moves l r)) (stand_long l ns r h)
 
 way_room : (from : Place) → way_long from + early_one from ≤ 2

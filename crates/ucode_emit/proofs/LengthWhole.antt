@@ -13,8 +13,8 @@ use Rattle.placement.specs.Plan.{Plan, serve}
 use Rattle.placement.specs.Uses.{Use, uses}
 use Rattle.placement.specs.Fits.{use_operand, is_early}
 use Rattle.placement_checks.proofs.Walked.{get-index}
-use Rattle.ucode_emit.specs.inner.Pieces.{instr_of, items, starts, Sequences, sequence_at, parallel_moves}
-use Rattle.ucode_emit.specs.inner.Ready.{AreSequences}
+use Rattle.ucode_emit.specs.Pieces.{instr_of, items, starts, Sequences, sequence_at, parallel_moves}
+use Rattle.ucode_emit.specs.Emits.{AreSequences}
 use Rattle.ucode_emit.specs.inner.Layers.{Placed}
 use Rattle.ucode_emit.specs.inner.Marks.{Mark, mark, tree_marks, marks_from, marks, point_piece, pieces, joined}
 use Rattle.ucode_emit.specs.inner.Cursors.{place_operands, operands_from, marks_operands}

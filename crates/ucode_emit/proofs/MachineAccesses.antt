@@ -29,7 +29,7 @@ use Rattle.placement.specs.declared.place.Place.{Place}
 use Rattle.placement.specs.declared.place.Place.TheVariants.{A, B, L, LD, S, SD, Slot}
 use Rattle.placement.specs.Fits.{write_place}
 use Rattle.par_move.specs.Moves.{Words}
-use Rattle.ucode_emit.specs.inner.Pieces.{address_of}
+use Rattle.ucode_emit.specs.Pieces.{address_of}
 use Rattle.ucode_emit.specs.inner.Machine.{Stands, Led, Over, filled}
 use Rattle.ucode_emit.specs.inner.Layers.{IsAddress}
 use Rattle.ucode_emit.proofs.MachineResults.{HasWords, address_word}

@@ -34,7 +34,7 @@ use Rattle.uc_isa.proofs.States.{operand-fits, start-state}
 use Rattle.placement.specs.declared.place.Place.{Place}
 use Rattle.placement.specs.declared.place.Place.TheVariants.{A}
 use Rattle.par_move.specs.Moves.{Words, put}
-use Rattle.ucode_emit.specs.inner.Pieces.{source, target, un_op}
+use Rattle.ucode_emit.specs.Pieces.{source, target, un_op}
 use Rattle.ucode_emit.specs.inner.Ready.{Begun}
 use Rattle.ucode_emit.specs.inner.Machine.{IsReadable, IsWritable, word_at, Stands, Led, Over}
 use Rattle.ucode_emit.specs.inner.Layers.{at_start}

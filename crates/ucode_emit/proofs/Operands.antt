@@ -12,7 +12,7 @@ use Rattle.ssu_ir.specs.Points.{Names}
 use Rattle.ssu_ir.proofs.Lists.{in-itself}
 use Rattle.placement.specs.Plan.{Plan, first}
 use Rattle.par_move.specs.Moves.{Words}
-use Rattle.ucode_emit.specs.inner.Pieces.{operands, operand_at}
+use Rattle.ucode_emit.specs.Pieces.{operands, operand_at}
 use Rattle.ucode_emit.specs.inner.Ready.{Ready}
 use Rattle.ucode_emit.specs.inner.Machine.{IsReadable}
 use Rattle.ucode_emit.specs.inner.Layers.{Placed, PointsAt, root_point, HoldsAfterMoves, OperandsReady, IsAddress}

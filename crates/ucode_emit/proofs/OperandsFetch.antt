@@ -17,7 +17,7 @@ use Rattle.placement.specs.Fits.{is_general, is_slot, is_write_register, is_read
 use Rattle.placement.proofs.Places.{same_place-from, same_place-false}
 use Rattle.par_move.specs.Moves.{Move, Words, put, one_by_one, temporary}
 use Rattle.par_move.proofs.Steps.{put-other}
-use Rattle.ucode_emit.specs.inner.Pieces.{named, brought, operands, operand_at}
+use Rattle.ucode_emit.specs.Pieces.{named, brought, operands, operand_at}
 use Rattle.ucode_emit.specs.inner.Ready.{Ready, lasting}
 use Rattle.ucode_emit.specs.inner.Machine.{IsReadable, IsDirect, copied as in_one}
 use Rattle.ucode_emit.specs.inner.Layers.{Placed, IsAddress, OperandsReady, HoldsAfterMoves}

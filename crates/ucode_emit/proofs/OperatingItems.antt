@@ -10,7 +10,7 @@ use Rattle.placement.specs.declared.place.Place.{Place}
 use Rattle.placement.specs.declared.place.Place.TheVariants.{A, B, L, LD, S, SD, Slot}
 use Rattle.ucode_emit.specs.Operations.{Operation, Immediate, Unary, Binary, Reading, Writing, Branching, Ending, unary_operation, access_operation, instr_operation}
 use Rattle.ucode_emit.specs.inner.Layers.{IsAddress}
-use Rattle.ucode_emit.specs.inner.Pieces.{un_op, address_of}
+use Rattle.ucode_emit.specs.Pieces.{un_op, address_of}
 
 -- what an instruction that is no access to a slot does
 abbrev pub plain_operations : Instr → List Operation

@@ -13,7 +13,7 @@ use Rattle.ssu_ir.specs.Single.{defined, all_defined, step_names, all_known, is_
 use Rattle.ssu_ir.proofs.PointLemmas.{length-tree_points}
 use Rattle.ssu_ir.proofs.Lists.{image_from, all_at, in-itself}
 use Rattle.ssu_ir.proofs.Liveness.{filter_in}
-use Rattle.ucode_emit.specs.inner.Pieces.{entry_point}
+use Rattle.ucode_emit.specs.Pieces.{entry_point}
 use Rattle.ucode_emit.proofs.PointsEach.{EachFrom, each_map, each_append, each_left, each_right, each_here, get_append}
 use Rattle.ucode_emit.proofs.PointsTree.{Disjoint, not_in_none, different_apart, different_left, different_right, InTree, in_tree, arms_at, above_each, IsBelow, Above, PairsOf, pairs_cons, pairs_append, no_pairs, tree_pairs, left_rest, rest_different}
 use Rattle.ssu_liveness.proofs.Scoped.{all-in, in-either}

@@ -9,7 +9,7 @@ use Rattle.ssu_ir.specs.Points.{Names, own, names_after, used, live_of, Point, p
 use Rattle.ssu_ir.proofs.Liveness.{filter_from, filter_in}
 use Rattle.placement.specs.Uses.{Role, Written, Argument, Ending, roles, node_roles, place_roles, Use, uses_at, uses_from, uses, is_used}
 use Rattle.ssu_liveness.proofs.Scoped.{in-either}
-use Rattle.ucode_emit.specs.inner.Pieces.{entry_point}
+use Rattle.ucode_emit.specs.Pieces.{entry_point}
 use Rattle.ucode_emit.specs.inner.Layers.{PointsAt, root_point}
 use Rattle.ucode_emit.proofs.PointsEach.{EachFrom, each_map, each_append, each_left, each_right, each_here, each_from}
 use Rattle.ucode_emit.proofs.PointsTree.{arms_at}

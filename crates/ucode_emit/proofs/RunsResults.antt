@@ -20,9 +20,9 @@ use Rattle.ssu_ir.specs.Meaning.{blank}
 use Rattle.ssu_ir.specs.Entered.{Exit, JumpsTo, EndsWith}
 use Rattle.placement.specs.Plan.{Plan}
 use Rattle.par_move.specs.Moves.{Move, Words, one_by_one}
-use Rattle.ucode_emit.specs.inner.Drafted.{label_starts}
-use Rattle.ucode_emit.specs.inner.Pieces.{Item, moved, move_instr, instr_of, tree_items, entry_point, Sequences, starts, parallel_moves}
-use Rattle.ucode_emit.specs.inner.Ready.{Entered, AreSequences}
+use Rattle.ucode_emit.specs.Pieces.{Item, moved, move_instr, instr_of, tree_items, entry_point, Sequences, starts, parallel_moves}
+use Rattle.ucode_emit.specs.Emits.{label_starts, AreSequences}
+use Rattle.ucode_emit.specs.inner.Ready.{Entered}
 use Rattle.ucode_emit.specs.inner.Machine.{IsDirect, AreDirect, Stands, move_instrs, Led, Over}
 use Rattle.ucode_emit.specs.inner.Layers.{MachineLayer, ReadyLayer, Placed}
 use Rattle.ucode_emit.proofs.Placing.{items_long, moves_as_items, ItemsIn, items_left, items_right, TreeAt, code_of}

@@ -29,7 +29,7 @@ use Rattle.placement.specs.Plan.{Plan, first}
 use Rattle.placement.specs.Fits.{write_place}
 use Rattle.ssu_liveness.proofs.Scoped.{all-in, in-either}
 use Rattle.par_move.specs.Moves.{Move, Words, put, one_by_one}
-use Rattle.ucode_emit.specs.inner.Pieces.{Plain, moved, operands, operand_at, words, result_place, to_slot, copies, all_copies, un_op, source, target, address_of, shift_of, step_items, tree_items}
+use Rattle.ucode_emit.specs.Pieces.{Plain, moved, operands, operand_at, words, result_place, to_slot, copies, all_copies, un_op, source, target, address_of, shift_of, step_items, tree_items}
 use Rattle.ucode_emit.specs.inner.Ready.{Ready}
 use Rattle.ucode_emit.specs.inner.Machine.{IsDirect, AreDirect, Stands, Led, Over, filled}
 use Rattle.ucode_emit.specs.inner.Layers.{IsAddress, root_point}

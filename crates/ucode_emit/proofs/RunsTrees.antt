@@ -29,8 +29,9 @@ use Rattle.placement.specs.Plan.{Plan, pass}
 use Rattle.placement_checks.proofs.Walked.{get-index}
 use Rattle.ssu_liveness.proofs.Scoped.{all-in}
 use Rattle.par_move.specs.Moves.{Words, one_by_one}
-use Rattle.ucode_emit.specs.inner.Pieces.{Plain, Branch, moved, operands, operand_at, source, single_moves, last_moves, step_items, fork_items, tree_items, entry_point, sequence_at, parallel_moves}
-use Rattle.ucode_emit.specs.inner.Ready.{Ready, IsSequence}
+use Rattle.ucode_emit.specs.Pieces.{Plain, Branch, moved, operands, operand_at, source, single_moves, last_moves, step_items, fork_items, tree_items, entry_point, sequence_at, parallel_moves}
+use Rattle.ucode_emit.specs.Emits.{IsSequence}
+use Rattle.ucode_emit.specs.inner.Ready.{Ready}
 use Rattle.ucode_emit.specs.inner.Machine.{IsReadable, Stands, Led}
 use Rattle.ucode_emit.specs.inner.Layers.{root_point}
 use Rattle.ucode_emit.proofs.PointsTree.{different_left, different_right}

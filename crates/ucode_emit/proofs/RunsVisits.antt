@@ -13,10 +13,9 @@ use Rattle.ssu_ir.specs.Tree.{Label}
 use Rattle.ssu_ir.specs.Meaning.{ssu_params}
 use Rattle.ssu_ir.specs.Entered.{Exit, JumpsTo, EndsWith, label_exit, is_entered, entered_behind, entered}
 use Rattle.placement.specs.Plan.{Plan}
-use Rattle.ucode_emit.specs.inner.Pieces.{entry_point, Sequences, parallel_moves}
-use Rattle.ucode_emit.specs.inner.Ready.{AreSequences}
+use Rattle.ucode_emit.specs.Pieces.{entry_point, Sequences, parallel_moves}
+use Rattle.ucode_emit.specs.Emits.{AreSequences, label_starts}
 use Rattle.ucode_emit.specs.inner.Layers.{Placed, at_start}
-use Rattle.ucode_emit.specs.inner.Drafted.{label_starts}
 use Rattle.ucode_emit.proofs.LabelPlaces.{start_at, code_starts}
 use Rattle.ucode_emit.proofs.Layer.{ready_layer}
 use Rattle.ucode_emit.proofs.MachineLayers.{machine}

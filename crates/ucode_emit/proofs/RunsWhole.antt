@@ -36,8 +36,9 @@ use Rattle.ssu_ir.proofs.Rules.{single_label_parts}
 use Rattle.placement.specs.Plan.{Plan}
 use Rattle.placement_checks.proofs.Walked.{get-index}
 use Rattle.par_move.specs.Moves.{Move, Words, one_by_one, StandFor, none, once, around, at_rest}
-use Rattle.ucode_emit.specs.inner.Pieces.{Sequences, moved, instr_of, items, starts, starts_from, single_moves, all_copies, entry_point, entry_moves, sequence_at, tree_items, label_items, tree_moves, label_moves, moves_from, parallel_moves}
-use Rattle.ucode_emit.specs.inner.Ready.{Ready, Entered, IsSequence, AreSequences}
+use Rattle.ucode_emit.specs.Pieces.{Sequences, moved, instr_of, items, starts, starts_from, single_moves, all_copies, entry_point, entry_moves, sequence_at, tree_items, label_items, tree_moves, label_moves, moves_from, parallel_moves}
+use Rattle.ucode_emit.specs.Emits.{IsSequence, AreSequences}
+use Rattle.ucode_emit.specs.inner.Ready.{Ready, Entered}
 use Rattle.ucode_emit.specs.inner.Machine.{IsDirect, AreDirect, Stands, Over, word_at}
 use Rattle.ucode_emit.specs.inner.Layers.{MachineLayer, ReadyLayer, Placed, root_point, at_start}
 use Rattle.ucode_emit.proofs.Copies.{one_append}
@@ -133,8 +134,8 @@ body_runs g base l to ws e w m found fit sizes emit_context direct ready s =
 -- nothing is moved before a label that isn't the first
 silent : {moves ms : List Move} → StandFor moves ms → moves ≡ [] → ms ≡ []
 silent none e = refl
-silent (once a b h) e = cc
-silent (around a b c h) e = cc
+silent (once a b n h) e = cc
+silent (around a b c n h) e = cc
 silent (at_rest h) e = cc
 
 label_silent : (p : Plan) (k : ℕ) (l : Label) (all : List (List Move)) → 0 < k → Part k (label_moves p k l) all → slice_get all k ≡ Some []

@@ -18,7 +18,7 @@ use Rattle.ssu_ir.specs.Points.{Names, names_after}
 use Rattle.ssu_ir.specs.Meaning.{assigned_each}
 use Rattle.ssu_ir.specs.Single.{Numbers, numbered, is_address, fits_scratch, is_narrow}
 use Rattle.ssu_ir.proofs.Narrow.{narrow_is}
-use Rattle.ucode_emit.specs.inner.Pieces.{shift_of}
+use Rattle.ucode_emit.specs.Pieces.{shift_of}
 use Rattle.ucode_emit.proofs.PointsTree.{different_right}
 use Rattle.ssu_liveness.proofs.Scoped.{in-either}
 

@@ -13,8 +13,8 @@ use Rattle.placement.specs.Plan.{Plan, serve}
 use Rattle.par_move.specs.Moves.{Move, HaveOwnTargets, SpareTemporary, none}
 use Rattle.ucode_emit.specs.declared.point_ids.EmittedPoint.{EmittedPoint}
 use Rattle.ucode_emit.specs.declared.point_ids.EmittedPoint.TheVariants.{Entry as EntrySpot}
-use Rattle.ucode_emit.specs.inner.Pieces.{Sequences, parallel_moves, last_moves}
-use Rattle.ucode_emit.specs.inner.Ready.{IsSequence, AreSequences}
+use Rattle.ucode_emit.specs.Pieces.{Sequences, parallel_moves, last_moves}
+use Rattle.ucode_emit.specs.Emits.{IsSequence, AreSequences}
 use Rattle.ucode_emit.specs.inner.Layers.{Placed}
 use Rattle.ucode_emit.specs.inner.EmitContext.{ends}
 use Rattle.ucode_emit.specs.inner.Marks.{Mark, mark, marks, place_moves, marks_moves}
@@ -198,4 +198,4 @@ pub moves_push : (vs vs' : List (Vec Move Global)) (v : Vec Move Global) → vs'
 moves_push vs vs' v e = ap moves_of e ∙ map-append (λ (w : Vec Move Global). w.items) vs (v ∷ [])
 
 pub no_sequence : (ms : List Move) → ms ≡ [] → IsSequence [] ms
-no_sequence ms e = subst (λ m. IsSequence [] m) (sym e) (record { effect = λ e q h. refl; kinds = none })
+no_sequence ms e = subst (λ m. IsSequence [] m) (sym e) (record { effect = λ e q h. refl; kinds = none; few = omega arith })

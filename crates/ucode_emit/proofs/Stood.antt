@@ -6,13 +6,13 @@ use Rattle.uc_isa.specs.Registers.{failing}
 use Rattle.ssu_ir.specs.Tree.{Tree, Do, If, End, Label, Node, Does, Forks, Ends, step_values}
 use Rattle.ssu_ir.specs.Points.{Names, own, names_after, PointKind, Entry, At, nodes}
 use Rattle.placement.specs.Plan.{Plan}
-use Rattle.ucode_emit.specs.inner.Pieces.{entry_point, Sequences, step_items, fork_items, tree_items, label_moves, parallel_moves}
+use Rattle.ucode_emit.specs.Pieces.{entry_point, Sequences, step_items, fork_items, tree_items, label_moves, parallel_moves}
 use Rattle.ucode_emit.specs.inner.Layers.{PointsAt}
 use Rattle.ucode_emit.specs.inner.Marks.{Mark, mark, tree_marks, marks_from, marks}
 use Rattle.ucode_emit.specs.inner.Walk.{mark_at}
 use Rattle.ucode_emit.proofs.PointsEach.{EachFrom, each_append, each_here}
 use Rattle.ucode_emit.proofs.Placing.{Part, TreeAt, tree_rest, tree_first, tree_second, LabelAt, label_at, code_of}
-use Rattle.ucode_emit.specs.inner.Pieces.{starts}
+use Rattle.ucode_emit.specs.Pieces.{starts}
 use Rattle.ucode_emit.proofs.Marked.{marks_many}
 
 abbrev pub root_node : Tree → Node

@@ -4,7 +4,7 @@ use Rattle.std.proofs.lemmas.List.{take_more, append-nil}
 use Rattle.placement.specs.declared.place.Place.{Place}
 use Rattle.placement.specs.declared.place.Serve.{Serve}
 use Rattle.par_move.specs.Moves.{Move}
-use Rattle.ucode_emit.specs.inner.Pieces.{move_instr, moved, copied, all_copied, single_move, single_moves}
+use Rattle.ucode_emit.specs.Pieces.{move_instr, moved, copied, all_copied, single_move, single_moves}
 use Rattle.ucode_emit.specs.inner.DraftItems.{draft, each_fetch}
 
 -- what is appended for each of some elements is appended for one more

@@ -19,14 +19,14 @@ use Rattle.placement.specs.Plan.{Plan, serve, first_in, pass_in}
 use Rattle.par_move.specs.Moves.{Move}
 use Rattle.ucode_emit.specs.declared.point_ids.EmittedPoint.{EmittedPoint}
 use Rattle.ucode_emit.specs.declared.point_ids.EmittedPoint.TheVariants.{Entry as EntrySpot, Node as NodeSpot}
-use Rattle.ucode_emit.specs.inner.Pieces.{single_moves, all_copies, entry_point, Sequences, sequence_at, parallel_moves}
-use Rattle.ucode_emit.specs.inner.Ready.{IsSequence, AreSequences}
+use Rattle.ucode_emit.specs.Pieces.{single_moves, all_copies, entry_point, Sequences, sequence_at, parallel_moves}
+use Rattle.ucode_emit.specs.Emits.{IsSequence, AreSequences, entries_from}
 use Rattle.ucode_emit.specs.inner.Layers.{Placed, PointsAt}
 use Rattle.ucode_emit.specs.inner.DraftItems.{draft}
 use Rattle.ucode_emit.specs.declared.walk.Points.{Points}
 use Rattle.ucode_emit.specs.inner.Cursors.{place_operands, IsCut, AreServed}
 use Rattle.ucode_emit.specs.inner.EmitContext.{IsEmitContext, CanAll, CanNode, end_items}
-use Rattle.ucode_emit.specs.inner.Marks.{Mark, mark, tree_marks, marks_from, marks, entries_from, node_moves, place_moves, point_piece, pieces, joined, begins}
+use Rattle.ucode_emit.specs.inner.Marks.{Mark, mark, tree_marks, marks_from, marks, node_moves, place_moves, point_piece, pieces, joined, begins}
 use Rattle.ucode_emit.specs.inner.EmittedPoints.{point_mark, entries_of_points}
 use Rattle.ucode_emit.specs.inner.Walk.{AreKnown, mark_at, moves_of, place_branch, place_items, CanPlace, pieces_below, IsDrafted}
 use Rattle.ucode_emit.proofs.CanPieces.{can_step, can_fork, can_last, can_front}

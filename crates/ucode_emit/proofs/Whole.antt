@@ -18,10 +18,11 @@ use Rattle.placement.specs.Fits.{Fits}
 use Rattle.placement.specs.Plan.{Plan}
 use Rattle.ucode_emit.specs.SpillBase.{SpillsByBase}
 use Rattle.ucode_emit.specs.Operations.{code_operations, form_operations}
-use Rattle.ucode_emit.specs.inner.Pieces.{instr_of, items, starts}
+use Rattle.ucode_emit.specs.Pieces.{instr_of, items, starts}
+use Rattle.ucode_emit.specs.Emits.{AreEmitted}
 use Rattle.ucode_emit.specs.inner.DraftItems.{settled}
 use Rattle.ucode_emit.specs.inner.Layers.{Placed}
-use Rattle.ucode_emit.specs.inner.Drafted.{AreDrafted, AreEmitted}
+use Rattle.ucode_emit.specs.inner.Drafted.{AreDrafted}
 use Rattle.ucode_emit.proofs.CostWeighted.{code_weighted}
 use Rattle.ucode_emit.proofs.CostWhole.{code_light}
 use Rattle.ucode_emit.proofs.Agreeing.{code_agrees}

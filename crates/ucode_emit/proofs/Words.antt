@@ -22,7 +22,7 @@ use Rattle.placement.specs.Fits.{write_place, is_slot, is_write_register, role_r
 use Rattle.placement.proofs.Places.{same_place-true, same_place-from}
 use Rattle.placement_checks.proofs.Walked.{some-there}
 use Rattle.par_move.specs.Moves.{Move, Words, one_by_one}
-use Rattle.ucode_emit.specs.inner.Pieces.{named, bring, brought, operands, operand_at, words}
+use Rattle.ucode_emit.specs.Pieces.{named, bring, brought, operands, operand_at, words}
 use Rattle.ucode_emit.specs.inner.Ready.{Ready, WaitsAt, lasting}
 use Rattle.ucode_emit.specs.inner.Machine.{IsWritable}
 use Rattle.ucode_emit.specs.inner.Layers.{Placed, PointsAt, root_point, IsAddress, OperandsReady, HoldsAfterMoves}

@@ -1,3 +1,5 @@
 pub mod SpillBase
 pub mod Operations
+pub mod Pieces
+pub mod Emits
 pub mod inner

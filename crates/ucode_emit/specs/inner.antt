@@ -1,4 +1,3 @@
-pub mod Pieces
 pub mod Ready
 pub mod Machine
 pub mod Layers

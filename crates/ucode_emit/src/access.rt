@@ -9,8 +9,8 @@ ghost use Rattle.ucode_emit.specs.inner.DraftItems.{draft};
 ghost use Rattle.ucode_emit.specs.inner.Layers.{IsAddress};
 ghost use Rattle.ucode_emit.specs.inner.Given as given;
 ghost use Rattle.ucode_emit.specs.inner.EmitContext.{CanAll};
-ghost use Rattle.ucode_emit.specs.inner.Pieces as pieces;
-ghost use Rattle.ucode_emit.specs.inner.Pieces.{Plain, moved};
+ghost use Rattle.ucode_emit.specs.Pieces as pieces;
+ghost use Rattle.ucode_emit.specs.Pieces.{Plain, moved};
 
 use crate::draft::{Draft, push_moves};
 use crate::emit_context::EmitContext;

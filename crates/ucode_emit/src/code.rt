@@ -16,7 +16,7 @@ ghost use Rattle.placement.specs.Fits.{Fits};
 ghost use Rattle.placement.specs.Plan.{plan_view};
 ghost use Rattle.ucode_emit.specs.Operations.{code_operations, form_operations};
 ghost use Rattle.ucode_emit.specs.SpillBase.{SpillsByBase};
-ghost use Rattle.ucode_emit.specs.inner.Drafted.{AreEmitted};
+ghost use Rattle.ucode_emit.specs.Emits.{AreEmitted};
 
 use crate::drafted::{WholeDraft, draft_of};
 use crate::settle::settle;
@@ -68,6 +68,8 @@ pub fn emit(alloc: Global, s: &Ssu, p: &Placement) -> Result<Emitted, NoMemory>
     ensures lawful { IfOk result (λ e. IsLawful e.code.list) }
     // By way of B15 the slots are accessed, and no others; nothing else is done with it.
     ensures spills { IfOk result (λ e. SpillsByBase (plan_view p.now).slots e.code.list) }
+    // Piece by piece, the code is what the nodes of the form become under this placement.
+    ensures emitted { IfOk result (λ e. AreEmitted (labels_view s.now) (plan_view p.now) e.code.list e.starts.items) }
     // Without its moves, the code is what the nodes of the form do, in order.
     ensures operations { IfOk result (λ e. code_operations e.code.list ≡ form_operations (labels_view s.now)) }
     ensures agrees { IfOk result (λ e. Agrees (ssu_params (labels_view s.now)) (ssu_meaning (labels_view s.now)) e.code) }

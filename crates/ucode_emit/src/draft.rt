@@ -3,7 +3,7 @@
 ghost use Rattle.std.specs.Prelude.{◌≡◌, ◌++◌, [], ◌∷◌, map, All, OnOk};
 ghost use Rattle.uc_isa.specs.declared.instruction.Instr.TheVariants as instr;
 ghost use Rattle.uc_isa.specs.declared.instruction.UnOp.TheVariants as operation;
-ghost use Rattle.ucode_emit.specs.inner.Pieces as pieces;
+ghost use Rattle.ucode_emit.specs.Pieces as pieces;
 ghost use Rattle.ucode_emit.specs.inner.Machine.{IsReadable, IsWritable};
 ghost use Rattle.ucode_emit.specs.inner.DraftItems.{draft, CanMove};
 

@@ -4,7 +4,7 @@ ghost use Rattle.std.specs.Prelude.{◌≡◌, ◌++◌, map, OnOk};
 ghost use Rattle.ucode_emit.specs.inner.DraftItems as drafts;
 ghost use Rattle.ucode_emit.specs.inner.Given as given;
 ghost use Rattle.ucode_emit.specs.inner.EmitContext.{CanAll};
-ghost use Rattle.ucode_emit.specs.inner.Pieces.{moved};
+ghost use Rattle.ucode_emit.specs.Pieces.{moved};
 
 use crate::draft::{Draft, push_moves};
 use crate::moves::{Move, brought};

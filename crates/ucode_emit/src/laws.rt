@@ -6,8 +6,8 @@ ghost use Rattle.uc_isa.specs.Lawful.{IsLawful};
 ghost use Rattle.ssu_ir.specs.Tree.{Label};
 ghost use Rattle.ssu_ir.specs.Meaning.{ssu_meaning, ssu_params};
 ghost use Rattle.placement.specs.Plan.{Plan};
-ghost use Rattle.ucode_emit.specs.inner.Pieces.{Sequences, instr_of, items, starts, parallel_moves};
-ghost use Rattle.ucode_emit.specs.inner.Ready.{AreSequences};
+ghost use Rattle.ucode_emit.specs.Pieces.{Sequences, instr_of, items, starts, parallel_moves};
+ghost use Rattle.ucode_emit.specs.Emits.{AreSequences};
 ghost use Rattle.ucode_emit.specs.inner.Layers.{Placed};
 
 /// For every placement that fits a form in single use, and all single moves that do its parallel moves,

@@ -11,8 +11,8 @@ ghost use Rattle.ucode_emit.specs.inner.DraftItems.{draft};
 ghost use Rattle.ucode_emit.specs.inner.Machine.{IsReadable};
 ghost use Rattle.ucode_emit.specs.inner.Given as given;
 ghost use Rattle.ucode_emit.specs.inner.EmitContext.{CanAll};
-ghost use Rattle.ucode_emit.specs.inner.Pieces as pieces;
-ghost use Rattle.ucode_emit.specs.inner.Pieces.{Plain, Branch, moved};
+ghost use Rattle.ucode_emit.specs.Pieces as pieces;
+ghost use Rattle.ucode_emit.specs.Pieces.{Plain, Branch, moved};
 
 use crate::draft::{Draft, push_moves};
 use crate::emit_context::EmitContext;

@@ -2,7 +2,7 @@
 
 ghost use Rattle.std.specs.Prelude.{◌≡◌, ◌++◌, OnOk};
 ghost use Rattle.placement.specs.declared.place.Place.TheVariants.{Slot};
-ghost use Rattle.ucode_emit.specs.inner.Pieces as pieces;
+ghost use Rattle.ucode_emit.specs.Pieces as pieces;
 
 use nv_base::NoMemory;
 use placement::Place;

@@ -10,8 +10,8 @@ ghost use Rattle.ucode_emit.specs.inner.Machine.{IsReadable, IsWritable};
 ghost use Rattle.ucode_emit.specs.inner.Given as given;
 ghost use Rattle.ucode_emit.specs.inner.Given.{CanResult};
 ghost use Rattle.ucode_emit.specs.inner.EmitContext.{CanAll};
-ghost use Rattle.ucode_emit.specs.inner.Pieces as pieces;
-ghost use Rattle.ucode_emit.specs.inner.Pieces.{moved};
+ghost use Rattle.ucode_emit.specs.Pieces as pieces;
+ghost use Rattle.ucode_emit.specs.Pieces.{moved};
 
 use crate::draft::{Draft, push_moves};
 use crate::emit_context::EmitContext;

@@ -8,7 +8,7 @@ ghost use Rattle.placement.specs.Plan.{plan_view};
 ghost use Rattle.ucode_emit.specs.inner.DraftItems.{draft};
 ghost use Rattle.ucode_emit.specs.inner.Given as given;
 ghost use Rattle.ucode_emit.specs.inner.EmitContext.{IsEmitContext, CanAll, CanNode, node_items};
-ghost use Rattle.ucode_emit.specs.inner.Pieces as pieces;
+ghost use Rattle.ucode_emit.specs.Pieces as pieces;
 
 use crate::access::{copy_each, push_read, push_write};
 use crate::draft::{Draft, push_moves};

@@ -1,7 +1,7 @@
 //! Places as instructions name them.
 
 ghost use Rattle.std.specs.Prelude.{◌≡◌};
-ghost use Rattle.ucode_emit.specs.inner.Pieces as pieces;
+ghost use Rattle.ucode_emit.specs.Pieces as pieces;
 ghost use Rattle.ucode_emit.specs.inner.Machine.{IsReadable, IsWritable};
 ghost use Rattle.ucode_emit.specs.inner.Layers.{IsAddress};
 

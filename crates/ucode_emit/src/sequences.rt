@@ -12,8 +12,8 @@ ghost use Rattle.par_move.specs.Moves.{HaveOwnTargets, SpareTemporary};
 ghost use Rattle.ucode_emit.specs.inner.Cursors.{place_operands};
 ghost use Rattle.ucode_emit.specs.inner.Layers.{Placed};
 ghost use Rattle.ucode_emit.specs.inner.Marks.{marks};
-ghost use Rattle.ucode_emit.specs.inner.Pieces.{parallel_moves};
-ghost use Rattle.ucode_emit.specs.inner.Ready.{IsSequence, AreSequences};
+ghost use Rattle.ucode_emit.specs.Pieces.{parallel_moves};
+ghost use Rattle.ucode_emit.specs.Emits.{IsSequence, AreSequences};
 ghost use Rattle.ucode_emit.specs.inner.EmittedPoints.{point_mark, IsEmittedPoint};
 ghost use Rattle.ucode_emit.specs.inner.Walk.{node_ends, place_ends, HasFew, moves_of};
 

@@ -5,8 +5,8 @@ ghost use Rattle.placement.specs.Fits.{Rises};
 ghost use Rattle.placement.specs.Plan.{plan_view};
 ghost use Rattle.par_move.specs.Moves.{HaveOwnTargets, SpareTemporary};
 ghost use Rattle.ucode_emit.specs.inner.EmitContext.{ends};
-ghost use Rattle.ucode_emit.specs.inner.Pieces as pieces;
-ghost use Rattle.ucode_emit.specs.inner.Ready.{IsSequence};
+ghost use Rattle.ucode_emit.specs.Pieces as pieces;
+ghost use Rattle.ucode_emit.specs.Emits.{IsSequence};
 
 use crate::moves::Move;
 use nv_base::NoMemory;

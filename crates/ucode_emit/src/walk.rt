@@ -10,7 +10,7 @@ ghost use Rattle.ucode_emit.specs.inner.DraftItems.{draft};
 ghost use Rattle.ucode_emit.specs.inner.EmitContext.{IsEmitContext};
 ghost use Rattle.ucode_emit.specs.inner.Layers.{Placed};
 ghost use Rattle.ucode_emit.specs.inner.Marks.{marks, point_piece};
-ghost use Rattle.ucode_emit.specs.inner.Pieces.{sequence_at};
+ghost use Rattle.ucode_emit.specs.Pieces.{sequence_at};
 ghost use Rattle.ucode_emit.specs.inner.EmittedPoints.{point_mark, IsEmittedPoint};
 ghost use Rattle.ucode_emit.specs.inner.Walk.{AreKnown, IsAt, IsDrafted, mark_at, moves_of, node_branch, place_branch, place_items, CanPlace};
 

@@ -9,7 +9,7 @@ use Rattle.placement.specs.Places.{same_place}
 use Rattle.placement.specs.Fits.{is_slot, is_read_register}
 use Rattle.par_move.specs.Moves.{Move, temporary}
 use Rattle.ucode_emit.specs.inner.Machine.{IsReadable, IsWritable}
-use Rattle.ucode_emit.specs.inner.Pieces.{Item, Moved, Plain, Branch, move_instr, brought}
+use Rattle.ucode_emit.specs.Pieces.{Item, Moved, Plain, Branch, move_instr, brought}
 
 -- an item as an instruction whose branch names its point
 abbrev pub draft : Item → Instr

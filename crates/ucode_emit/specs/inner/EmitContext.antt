@@ -12,7 +12,7 @@ use Rattle.ucode_emit.specs.declared.emit_context.EmitContext.{EmitContext}
 use Rattle.ucode_emit.specs.inner.Machine.{IsReadable, IsWritable}
 use Rattle.ucode_emit.specs.inner.Layers.{IsAddress}
 use Rattle.ucode_emit.specs.inner.DraftItems.{CanMove}
-use Rattle.ucode_emit.specs.inner.Pieces.{Item, Plain, Branch, moved, operands, operand_at, words, result_place, to_slot, copies, all_copies, single_moves, shift_of, step_items, fork_items}
+use Rattle.ucode_emit.specs.Pieces.{Item, Plain, Branch, moved, operands, operand_at, words, result_place, to_slot, copies, all_copies, single_moves, shift_of, step_items, fork_items}
 
 -- what a placement says of a point with so many operands
 pub record IsEmitContext (p : Plan) (n : ℕ) (emit_context : EmitContext) : Type 0 where

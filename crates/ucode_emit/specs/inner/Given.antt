@@ -19,7 +19,7 @@ use Rattle.ucode_emit.specs.inner.Machine.{IsReadable, IsWritable}
 use Rattle.ucode_emit.specs.inner.Layers.{IsAddress}
 use Rattle.ucode_emit.specs.inner.DraftItems.{fetches, each_fetch, word_fetch}
 use Rattle.ucode_emit.specs.inner.EmitContext.{CanAll}
-use Rattle.ucode_emit.specs.inner.Pieces.{Item, Plain, Branch, moved, named, all_copied, single_moves, un_op, source, target, address_of, shift_of}
+use Rattle.ucode_emit.specs.Pieces.{Item, Plain, Branch, moved, named, all_copied, single_moves, un_op, source, target, address_of, shift_of}
 
 -- ---- operands
 

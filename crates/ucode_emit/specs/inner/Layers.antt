@@ -27,8 +27,9 @@ use Rattle.placement.specs.declared.place.Place.TheVariants.{A, B}
 use Rattle.placement.specs.Plan.{Plan, first, pass}
 use Rattle.placement.specs.Fits.{Fits, write_place}
 use Rattle.par_move.specs.Moves.{Move, Words, put, one_by_one, HaveOwnTargets, SpareTemporary}
-use Rattle.ucode_emit.specs.inner.Pieces.{operands, operand_at, words, result_place, to_slot, copies, all_copies, single_moves, un_op, source, target, address_of, entry_point, served_moves, entry_moves, parallel_moves}
-use Rattle.ucode_emit.specs.inner.Ready.{Ready, Entered, Begun, IsSequence}
+use Rattle.ucode_emit.specs.Pieces.{operands, operand_at, words, result_place, to_slot, copies, all_copies, single_moves, un_op, source, target, address_of, entry_point, served_moves, entry_moves, parallel_moves}
+use Rattle.ucode_emit.specs.Emits.{IsSequence}
+use Rattle.ucode_emit.specs.inner.Ready.{Ready, Entered, Begun}
 use Rattle.ucode_emit.specs.inner.Machine.{IsReadable, IsWritable, AreDirect, Stands, move_instrs, filled, Led, Over, word_at}
 
 -- ---- the machine

@@ -12,7 +12,7 @@ use Rattle.placement.specs.declared.place.Place.{Place}
 use Rattle.placement.specs.declared.place.Place.TheVariants.{A, B, L, LD, S, SD, Slot}
 use Rattle.placement.specs.Fits.{read_place}
 use Rattle.par_move.specs.Moves.{Move, Words, put}
-use Rattle.ucode_emit.specs.inner.Pieces.{move_instr}
+use Rattle.ucode_emit.specs.Pieces.{move_instr}
 
 -- the word in a place
 abbrev pub word_at : ℕ → Moment → Words

@@ -5,7 +5,7 @@ use Rattle.ssu_ir.specs.Tree.{Tree, Do, If, End, Label, Node, Does, Forks, Ends}
 use Rattle.ssu_ir.specs.Points.{PointKind, Entry, At, nodes}
 use Rattle.placement.specs.Plan.{Plan}
 use Rattle.par_move.specs.Moves.{Move}
-use Rattle.ucode_emit.specs.inner.Pieces.{Item, moved, single_moves, all_copies, step_items, fork_items, last_items, Sequences, sequence_at, entry_moves, last_moves}
+use Rattle.ucode_emit.specs.Pieces.{Item, moved, single_moves, all_copies, step_items, fork_items, last_items, Sequences, sequence_at, entry_moves, last_moves}
 
 -- what stands at a point, and at a fork the number of points of its first arm
 pub record Mark : Type 0 where
@@ -27,11 +27,6 @@ marks_from l (x ∷ ls) = mark (Entry l x.params) 0 ∷ (tree_marks x.body ++ ma
 
 abbrev pub marks : List Label → List Mark
 marks labels = marks_from 0 labels
-
--- the points at which labels begin, the first of them at k
-abbrev pub entries_from : ℕ → List Label → List ℕ
-entries_from k [] = []
-entries_from k (x ∷ ls) = k ∷ entries_from (suc k + nodes x.body) ls
 
 -- the piece of a point, where ms are the single moves of its parallel move
 abbrev pub node_piece : List Label → Plan → ℕ → Node → ℕ → List Move → List Item

@@ -1,5 +1,5 @@
 -- What has to stand where while the code of a form runs.
-use Rattle.std.specs.Prelude.{◌≡◌, ◌≢◌, ℕ, ◌+◌, nat_le, true, List, ◌++◌, length, Some, slice_get}
+use Rattle.std.specs.Prelude.{◌≡◌, ℕ, ◌+◌, nat_le, true, List, ◌++◌, Some, slice_get}
 use Rattle.nv_base.specs.Sets.{is_in}
 use Rattle.nv_base.specs.Words.{Env}
 use Rattle.ssu_ir.specs.Tree.{Label}
@@ -9,7 +9,7 @@ use Rattle.placement.specs.declared.place.Place.TheVariants.{A}
 use Rattle.placement.specs.Plan.{Plan, home}
 use Rattle.placement.specs.Uses.{Use, uses}
 use Rattle.placement.specs.Fits.{general_places, read_places, has_place, is_early, word_register}
-use Rattle.par_move.specs.Moves.{Move, Words, all_at_once, one_by_one, temporary, StandFor}
+use Rattle.par_move.specs.Moves.{Words}
 
 -- the places in which a value lasts while it is held
 abbrev pub lasting : List Label → Plan → ℕ → List Place
@@ -36,13 +36,3 @@ Entered p params env e = (x : ℕ) → is_in x params ≡ true → e (home p x).
 -- before the run: the arguments are in A0 and on
 abbrev pub Begun : List ℕ → Words → Type 0
 Begun args e = (i : ℕ) (w : ℕ) → slice_get args i ≡ Some w → e (A i) ≡ w
-
--- single moves that do what a parallel move does
-pub record IsSequence (moves ms : List Move) : Type 0 where
-  pub effect : (e : Words) (q : Place) → q ≢ temporary → one_by_one ms e q ≡ all_at_once moves e q
-  pub kinds : StandFor moves ms
-
--- each point's single moves do its parallel move
-pub record AreSequences (all : List (List Move)) (mss : List (List Move)) : Type 0 where
-  pub as_many : length mss ≡ length all
-  pub each : (k : ℕ) (moves ms : List Move) → slice_get all k ≡ Some moves → slice_get mss k ≡ Some ms → IsSequence moves ms

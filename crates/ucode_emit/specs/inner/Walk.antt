@@ -12,11 +12,11 @@ use Rattle.placement.specs.Plan.{Plan}
 use Rattle.par_move.specs.Moves.{Move}
 use Rattle.ucode_emit.specs.declared.cursor.Cursor.{Cursor}
 use Rattle.ucode_emit.specs.declared.walk.Points.{Points}
-use Rattle.ucode_emit.specs.inner.Pieces.{Item, moved, single_moves, all_copies, entry_moves, Sequences, parallel_moves}
-use Rattle.ucode_emit.specs.inner.Ready.{AreSequences}
+use Rattle.ucode_emit.specs.Pieces.{Item, moved, single_moves, all_copies, entry_moves, Sequences, parallel_moves}
+use Rattle.ucode_emit.specs.Emits.{AreSequences, entries_from}
 use Rattle.ucode_emit.specs.inner.DraftItems.{draft}
 use Rattle.ucode_emit.specs.inner.EmitContext.{ends, CanAll, CanNode, node_items}
-use Rattle.ucode_emit.specs.inner.Marks.{Mark, mark, marks, entries_from, pieces, joined, begins}
+use Rattle.ucode_emit.specs.inner.Marks.{Mark, mark, marks, pieces, joined, begins}
 use Rattle.ucode_emit.specs.inner.EmittedPoints.{point_mark, IsEmittedPoint}
 use Rattle.ucode_emit.specs.inner.Cursors.{IsCut, AreServed}
 

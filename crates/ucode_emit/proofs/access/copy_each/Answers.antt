@@ -1,6 +1,6 @@
 use Rattle.std.proofs.Common.{◌++◌, get_or, ap, ◌∙◌, arith}
 use Rattle.placement.specs.Plan.{home, plan_view}
-use Rattle.ucode_emit.specs.inner.Pieces as pieces
+use Rattle.ucode_emit.specs.Pieces as pieces
 use Rattle.ucode_emit.specs.inner.Given as given
 use Rattle.ucode_emit.proofs.Turns.{turn}
 use Rattle.ucode_emit.proofs.EachCopied.{each_copied_last, same_copied}

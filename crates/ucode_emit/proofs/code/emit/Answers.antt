@@ -12,7 +12,7 @@ use Rattle.placement.specs.Costs.{cost}
 use Rattle.placement.specs.Plan.{plan_view}
 use Rattle.ucode_emit.specs.Operations.{code_operations, form_operations}
 use Rattle.ucode_emit.specs.SpillBase.{SpillsByBase}
-use Rattle.ucode_emit.specs.inner.Drafted.{AreEmitted}
+use Rattle.ucode_emit.specs.Emits.{AreEmitted}
 use Rattle.ucode_emit.proofs.Whole.{some_code, few_code, short_code, light_code, lawful_code, based_code, doing_code, agreeing_code, starts_code, visited_code, weighted_code, placed}
 use Rattle.ucode_emit.proofs.code.emit.Goals as goal
 
@@ -30,6 +30,10 @@ pub returns-clause-spills : goal.returns-clause-spills
 returns-clause-spills c =
     let p = plan_view c.args.p.now in
     subst (SpillsByBase p.slots) (sym c.new.ensures.list) (based_code (labels_view c.args.s.now) p c.in_ok-list.list.items c.in_ok-list.starts.items (placed c.requires.single c.requires.fits) c.in_ok-list.ensures)
+
+pub returns-clause-emitted : goal.returns-clause-emitted
+returns-clause-emitted c =
+    subst (λ l. AreEmitted (labels_view c.args.s.now) (plan_view c.args.p.now) l c.in_ok-list.starts.items) (sym c.new.ensures.list) c.in_ok-list.ensures
 
 pub returns-clause-operations : goal.returns-clause-operations
 returns-clause-operations c =

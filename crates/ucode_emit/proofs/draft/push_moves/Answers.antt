@@ -1,5 +1,5 @@
 use Rattle.std.proofs.Common.{map, [], ◌∷◌, arith}
-use Rattle.ucode_emit.specs.inner.Pieces.{moved, move_instr}
+use Rattle.ucode_emit.specs.Pieces.{moved, move_instr}
 use Rattle.ucode_emit.specs.inner.DraftItems.{draft}
 use Rattle.ucode_emit.proofs.Turns.{turn, instrs_last}
 use Rattle.ucode_emit.proofs.draft.push_moves.Goals as goal

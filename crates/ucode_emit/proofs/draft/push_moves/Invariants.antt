@@ -1,5 +1,5 @@
 use Rattle.std.proofs.Common.{◌≡◌, ◌++◌, map, take}
-use Rattle.ucode_emit.specs.inner.Pieces.{moved}
+use Rattle.ucode_emit.specs.Pieces.{moved}
 use Rattle.ucode_emit.specs.inner.DraftItems.{draft}
 use Rattle.ucode_emit.proofs.draft.push_moves.Given as goal
 

@@ -1,5 +1,5 @@
 use Rattle.std.proofs.Common.{◌≡◌, ◌++◌, take}
-use Rattle.ucode_emit.specs.inner.Pieces as pieces
+use Rattle.ucode_emit.specs.Pieces as pieces
 use Rattle.ucode_emit.proofs.moves.all_copied.Given as goal
 
 abbrev pub invariant-loop-at : goal.invariant-loop-at

@@ -1,5 +1,5 @@
 use Rattle.std.proofs.Common.{arith}
-use Rattle.ucode_emit.specs.inner.Pieces as pieces
+use Rattle.ucode_emit.specs.Pieces as pieces
 use Rattle.ucode_emit.proofs.Turns.{turn, singles_last}
 use Rattle.ucode_emit.proofs.moves.single_moves.Goals as goal
 

@@ -1,5 +1,5 @@
 use Rattle.std.proofs.Common.{◌≡◌, ◌++◌, take}
-use Rattle.ucode_emit.specs.inner.Pieces as pieces
+use Rattle.ucode_emit.specs.Pieces as pieces
 use Rattle.ucode_emit.proofs.moves.single_moves.Given as goal
 
 abbrev pub invariant-loop-single : goal.invariant-loop-single

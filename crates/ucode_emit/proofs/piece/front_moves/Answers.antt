@@ -1,6 +1,6 @@
 use Rattle.std.proofs.Common.{None}
 use Rattle.placement.specs.Plan.{plan_view}
-use Rattle.ucode_emit.specs.inner.Pieces as pieces
+use Rattle.ucode_emit.specs.Pieces as pieces
 use Rattle.ucode_emit.specs.inner.Given as given
 use Rattle.ucode_emit.proofs.Serving.{copied_here, appended}
 use Rattle.ucode_emit.proofs.piece.front_moves.Goals as goal

@@ -3,7 +3,7 @@ use Rattle.std.proofs.lemmas.List.{length-map}
 use Rattle.ssu_ir.specs.View.{labels_view}
 use Rattle.placement.specs.Plan.{plan_view}
 use Rattle.ucode_emit.specs.inner.Marks.{Mark, marks, place_moves}
-use Rattle.ucode_emit.specs.inner.Ready.{IsSequence}
+use Rattle.ucode_emit.specs.Emits.{IsSequence}
 use Rattle.ucode_emit.specs.inner.EmittedPoints.{point_mark}
 use Rattle.ucode_emit.specs.inner.Walk.{moves_of}
 use Rattle.ucode_emit.proofs.Cursored.{served_start, uses_by_marks}

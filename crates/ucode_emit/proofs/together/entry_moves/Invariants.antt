@@ -1,6 +1,6 @@
 use Rattle.std.proofs.Common.{◌≡◌, take}
 use Rattle.placement.specs.Plan.{plan_view}
-use Rattle.ucode_emit.specs.inner.Pieces as pieces
+use Rattle.ucode_emit.specs.Pieces as pieces
 use Rattle.ucode_emit.proofs.together.entry_moves.Given as goal
 
 abbrev pub invariant-loop-x : goal.invariant-loop-x

@@ -6,7 +6,7 @@ use Rattle.placement.specs.Plan.{plan_view}
 use Rattle.ssu_liveness.proofs.RowSteps.{on-ok}
 use Rattle.ucode_emit.specs.inner.DraftItems.{draft}
 use Rattle.ucode_emit.specs.inner.Marks.{point_piece}
-use Rattle.ucode_emit.specs.inner.Pieces.{sequence_at}
+use Rattle.ucode_emit.specs.Pieces.{sequence_at}
 use Rattle.ucode_emit.specs.inner.EmittedPoints.{point_mark}
 use Rattle.ucode_emit.specs.inner.Walk.{mark_at, moves_of, place_items}
 use Rattle.ucode_emit.proofs.Sequenced.{below_marks}

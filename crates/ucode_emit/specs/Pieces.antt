@@ -1,5 +1,5 @@
--- The code of a form under a placement, piece by piece: a piece is what stands for one point. Where a piece branches it names a point,
--- and the places of points come last.
+-- The code of a form under a placement, piece by piece: each point has a piece. Where a piece branches it names a point, and the places of
+-- points come last.
 use Rattle.std.specs.Prelude.{ℕ, zero, suc, ◌+◌, ◌/◌, ◌%◌, ◌^◌, nat_lt, nat_eq, ◌&&◌, List, [], ◌∷◌, ◌++◌, length, Option, Some, None, slice_index_or, if◌then◌else◌}
 use Rattle.nv_base.specs.declared.term.Mem.TheVariants.{Scratch}
 use Rattle.nv_base.specs.declared.term.Una.{Una as Unary}
@@ -198,7 +198,7 @@ items labels p mss = items_from labels p mss 0 labels
 
 -- ---- places of points
 
--- where each point of a tree begins, behind so many instructions
+-- where each point of a tree begins, after so many instructions
 abbrev pub tree_starts : List Label → Plan → Sequences → ℕ → ℕ → Tree → List ℕ
 tree_starts labels p mss at k (Do s t) = at ∷ tree_starts labels p mss (at + length (step_items p k s)) (suc k) t
 tree_starts labels p mss at k (If c x y t u) =
