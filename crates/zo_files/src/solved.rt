@@ -1,11 +1,12 @@
 //! From the text of a program to the text of a true report.
 
-ghost use Rattle.std.specs.Prelude.{◌≡◌, ◌≢◌, ◌⊎◌, ◌^◌, ℕ, List, Some, Err, IfOk, IfErr, length};
+ghost use Rattle.std.specs.Prelude.{◌≡◌, ◌≢◌, ◌⊎◌, ◌<◌, ◌^◌, ℕ, List, [], ◌∷◌, Some, Err, IfOk, IfErr, IsErr, length};
 ghost use Rattle.nv_outside.specs.Causes.{Rose};
-ghost use Rattle.nv_outside.specs.Holding.{IsLonger, Replaced};
+ghost use Rattle.nv_outside.specs.Calls.{Asked, Load, Save};
+ghost use Rattle.nv_outside.specs.Holding.{IsLonger, Replaced, SameElsewhere};
 ghost use Rattle.zo_model.specs.Program.{IsValid, columns};
 ghost use Rattle.zo_files.specs.Exit.{exit_code};
-ghost use Rattle.zo_files.specs.Written.{IsReportText, IsTextRefusal, IsTrueText};
+ghost use Rattle.zo_files.specs.Written.{IsReportText, IsTextRefusal, IsTrueText, calls_to};
 ghost use Rattle.zo_files.specs.declared.solved.Failure.TheVariants.{Read, Text, Words, Write};
 
 use nv_outside::{Files, Loaded, Saved};
@@ -71,6 +72,7 @@ fn report_on(alloc: Global, z: ZeroOne) -> Result<Vec<u8>, NoMemory>
 pub fn solve_text(alloc: Global, bytes: &[u8]) -> Result<Vec<u8>, Failure>
     ensures text { IfOk result (λ text. IsTrueText bytes.now text.items) }
     ensures cause { IfErr result (IsTextRefusal bytes.now) }
+    ensures long { 2 ^ 26 < length bytes.now → result ≡ Err Text }
 {
     if bytes.len() as u64 > LIMIT {
         return Err(Failure::Text);
@@ -98,6 +100,15 @@ pub fn solve_file<F: Files>(
     ensures read { result ≡ Err Read → Rose (F.load_faults files.old program.now) (F.load_faults files.new program.now) }
     ensures write { result ≡ Err Write → Rose (F.save_faults files.old report.now) (F.save_faults files.new report.now) }
     ensures words { result ≢ Err Words }
+    ensures long { F.tells → IsLonger (F.held files.old) program.now (2 ^ 26) → IsErr result }
+
+    // What was called, what is held after it, and which counts of faults stay.
+    ensures called { IfOk result (λ _. Asked F.history files.old files.new (Load program.now ∷ Save report.now ∷ [])) }
+    ensures called_to { IfErr result (λ failure. Asked F.history files.old files.new (calls_to failure program.now report.now)) }
+    ensures elsewhere { F.tells → SameElsewhere (F.held files.old) (F.held files.new) report.now }
+    ensures kept { result ≢ Err Write → IfErr result (λ _. F.held files.new ≡ F.held files.old) }
+    ensures no_read { result ≢ Err Read → (q : List ℕ) → F.load_faults files.new q ≡ F.load_faults files.old q }
+    ensures no_write { result ≢ Err Write → (q : List ℕ) → F.save_faults files.new q ≡ F.save_faults files.old q }
 {
     let mut bytes = Vec::new(alloc);
     match files.load(program, LIMIT, &mut bytes) {

@@ -13,6 +13,8 @@ returns c =
       valid = c.in_ok-report.ensures.valid;
       holds = c.in_ok-report.ensures.holds;
       on_it = c.in_ok-report.ensures.says.program;
+      no_slots = c.in_ok-report.ensures.says.slots_are;
+      budget = c.in_ok-report.ensures.says.budget_is;
       spelled = spelled;
     })
     c.print_report.ensures.text
