@@ -39,6 +39,7 @@ read-assigned labels n v numbers p form few rows numbered r =
     let labels_paid : (l : ℕ) → label_cost labels l (plan_view p) ≤ label_price labels l v = subst (λ (q : Plan). (l : ℕ) → label_cost labels l q ≤ label_price labels l v) (sym r.same) (label-paid labels n v numbers hs form only rows r.homes) in
     let law : costs_of (costs labels) v ≡ named_cost (on labels v) (priced labels) = costs-by-name labels v form in
     record {
+      read = record { numbers = numbers; numbered = numbered; same = r };
       fits = subst (λ (q : Plan). Fits labels q) (sym r.same) (read-off-fits labels n (on labels v) numbers hs form few only rows r.homes numbered);
       slots_are = ap (λ (q : Plan). q.slots) r.same;
       paid = omega arith;

@@ -13,7 +13,7 @@ ghost use Rattle.bank_prog.specs.Weighted.{weighted_costs};
 ghost use Rattle.label_weights.specs.ByLabel as by_label;
 ghost use Rattle.label_weights.specs.Weighted as under_weights;
 ghost use Rattle.bank_assignment.specs.ByLabel.{label_price};
-ghost use Rattle.reg_assign.specs.Assigned.{IsAssigned};
+ghost use Rattle.reg_assign.specs.Assigned.{IsAssigned, IsReadFrom};
 ghost use Rattle.reg_assign.specs.inner.AssignmentInputs.{labels_in, says_in, numbers_in};
 ghost use Rattle.bank_assignment.specs.inner.Reading.{IsReadOff};
 
@@ -70,6 +70,7 @@ pub fn assign(alloc: Global, s: &Ssu, slots: u32, x: &Assignment) -> Result<Plac
     requires slots { slots ≤ 128 }
     requires columns { length x.now.on.items ≡ length (columns.columns (labels_view s.now)) }
     requires feasible { IsFeasible (labels_view s.now) slots (vector x.now.on.items) }
+    ensures read { IfOk result (IsReadFrom (labels_view s.now) slots (vector x.now.on.items)) }
     ensures fits { IfOk result (λ p. Fits (labels_view s.now) (plan_view p)) }
     ensures slots { IfOk result (λ p. p.slots ≡ slots) }
     ensures cost { IfOk result (λ p. costs.cost (labels_view s.now) (plan_view p) ≤ costs_of (columns.costs (labels_view s.now)) (vector x.now.on.items)) }

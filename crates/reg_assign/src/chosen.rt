@@ -59,6 +59,7 @@ pub fn from_placement(alloc: Global, s: &Ssu, p: &Placement) -> Result<Assignmen
     requires single { single (labels_view s.now) ≡ true }
     requires fits { Fits (labels_view s.now) (plan_view p.now) }
     ensures columns { IfOk result (λ x. length x.on.items ≡ length (columns.columns (labels_view s.now))) }
+    ensures has { IfOk result (λ x. x.on.items ≡ map (chosen.chosen (labels_view s.now) (plan_view p.now)) (columns.columns (labels_view s.now))) }
     ensures feasible { IfOk result (λ x. IsFeasible (labels_view s.now) p.now.slots (vector x.on.items)) }
     ensures cost { IfOk result (λ x. costs_of (columns.costs (labels_view s.now)) (vector x.on.items) ≡ costs.cost (labels_view s.now) (plan_view p.now)) }
     ensures weighted_cost { IfOk result (λ x. (ws : List ℕ) → costs_of (weighted_costs (labels_view s.now) ws) (vector x.on.items) ≡ under_weights.weighted_cost (labels_view s.now) ws (plan_view p.now)) }

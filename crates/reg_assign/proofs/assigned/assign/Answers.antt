@@ -13,7 +13,7 @@ use Rattle.bank_prog.specs.Weighted.{weighted_costs}
 use Rattle.label_weights.specs.ByLabel.{label_cost}
 use Rattle.label_weights.specs.Weighted.{weighted_cost}
 use Rattle.bank_assignment.specs.ByLabel.{label_price}
-use Rattle.reg_assign.specs.Assigned.{IsAssigned}
+use Rattle.reg_assign.specs.Assigned.{IsAssigned, IsReadFrom}
 use Rattle.reg_assign.proofs.Promised.{assigned-of}
 use Rattle.reg_assign.proofs.assigned.assign.Goals as goal
 
@@ -22,6 +22,13 @@ assign_by-requires-clause-single c = ap (λ t. single (labels_view t)) c.in-Ok.e
 
 pub assign_by-requires-clause-feasible : goal.assign_by-requires-clause-feasible
 assign_by-requires-clause-feasible c = subst (λ t. IsFeasible (labels_view t) c.args.slots (vector c.args.x.now.on.items)) (sym c.in-Ok.ensures.form) c.requires.feasible
+
+pub returns-in-Ok-clause-read : goal.returns-in-Ok-clause-read
+returns-in-Ok-clause-read c =
+    let s = c.args.s.now in
+    let x = vector c.args.x.now.on.items in
+    IfOk-weaker c.assign_by.result (IsAssigned (labels_view s) c.args.slots x) (λ (p : Placement). IsReadFrom (labels_view s) c.args.slots x p) (λ p h. h.read)
+    (assigned-of c.in-Ok.bank.form.ssu.now s c.args.slots x c.assign_by.result c.in-Ok.ensures.form c.assign_by.ensures)
 
 pub returns-in-Ok-clause-fits : goal.returns-in-Ok-clause-fits
 returns-in-Ok-clause-fits c =

@@ -1,4 +1,4 @@
-use Rattle.std.proofs.Common.{◌≡◌, ℕ, List, length, sym, ap, subst, ◌∙◌}
+use Rattle.std.proofs.Common.{◌≡◌, ℕ, List, length, map, sym, ap, subst, ◌∙◌}
 use Rattle.std.proofs.lemmas.Result.{IfOk-weaker}
 use Rattle.ssu_ir.specs.declared.ssu.Ssu.{Ssu}
 use Rattle.ssu_ir.specs.Single.{single}
@@ -12,6 +12,7 @@ use Rattle.bank_form.specs.Columns.{columns, costs}
 use Rattle.bank_prog.specs.Meaning.{IsFeasible}
 use Rattle.bank_prog.specs.Weighted.{weighted_costs}
 use Rattle.label_weights.specs.Weighted.{weighted_cost}
+use Rattle.bank_assignment.specs.inner.Chosen.{chosen}
 use Rattle.reg_assign.specs.Assigned.{IsVectorOf}
 use Rattle.reg_assign.proofs.chosen.from_placement.Goals as goal
 
@@ -27,6 +28,13 @@ returns-in-Ok-clause-columns c =
     let p = c.args.p.now in
     IfOk-weaker c.vector_of.result (IsVectorOf (labels_view c.in-Ok.bank.form.ssu.now) p) (λ (x : Assignment). length x.on.items ≡ length (columns (labels_view s)))
     (λ x h. (subst (λ (t : Ssu). IsVectorOf (labels_view t) p x) c.in-Ok.ensures.form h).one_a_column) c.vector_of.ensures
+
+pub returns-in-Ok-clause-has : goal.returns-in-Ok-clause-has
+returns-in-Ok-clause-has c =
+    let s = c.args.s.now in
+    let p = c.args.p.now in
+    IfOk-weaker c.vector_of.result (IsVectorOf (labels_view c.in-Ok.bank.form.ssu.now) p) (λ (x : Assignment). x.on.items ≡ map (chosen (labels_view s) (plan_view p)) (columns (labels_view s)))
+    (λ x h. (subst (λ (t : Ssu). IsVectorOf (labels_view t) p x) c.in-Ok.ensures.form h).has) c.vector_of.ensures
 
 pub returns-in-Ok-clause-feasible : goal.returns-in-Ok-clause-feasible
 returns-in-Ok-clause-feasible c =

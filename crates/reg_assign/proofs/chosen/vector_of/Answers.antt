@@ -16,6 +16,7 @@ returns c =
     let is : IsVector labels p c.in_ok-on.on.items = record { is = c.in_ok-on.ensures ∙ ap (map (chosen labels p)) (c.deref.ensures.value ∙ c.in_ok-columns.ensures) } in
     record {
       one_a_column = vector-long labels p c.in_ok-on.on.items is;
+      has = is.is;
       feasible = vector-feasible labels p c.in_ok-on.on.items c.requires.single c.requires.fits is;
       costs_same = vector-costs labels p c.in_ok-on.on.items c.requires.single c.requires.fits is;
       weighted_same = vector-weighted labels p c.in_ok-on.on.items c.requires.single c.requires.fits is;
