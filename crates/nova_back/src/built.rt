@@ -11,6 +11,7 @@ ghost use Rattle.bank_form.specs.Program.{rows, IsTooLarge};
 ghost use Rattle.uc_isa.specs.Moves.{moves};
 ghost use Rattle.nova_back.specs.Causes.{IsCodeOf, AreStartsOf, IsReportOn, HasVector, IsCheapFor, IsCause, report_cost};
 ghost use Rattle.nova_back.specs.Memory.{IsWithinBound};
+ghost use Rattle.nova_back.specs.Placed.{IsPlacedBy};
 ghost use Rattle.nova_back.specs.inner.Search.{IsChoice};
 
 use crate::choice::choice_of;
@@ -51,6 +52,7 @@ fn code_of(
     requires few_rows { length (rows (labels_view bank.now.form.ssu.now) slots) ≤ 2 ^ 26 }
     ensures code { IfOk result (λ e. IsCodeOf (labels_view bank.now.form.ssu.now) slots e.code) }
     ensures starts { IfOk result (λ e. AreStartsOf (labels_view bank.now.form.ssu.now) e.code e.starts.items) }
+    ensures placed { IfOk result (λ e. IsPlacedBy (labels_view bank.now.form.ssu.now) slots (vector x.now.on.items) e.code.list) }
     ensures light { IfOk result (λ e. (ws : List ℕ) → moves e.code.list e.starts.items ws ≤ costs_of (weighted_costs (labels_view bank.now.form.ssu.now) ws) (vector x.now.on.items)) }
     ensures short { IfOk result (λ e. length e.code.list ≤ code_bound (labels_view bank.now.form.ssu.now)) }
 {
@@ -90,6 +92,8 @@ pub fn back(
     ensures brief { IfOk result (λ b. length b.code.list ≤ code_bound (labels_view s)) }
     ensures report { IfOk result (λ b. IsReportOn (labels_view s) slots w.now budget b.report) }
     ensures found { IfOk result (λ b. HasVector b.report.verdict) }
+    // Each value stands where the report's vector has it.
+    ensures placed { IfOk result (λ b. IsPlacedBy (labels_view s) slots (vector b.report.x.on.items) b.code.list) }
     // Under the weights the code's moves cost at most what the report's vector does.
     ensures light { IfOk result (λ b. moves b.code.list b.starts.items w.now ≤ report_cost b.report) }
     // Where all live values at once fit a bank, at most two copies a value and one a use, each times the greatest weight.

@@ -5,9 +5,11 @@ use Rattle.ssu_ir.specs.declared.ssu.Ssu.{Ssu}
 use Rattle.ssu_ir.specs.Measures.{code_bound, peak}
 use Rattle.ssu_ir.specs.Single.{single}
 use Rattle.ssu_ir.specs.View.{labels_view}
+use Rattle.zo_model.specs.Program.{vector}
 use Rattle.bank_form.specs.Columns.{columns}
 use Rattle.bank_form.specs.Program.{rows, IsTooLarge}
 use Rattle.nova_back.specs.Causes.{IsCodeBy, IsCodeOf, AreStartsOf, IsReportOn, IsCheapFor, report_cost}
+use Rattle.nova_back.specs.Placed.{IsPlacedBy}
 use Rattle.nova_back.specs.inner.Search.{IsUnfound}
 use Rattle.nova_back.specs.declared.error.BackError.TheVariants as back
 use Rattle.nova_back.proofs.Reported.{choice-of-report, code-by, light_by}
@@ -38,6 +40,9 @@ returns-clause-brief c = subst (λ (t : Ssu). length c.in_ok-emitted.emitted.cod
 
 pub returns-clause-report : goal.returns-clause-report
 returns-clause-report c = subst (λ (t : Ssu). IsReportOn (labels_view t) c.args.slots c.args.w.now c.args.budget c.in_ok-report.report) c.in_ok-bank.ensures.form c.in_ok-report.ensures.chosen.on_form.report
+
+pub returns-clause-placed : goal.returns-clause-placed
+returns-clause-placed c = subst (λ (t : Ssu). IsPlacedBy (labels_view t) c.args.slots (vector c.in_ok-report.report.x.on.items) c.in_ok-emitted.emitted.code.list) c.in_ok-bank.ensures.form c.in_ok-emitted.ensures.placed
 
 pub returns-clause-light : goal.returns-clause-light
 returns-clause-light c =

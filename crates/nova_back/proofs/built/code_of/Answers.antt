@@ -49,6 +49,16 @@ returns-clause-starts c =
       settled = c.in_ok-peeped.ensures.settled;
     }
 
+pub returns-clause-placed : goal.returns-clause-placed
+returns-clause-placed c = record {
+  placement = c.in_ok-placement.placement;
+  read = c.in_ok-placement.ensures.read;
+  emitted_code = c.in_ok-emitted.emitted.code.list;
+  emitted_starts = c.in_ok-emitted.emitted.starts.items;
+  emitted = c.in_ok-emitted.ensures.emitted;
+  without = c.in_ok-peeped.ensures.without;
+}
+
 pub returns-clause-light : goal.returns-clause-light
 returns-clause-light c = λ ws. le_trans (c.in_ok-peeped.ensures.kept.moves ws) (le_trans (c.in_ok-emitted.ensures.weighted ws) (c.in_ok-placement.ensures.weighted_paid ws))
 

@@ -1,0 +1,18 @@
+-- Code in which the values of a form stand where a vector of its bank program has them.
+use Rattle.std.specs.Prelude.{ℕ, Bool, List}
+use Rattle.ssu_ir.specs.Tree.{Label}
+use Rattle.placement.specs.declared.place.Placement.{Placement}
+use Rattle.placement.specs.Plan.{plan_view}
+use Rattle.reg_assign.specs.Assigned.{IsReadFrom}
+use Rattle.uc_isa.specs.declared.instruction.Instr.{Instr}
+use Rattle.uc_peep.specs.Rewrites.{IsWithout}
+use Rattle.ucode_emit.specs.Emits.{AreEmitted}
+
+-- for a placement that is read from the vector, the code is what the form emits under it, without instructions that nothing needs
+pub record IsPlacedBy (labels : List Label) (slots : ℕ) (x : ℕ → Bool) (code : List Instr) : Type 0 where
+  pub placement : Placement
+  pub read : IsReadFrom labels slots x placement
+  pub emitted_code : List Instr
+  pub emitted_starts : List ℕ
+  pub emitted : AreEmitted labels (plan_view placement) emitted_code emitted_starts
+  pub without : IsWithout emitted_code code
