@@ -12,6 +12,7 @@ ghost use Rattle.flat_ir.specs.Bulk.{bulk};
 ghost use Rattle.flat_ir.specs.Meaning.{flat_meaning};
 ghost use Rattle.flat_ir.specs.Wide.{wide};
 ghost use Rattle.flat_ir.specs.Reached.{params_in, AreReached};
+ghost use Rattle.nv_flatten.specs.Functions.{AreFunctionsOf, AreCalledBefore};
 ghost use Rattle.nova_front.specs.Sources.{IsTypedSource, IsCause};
 
 use crate::error::FrontError;
@@ -51,6 +52,9 @@ pub fn typed(alloc: Global, bytes: &[u8]) -> Result<Typed, FrontError>
 pub fn front(alloc: Global, bytes: &[u8]) -> Result<(Typed, FlatProgram), FrontError>
     requires { length bytes.now ≤ source_limit }
     ensures program { IfOk result (λ r. IsTypedSource bytes.now (typed_program r.0)) }
+    ensures first { IfOk result (λ r. r.1.main ≡ 0) }
+    ensures functions { IfOk result (λ r. AreFunctionsOf (typed_program r.0) r.1.funs.items) }
+    ensures order { IfOk result (λ r. AreCalledBefore r.1.funs.items) }
     ensures kept { IfOk result (λ r. KeepsOutcomes (main_words (typed_program r.0)) (params_in r.1.funs.items r.1.main) (source (typed_program r.0)) (flat_meaning r.1.funs.items r.1.main)) }
     ensures equal { IfOk result (λ r. AreEqual (main_words (typed_program r.0)) (source (typed_program r.0)) (flat_meaning r.1.funs.items r.1.main)) }
     ensures reached { IfOk result (λ r. AreReached r.1.funs.items r.1.main) }
