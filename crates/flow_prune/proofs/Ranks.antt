@@ -1,11 +1,11 @@
 -- Where each parameter has a rank, each is wanted.
-use Rattle.std.proofs.Common.{◌≡◌, ℕ, zero, suc, ◌+◌, ◌<◌, ◌≤◌, ◌==◌, nat_le, true, false, ◌&&◌, List, [], ◌∷◌, ◌++◌, Option, Some, None, map, refl, sym, ap, subst, ◌∙◌, length, slice_get, slice_index_or, get_or, arith, ◌⊎◌, ⊎_elim}
+use Rattle.std.proofs.Common.{◌≡◌, ◌↔◌, ℕ, zero, suc, ◌+◌, ◌<◌, ◌≤◌, ◌==◌, nat_le, Bool, true, false, ◌&&◌, List, [], ◌∷◌, ◌++◌, Option, Some, None, map, refl, sym, ap, subst, ◌∙◌, length, slice_get, slice_index_or, get_or, arith, ◌⊎◌, ⊎_elim}
 use Rattle.std.specs.List.{list_all}
 use Rattle.std.specs.declared.vec.Vec.{Vec}
 use Rattle.std.specs.declared.alloc.Global.{Global}
 use Rattle.std.proofs.lemmas.Bool.{and_parts, false≢true, eqb-true}
 use Rattle.std.proofs.lemmas.Bool.Decides.{nat_tests}
-use Rattle.std.proofs.lemmas.Option.{none-some, same_Some, slice_get_within}
+use Rattle.std.proofs.lemmas.Option.{none-some, same_Some, slice_get_within, slice_get-get_or}
 use Rattle.nv_base.specs.declared.term.Atom.{Atom}
 use Rattle.nv_base.specs.declared.term.Atom.TheVariants.{Var}
 use Rattle.nv_base.specs.Sets.{is_in, all_different}
@@ -109,29 +109,38 @@ same_item [] i x y d at is = absurd (none-some x at)
 same_item (z ∷ xs) zero x y d at is = sym (same_Some z x at) ∙ sym is
 same_item (z ∷ xs) (suc i) x y d at is = same_item xs i x y d at is
 
-pub ranked_more : (ranks : List (Vec ℕ Global)) (l : ℕ) (m : FlowLabel) (i y d r : ℕ) (b : _) → y ≡ get_or m.params.items i d → r ≡ rank_at ranks l i → (b ≡ true → IsFound ranks r y (label_view m).body) → b ≡ true → RankedTo ranks l m i → RankedTo ranks l m (i + 1)
+pub ranked_more : (ranks : List (Vec ℕ Global)) (l : ℕ) (m : FlowLabel) (i y d r : ℕ) (b : Bool) → y ≡ get_or m.params.items i d → r ≡ rank_at ranks l i → b ≡ true ↔ IsFound ranks r y (label_view m).body → b ≡ true → RankedTo ranks l m i → RankedTo ranks l m (i + 1)
 ranked_more ranks l m i y d r b is er found holds h =
     λ j x lt at.
     earlier_or_last j i lt (λ less. h j x less at)
     (λ e.
     let item : slice_get m.params.items i ≡ Some x = sym (ap (slice_get m.params.items) e) ∙ at in
-    subst (λ z. IsFound ranks (rank_at ranks l z) x (label_view m).body) (sym e) (subst (λ z. IsFound ranks z x (label_view m).body) er (subst (λ z. IsFound ranks r z (label_view m).body) (sym (same_item m.params.items i x y d item is)) (found holds))))
+    subst (λ z. IsFound ranks (rank_at ranks l z) x (label_view m).body) (sym e) (subst (λ z. IsFound ranks z x (label_view m).body) er (subst (λ z. IsFound ranks r z (label_view m).body) (sym (same_item m.params.items i x y d item is)) (found.0 holds))))
+
+-- a parameter for which nothing is found
+pub not_ranked : (ranks : List (Vec ℕ Global)) (l : ℕ) (m : FlowLabel) (i y d r : ℕ) (b : Bool) → 1 ≤ l → i < length m.params.items → y ≡ get_or m.params.items i d → r ≡ rank_at ranks l i → b ≡ true ↔ IsFound ranks r y (label_view m).body → b ≡ false → false ≡ true ↔ (1 ≤ l → IsRanked ranks l (label_view m))
+not_ranked ranks l m i y d r b one lt is er found fails = (
+  λ e. absurd (false≢true e),
+  λ h. absurd (false≢true (sym fails ∙ found.1 (subst (λ z. IsFound ranks z y (label_view m).body) (sym er) (h one i y (slice_get-get_or m.params.items i d lt ∙ ap Some (sym is)))))),
+)
+
+pub all_params_ranked : (ranks : List (Vec ℕ Global)) (l i : ℕ) (m : FlowLabel) → length m.params.items ≤ i → RankedTo ranks l m i → true ≡ true ↔ (1 ≤ l → IsRanked ranks l (label_view m))
+all_params_ranked ranks l i m le h = (λ e one j x at. let less = slice_get_within m.params.items j x at in h j x (omega arith) at, λ k. refl)
+
+pub first_ranked : (ranks : List (Vec ℕ Global)) (l : ℕ) (m : FlowLabel) → l ≡ 0 → true ≡ true ↔ (1 ≤ l → IsRanked ranks l (label_view m))
+first_ranked ranks l m e = (λ t one. absurd (omega arith), λ k. refl)
 
 -- the labels in front of one
 abbrev pub AllRankedTo : List (Vec ℕ Global) → List FlowLabel → ℕ → Type 0
 AllRankedTo ranks labels i = (l : ℕ) (m : FlowLabel) → l < i → 1 ≤ l → slice_get labels l ≡ Some m → IsRanked ranks l (label_view m)
 
-labels_more : (ranks : List (Vec ℕ Global)) (labels : List FlowLabel) (i : ℕ) (y d : FlowLabel) → y ≡ get_or labels i d → (1 ≤ i → IsRanked ranks i (label_view y)) → AllRankedTo ranks labels i → AllRankedTo ranks labels (i + 1)
+pub labels_more : (ranks : List (Vec ℕ Global)) (labels : List FlowLabel) (i : ℕ) (y d : FlowLabel) → y ≡ get_or labels i d → (1 ≤ i → IsRanked ranks i (label_view y)) → AllRankedTo ranks labels i → AllRankedTo ranks labels (i + 1)
 labels_more ranks labels i y d is found h =
     λ l m lt one at.
     earlier_or_last l i lt (λ less. h l m less one at)
     (λ e.
     let item : slice_get labels i ≡ Some m = sym (ap (slice_get labels) e) ∙ at in
     subst (λ z. IsRanked ranks z (label_view m)) (sym e) (subst (λ z. IsRanked ranks i (label_view z)) (sym (same_item labels i m y d item is)) (found (subst (λ z. 1 ≤ z) e one))))
-
-pub labels_next : (ranks : List (Vec ℕ Global)) (labels : List FlowLabel) (i k next : ℕ) (y d : FlowLabel) → i ≡ k → next ≡ i + 1 → y ≡ get_or labels k d → (1 ≤ i → IsRanked ranks i (label_view y)) → AllRankedTo ranks labels i → (next ≡ k + 1) × AllRankedTo ranks labels next
-labels_next ranks labels i k next y d same e is found h =
-    (omega (arith, same, e), subst (AllRankedTo ranks labels) (sym e) (labels_more ranks labels i y d (is ∙ ap (λ z. get_or labels z d) (sym same)) found h))
 
 viewed_back : (ls : List FlowLabel) (i : ℕ) (m : Label) → slice_get (map label_view ls) i ≡ Some m → (l : FlowLabel) × (slice_get ls i ≡ Some l) × (m ≡ label_view l)
 viewed_back [] i m at = absurd (none-some m at)
@@ -145,5 +154,17 @@ labels_ranked ranks labels i le h =
     let lt : l < i = let less = slice_get_within labels l v.0 v.1 in omega arith in
     subst (IsRanked ranks l) (sym v.2) (h l v.0 lt one v.1)
 
-pub params_ranked : (ranks : List (Vec ℕ Global)) (l i : ℕ) (m : FlowLabel) → length m.params.items ≤ i → RankedTo ranks l m i → IsRanked ranks l (label_view m)
-params_ranked ranks l i m le h = λ j x at. let less = slice_get_within m.params.items j x at in h j x (omega arith) at
+viewed : (ls : List FlowLabel) (i : ℕ) (l : FlowLabel) → slice_get ls i ≡ Some l → slice_get (map label_view ls) i ≡ Some (label_view l)
+viewed [] i l at = absurd (none-some l at)
+viewed (k ∷ ls) zero l at = ap (λ z. Some (label_view z)) (same_Some k l at)
+viewed (k ∷ ls) (suc i) l at = viewed ls i l at
+
+pub all_labels_ranked : (ranks : List (Vec ℕ Global)) (labels : List FlowLabel) (i : ℕ) → length labels ≤ i → AllRankedTo ranks labels i → true ≡ true ↔ AreRanked ranks (map label_view labels)
+all_labels_ranked ranks labels i le h = (λ e. labels_ranked ranks labels i le h, λ k. refl)
+
+-- a label that isn't ranked
+pub not_all_ranked : (ranks : List (Vec ℕ Global)) (labels : List FlowLabel) (i : ℕ) (y d : FlowLabel) (b : Bool) → i < length labels → y ≡ get_or labels i d → b ≡ true ↔ (1 ≤ i → IsRanked ranks i (label_view y)) → b ≡ false → false ≡ true ↔ AreRanked ranks (map label_view labels)
+not_all_ranked ranks labels i y d b lt is found fails = (
+  λ e. absurd (false≢true e),
+  λ h. absurd (false≢true (sym fails ∙ found.1 (λ one. h i (label_view y) one (viewed labels i y (slice_get-get_or labels i d lt ∙ ap Some (sym is)))))),
+)

@@ -1,6 +1,6 @@
 // Whether all parameters are wanted.
 
-ghost use Rattle.std.specs.Prelude.{◌≡◌, ℕ, ◌<◌, ◌≤◌, true, Some, map, slice_get, slice_index_or};
+ghost use Rattle.std.specs.Prelude.{◌≡◌, ◌↔◌, ℕ, ◌<◌, ◌≤◌, true, Some, map, slice_get, slice_index_or};
 ghost use Rattle.nv_base.specs.declared.term.Atom.TheVariants.{Var};
 ghost use Rattle.flow_ir.specs.View.{tree_view, label_view};
 ghost use Rattle.flow_prune.specs.inner.Ranked.{rank_at, IsFound, IsRanked, AreRanked};
@@ -18,10 +18,10 @@ fn entry(row: &[u32], j: usize) -> u32
 
 // The rank of a parameter.
 #[tactic(auto, using(crate::proofs::Ranks::rank_none))]
-fn rank_of(ranks: &[Vec<u32>], l: u32, j: usize) -> u32
+fn rank_of(ranks: &[Vec<u32>], l: usize, j: usize) -> u32
     ensures { result ≡ rank_at ranks.now l j }
 {
-    match ranks.get(l as usize) {
+    match ranks.get(l) {
         Some(row) => entry(row, j),
         None => 0,
     }
@@ -29,10 +29,10 @@ fn rank_of(ranks: &[Vec<u32>], l: u32, j: usize) -> u32
 
 // Whether x is among words that are handed on to label k, for a parameter of a lower rank.
 fn is_handed(ranks: &[Vec<u32>], rank: u32, x: u32, k: u32, words: &[Atom]) -> bool
-    ensures { result ≡ true → (j : ℕ) × (slice_get words.now j ≡ Some (Var x)) × (rank_at ranks.now k j < rank) }
+    ensures { result ≡ true ↔ ((j : ℕ) × (slice_get words.now j ≡ Some (Var x)) × (rank_at ranks.now k j < rank)) }
 {
     for (j, a) in words.iter().enumerate() {
-        if in_atom(x, *a) && rank_of(ranks, k, j) < rank {
+        if in_atom(x, *a) && rank_of(ranks, k as usize, j) < rank {
             return true;
         }
     }
@@ -41,7 +41,7 @@ fn is_handed(ranks: &[Vec<u32>], rank: u32, x: u32, k: u32, words: &[Atom]) -> b
 
 // Whether a tree uses x, or hands it on for a parameter of a lower rank.
 fn is_found(ranks: &[Vec<u32>], rank: u32, x: u32, t: &Tree) -> bool
-    ensures { result ≡ true → IsFound ranks.now rank x (tree_view t.now) }
+    ensures { result ≡ true ↔ IsFound ranks.now rank x (tree_view t.now) }
 {
     let mut cur = t;
     'spine: loop {
@@ -77,8 +77,8 @@ fn is_found(ranks: &[Vec<u32>], rank: u32, x: u32, t: &Tree) -> bool
 }
 
 // Whether a label wants each of its parameters. Label 0 need not.
-fn is_ranked(ranks: &[Vec<u32>], i: u32, l: &Label) -> bool
-    ensures { result ≡ true → 1 ≤ i → IsRanked ranks.now i (label_view l.now) }
+fn is_ranked(ranks: &[Vec<u32>], i: usize, l: &Label) -> bool
+    ensures { result ≡ true ↔ (1 ≤ i → IsRanked ranks.now i (label_view l.now)) }
 {
     if i == 0 {
         return true;
@@ -93,16 +93,11 @@ fn is_ranked(ranks: &[Vec<u32>], i: u32, l: &Label) -> bool
 
 /// Whether each label but 0 does.
 pub fn are_ranked(ranks: &[Vec<u32>], labels: &[Label]) -> bool
-    ensures { result ≡ true → AreRanked ranks.now (map label_view labels.now) }
+    ensures { result ≡ true ↔ AreRanked ranks.now (map label_view labels.now) }
 {
-    let mut i: u32 = 0;
-    for l in labels {
+    for (i, l) in labels.iter().enumerate() {
         if !is_ranked(ranks, i, l) {
             return false;
-        }
-        match i.checked_add(1) {
-            Some(next) => i = next,
-            None => return false,
         }
     }
     true

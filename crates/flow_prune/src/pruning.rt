@@ -1,6 +1,6 @@
 // Labels without their parameters that go.
 
-ghost use Rattle.std.specs.Prelude.{◌≡◌, true, [], IfOk, map, slice_get};
+ghost use Rattle.std.specs.Prelude.{◌≡◌, ◌↔◌, true, [], IfOk, map, slice_get};
 ghost use Rattle.nv_base.specs.Sets.{is_in, without};
 ghost use Rattle.flow_ir.specs.View.{tree_view, label_view};
 ghost use Rattle.cps_rules.specs.Simplified.{uses};
@@ -41,7 +41,7 @@ fn is_gone(gone: &[u32], p: u32) -> bool
 
 /// Whether the parameters of label 0 stay.
 pub fn keeps_first(table: &[Vec<u32>]) -> bool
-    ensures { result ≡ true → gone_of table.now 0 ≡ [] }
+    ensures { result ≡ true ↔ gone_of table.now 0 ≡ [] }
 {
     match table.get(0) {
         Some(row) => row.is_empty(),

@@ -1,9 +1,11 @@
-use Rattle.std.proofs.Common.{arith}
-use Rattle.flow_prune.proofs.Ranks.{labels_next, labels_ranked}
+use Rattle.flow_prune.proofs.Ranks.{labels_more, not_all_ranked, all_labels_ranked}
 use Rattle.flow_prune.proofs.checks.are_ranked.Goals as goal
 
-pub loop-l-preserved : goal.loop-l-preserved
-loop-l-preserved c = labels_next _ _ c.loop-l.i c.loop-l.l-index c.in-Some.next c.l-item.result c.l-item.result c.loop-l.invariant.0 c.in-Some.ensures.1 c.l-item.is (λ one. c.is_ranked.ensures c.if-not-is_ranked.false one) c.loop-l.invariant.1
+pub loop-i-preserved : goal.loop-i-preserved
+loop-i-preserved c = labels_more _ _ c.loop-i.i c.index-labels-i.result c.index-labels-i.result c.index-labels-i.is (c.is_ranked.ensures.0 c.if-not-is_ranked.false) c.loop-i.invariant
+
+pub returns-then-not-is_ranked : goal.returns-then-not-is_ranked
+returns-then-not-is_ranked c = not_all_ranked _ _ c.loop-i.i c.index-labels-i.result c.index-labels-i.result _ c.loop-i-test.true c.index-labels-i.is c.is_ranked.ensures c.if-not-is_ranked.true
 
 pub returns : goal.returns
-returns c = λ e. labels_ranked _ c.args.labels.now c.loop-l.i (let same = c.loop-l.invariant.0 in omega (arith, same, c.loop-l-test.false)) c.loop-l.invariant.1
+returns c = all_labels_ranked _ _ c.loop-i.i c.loop-i-test.false c.loop-i.invariant

@@ -6,13 +6,13 @@ use Rattle.flow_prune.proofs.Contracted.{still_contracted}
 use Rattle.flow_prune.proofs.program.without_gone.Goals as goal
 
 pub invariant_of-result : goal.invariant_of-result
-invariant_of-result c = record { formed = flow_formed (map label_view c.args.f.now.labels.items) (map label_view c.in_ok-labels.labels.items) (gone_of c.args.table.now) (c.keeps_first.ensures c.if-not-keeps_first.false) (pruned_at _ _ _ _ c.in_ok-labels.ensures c.deref.ensures.value) c.args.f.now.formed }
+invariant_of-result c = record { formed = flow_formed (map label_view c.args.f.now.labels.items) (map label_view c.in_ok-labels.labels.items) (gone_of c.args.table.now) (c.keeps_first.ensures.0 c.if-not-keeps_first.false) (pruned_at _ _ _ _ c.in_ok-labels.ensures c.deref.ensures.value) c.args.f.now.formed }
 
 pub returns-clause-params : goal.returns-clause-params
-returns-clause-params c = same_params (map label_view c.args.f.now.labels.items) (gone_of c.args.table.now) 0 (map label_view c.args.f.now.labels.items) (map label_view c.in_ok-labels.labels.items) (c.keeps_first.ensures c.if-not-keeps_first.false) (pruned_at _ _ _ _ c.in_ok-labels.ensures c.deref.ensures.value)
+returns-clause-params c = same_params (map label_view c.args.f.now.labels.items) (gone_of c.args.table.now) 0 (map label_view c.args.f.now.labels.items) (map label_view c.in_ok-labels.labels.items) (c.keeps_first.ensures.0 c.if-not-keeps_first.false) (pruned_at _ _ _ _ c.in_ok-labels.ensures c.deref.ensures.value)
 
 pub returns-clause-equal : goal.returns-clause-equal
-returns-clause-equal c = flow_same (map label_view c.args.f.now.labels.items) (map label_view c.in_ok-labels.labels.items) (gone_of c.args.table.now) (c.keeps_first.ensures c.if-not-keeps_first.false) (pruned_at _ _ _ _ c.in_ok-labels.ensures c.deref.ensures.value)
+returns-clause-equal c = flow_same (map label_view c.args.f.now.labels.items) (map label_view c.in_ok-labels.labels.items) (gone_of c.args.table.now) (c.keeps_first.ensures.0 c.if-not-keeps_first.false) (pruned_at _ _ _ _ c.in_ok-labels.ensures c.deref.ensures.value)
 
 pub returns-clause-wide : goal.returns-clause-wide
 returns-clause-wide c = flow_wide (map label_view c.args.f.now.labels.items) (gone_of c.args.table.now) 0 (map label_view c.args.f.now.labels.items) (map label_view c.in_ok-labels.labels.items) (pruned_at _ _ _ _ c.in_ok-labels.ensures c.deref.ensures.value)
