@@ -16,8 +16,8 @@ use Rattle.ssu_ir.specs.Slots.{bodies}
 use Rattle.ssu_ir.specs.View.{with_bodies}
 use Rattle.ssu_ir.specs.Tree as ssu
 use Rattle.ssu_make.specs.declared.tree.Part.{Part}
-use Rattle.ssu_make.specs.inner.Uses.{Counts, occurs, all_uses}
-use Rattle.ssu_make.specs.inner.Made.{names, all_taken, literals, clones, IsMade}
+use Rattle.ssu_make.specs.Uses.{Counts, occurs, all_uses}
+use Rattle.ssu_make.specs.Made.{names, all_taken, literals, clones, IsMade}
 use Rattle.ssu_make.specs.inner.Making.{HasRoots, IsRoot, Becomes, tops, Builds, Stacked}
 
 -- ---- functions that are equal everywhere

@@ -10,8 +10,8 @@ use Rattle.nv_base.specs.Sets.{is_in}
 use Rattle.nv_base.proofs.Sets.{same-number, in-later}
 use Rattle.ssu_ir.specs.Tree as ssu
 use Rattle.ssu_ir.specs.Meaning.{Next, does, assigned_each}
-use Rattle.ssu_make.specs.inner.Uses.{Counts, outside}
-use Rattle.ssu_make.specs.inner.Made.{value, clone_step, clones}
+use Rattle.ssu_make.specs.Uses.{Counts, outside}
+use Rattle.ssu_make.specs.Made.{value, clone_step, clones}
 use Rattle.ssu_make.proofs.Assigned.{same-test, assigned-same, assigned-other, each-outside, each-inside}
 use Rattle.ssu_make.proofs.Literals.{Agrees}
 

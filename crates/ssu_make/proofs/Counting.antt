@@ -4,7 +4,7 @@ use Rattle.std.specs.List.{range_with_len}
 use Rattle.std.proofs.lemmas.Bool.{false≢true, and_parts, and_from, or_cases, or_left, or_right, cases_eq, cases_lt, eq-eqb, not-true, not_from_false, false_from_ne_true}
 use Rattle.nv_base.specs.Sets.{is_in, all_different}
 use Rattle.nv_base.proofs.Sets.{same-number}
-use Rattle.ssu_make.specs.inner.Uses.{Counts}
+use Rattle.ssu_make.specs.Uses.{Counts}
 use Rattle.ssu_make.proofs.Assigned.{same-test}
 
 -- 1 where a number is at least a, else 0

@@ -16,8 +16,8 @@ use Rattle.nv_base.proofs.Sets.{within-left, within-right}
 use Rattle.flow_ir.specs.Tree.{Tree, Let, Read, Write, If, Jump, Halt, Label}
 use Rattle.flow_ir.specs.Meaning as flow
 use Rattle.flow_ir.specs.Formed.{defined, is_formed, is_label}
-use Rattle.ssu_make.specs.inner.Uses.{Counts, occurs, operands, outside, uses, all_uses}
-use Rattle.ssu_make.specs.inner.Made.{value, names, clones, prim_step, spent, most, made, Laid, variables, IsMade, AllMade}
+use Rattle.ssu_make.specs.Uses.{Counts, occurs, operands, outside, uses, all_uses}
+use Rattle.ssu_make.specs.Made.{value, names, clones, prim_step, spent, most, made, Laid, variables, IsMade, AllMade}
 use Rattle.ssu_ir.specs.Tree as ssu
 use Rattle.ssu_ir.specs.Meaning.{Next, does, enter, run, blank, ssu_meaning}
 use Rattle.ssu_make.proofs.Literals.{Agrees, literals_env, literals-do, names-words, agrees-behind}

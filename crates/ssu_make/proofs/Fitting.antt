@@ -12,8 +12,8 @@ use Rattle.nv_base.specs.Sets.{is_in, Within}
 use Rattle.nv_base.proofs.Sets.{in-append, same-number, within-left, within-right, within-both}
 use Rattle.flow_ir.specs.Tree.{Tree, Let, Read, Write, If, Jump, Halt, Label}
 use Rattle.flow_ir.specs.Formed.{defined, is_formed, takes_as_many}
-use Rattle.ssu_make.specs.inner.Uses.{Counts, here, occurs, operands, outside, uses, all_uses}
-use Rattle.ssu_make.specs.inner.Made.{Laid}
+use Rattle.ssu_make.specs.Uses.{Counts, here, occurs, operands, outside, uses, all_uses}
+use Rattle.ssu_make.specs.Made.{Laid}
 use Rattle.ssu_make.proofs.Clones.{Place}
 
 -- ---- how many uses

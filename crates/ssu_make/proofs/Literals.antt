@@ -9,8 +9,8 @@ use Rattle.nv_base.proofs.WordLemmas.{word-fits}
 use Rattle.ssu_ir.specs.Tree as ssu
 use Rattle.ssu_ir.specs.Meaning.{Next, does}
 use Rattle.ssu_ir.specs.Single.{is_narrow}
-use Rattle.ssu_make.specs.inner.Uses.{Counts, here, occurs}
-use Rattle.ssu_make.specs.inner.Made.{high, low, literal, names_taken, last_taken, taken, all_taken, name, names, atom_literal, literals}
+use Rattle.ssu_make.specs.Uses.{Counts, here, occurs}
+use Rattle.ssu_make.specs.Made.{high, low, literal, names_taken, last_taken, taken, all_taken, name, names, atom_literal, literals}
 use Rattle.std.proofs.lemmas.Bool.{eq-eqb}
 use Rattle.ssu_make.proofs.Assigned.{assigned-same, assigned-other}
 

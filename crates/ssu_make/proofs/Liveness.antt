@@ -16,8 +16,8 @@ use Rattle.ssu_ir.specs.Points.{Names, used}
 use Rattle.ssu_ir.specs.Single.{is_narrow}
 use Rattle.ssu_ir.proofs.Liveness.{filter_from}
 use Rattle.ssu_ir.proofs.Lists.{image_from}
-use Rattle.ssu_make.specs.inner.Uses.{Counts, here, occurs, operands, outside, uses}
-use Rattle.ssu_make.specs.inner.Made.{literal, last_taken, names_taken, taken, all_taken, name, names, atom_literal, literals, value, clones, prim_step, spent, most, made, Laid}
+use Rattle.ssu_make.specs.Uses.{Counts, here, occurs, operands, outside, uses}
+use Rattle.ssu_make.specs.Made.{literal, last_taken, names_taken, taken, all_taken, name, names, atom_literal, literals, value, clones, prim_step, spent, most, made, Laid}
 use Rattle.ssu_make.proofs.Assigned.{same-test}
 use Rattle.ssu_make.proofs.Clones.{Place, clone_env, clones_env, clone-outside, Cloned, clone-all, value-is}
 use Rattle.ssu_make.proofs.Counting.{times, times-append, times-in, times-not, different-from}

@@ -25,8 +25,8 @@ use Rattle.ssu_ir.specs.Tree as ssu
 use Rattle.ssu_ir.proofs.Arranged.{brought}
 use Rattle.ssu_ir.proofs.Turns.{bodies-append}
 use Rattle.ssu_make.specs.declared.tree.Part.{Part}
-use Rattle.ssu_make.specs.inner.Uses.{Counts, operands, outside, uses, all_uses}
-use Rattle.ssu_make.specs.inner.Made.{names, value, high, low, literal, literals, atom_literal, clone_step, clones, prim_step, made, made_let, made_read, made_write, made_if, made_jump, made_halt, Laid, variables, IsMade, AllMade}
+use Rattle.ssu_make.specs.Uses.{Counts, operands, outside, uses, all_uses}
+use Rattle.ssu_make.specs.Made.{names, value, high, low, literal, literals, atom_literal, clone_step, clones, prim_step, made, made_let, made_read, made_write, made_if, made_jump, made_halt, Laid, variables, IsMade, AllMade}
 use Rattle.ssu_make.specs.inner.Making.{counted, Becomes, Joined, Adds, MadeTo, LaidOut, LabelMade, LabelsMade}
 use Rattle.ssu_make.proofs.Along.{same-everywhere, AllMadeTo, LabelsOn}
 use Rattle.ssu_make.proofs.Turns.{becomes-node, joined-node, adds-node, becomes-trans, joined-becomes, adds-becomes}

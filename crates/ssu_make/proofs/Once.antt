@@ -15,8 +15,8 @@ use Rattle.flow_ir.specs.Formed.{is_formed, is_label, defined}
 use Rattle.ssu_ir.specs.Tree as ssu
 use Rattle.ssu_ir.specs.Single.{is_narrow, step_names, are_new, uses_once, all_defined}
 use Rattle.ssu_ir.specs.Single as single
-use Rattle.ssu_make.specs.inner.Uses.{Counts, here, occurs, operands, outside, uses, all_uses}
-use Rattle.ssu_make.specs.inner.Made.{literal, names_taken, last_taken, taken, all_taken, name, names, atom_literal, literals, value, clone_step, clones, prim_step, spent, most, made, Laid, variables, IsMade, AllMade}
+use Rattle.ssu_make.specs.Uses.{Counts, here, occurs, operands, outside, uses, all_uses}
+use Rattle.ssu_make.specs.Made.{literal, names_taken, last_taken, taken, all_taken, name, names, atom_literal, literals, value, clone_step, clones, prim_step, spent, most, made, Laid, variables, IsMade, AllMade}
 use Rattle.ssu_make.proofs.Assigned.{same-test}
 use Rattle.ssu_make.proofs.Fitting.{uses-all, operands-known, all-one, let-parts, read-parts, write-parts, if-parts, jump-parts, halt-parts}
 use Rattle.ssu_make.proofs.Counting.{from_on, lies, lies-more, times, times-append, times-in, times-not, different-from, different-times, times-stretch, lies_all, lies_all-append, lies_all-least, lies_all-none, lies_all-once, lies_all-more}

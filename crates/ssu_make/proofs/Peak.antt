@@ -19,8 +19,8 @@ use Rattle.ssu_ir.specs.Points.{Names, Point, own, used, live_of, tree_points, p
 use Rattle.ssu_ir.specs.Measures.{most_held, peak}
 use Rattle.ssu_ir.specs.Single.{is_narrow}
 use Rattle.ssu_ir.proofs.Lists.{image_from}
-use Rattle.ssu_make.specs.inner.Uses.{Counts, here, occurs, operands, outside, uses, all_uses}
-use Rattle.ssu_make.specs.inner.Made.{literal, last_taken, names_taken, taken, all_taken, name, names, atom_literal, literals, value, clone_step, clones, prim_step, spent, most, made, Laid, variables, IsMade, AllMade}
+use Rattle.ssu_make.specs.Uses.{Counts, here, occurs, operands, outside, uses, all_uses}
+use Rattle.ssu_make.specs.Made.{literal, last_taken, names_taken, taken, all_taken, name, names, atom_literal, literals, value, clone_step, clones, prim_step, spent, most, made, Laid, variables, IsMade, AllMade}
 use Rattle.ssu_make.proofs.Assigned.{same-test}
 use Rattle.ssu_make.proofs.Clones.{clone_env, clones_env, value-is}
 use Rattle.ssu_make.proofs.Counting.{lies, lies-out, times, times-append, times-in, in-times, times-not, different-from, lies_all, lies_all-none, lies_all-once, lies_all-least}

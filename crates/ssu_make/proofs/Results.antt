@@ -16,8 +16,8 @@ use Rattle.ssu_ir.specs.Points.{Names, own, used}
 use Rattle.ssu_ir.specs.Single.{is_narrow, results_used}
 use Rattle.ssu_ir.proofs.Lists.{image_from}
 use Rattle.ssu_make.specs.Used.{lets_used}
-use Rattle.ssu_make.specs.inner.Uses.{Counts, here, occurs, operands, outside, uses, all_uses}
-use Rattle.ssu_make.specs.inner.Made.{literal, last_taken, all_taken, name, names, atom_literal, literals, value, clone_step, clones, prim_step, spent, most, made, Laid}
+use Rattle.ssu_make.specs.Uses.{Counts, here, occurs, operands, outside, uses, all_uses}
+use Rattle.ssu_make.specs.Made.{literal, last_taken, all_taken, name, names, atom_literal, literals, value, clone_step, clones, prim_step, spent, most, made, Laid}
 use Rattle.ssu_make.proofs.Assigned.{same-test}
 use Rattle.ssu_make.proofs.Clones.{clone_env, clones_env, clone-outside, clone-inside}
 use Rattle.ssu_make.proofs.Fitting.{uses-all}

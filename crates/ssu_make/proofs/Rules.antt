@@ -14,8 +14,8 @@ use Rattle.ssu_ir.specs.Single.{are_nodes, uses_once, is_scoped, clones_early, r
 use Rattle.ssu_ir.proofs.Lists.{image_from}
 use Rattle.ssu_ir.specs.Single as rules
 use Rattle.ssu_make.specs.Used.{lets_used, all_lets_used}
-use Rattle.ssu_make.specs.inner.Uses.{uses, all_uses}
-use Rattle.ssu_make.specs.inner.Made.{value, clones, made, variables, IsMade, AllMade}
+use Rattle.ssu_make.specs.Uses.{uses, all_uses}
+use Rattle.ssu_make.specs.Made.{value, clones, made, variables, IsMade, AllMade}
 use Rattle.ssu_make.proofs.Shape.{AsMany, made-nodes, clones-nodes, made-early, clones-are-early, AddressedAnyway, made-addressed, clones-addressed}
 use Rattle.ssu_make.proofs.Once.{body-once, all-different}
 use Rattle.ssu_make.proofs.Scoped.{body-scoped}

@@ -16,8 +16,8 @@ use Rattle.flow_ir.specs.Formed.{is_formed}
 use Rattle.ssu_ir.specs.Tree as ssu
 use Rattle.ssu_ir.specs.Single.{is_narrow, all_known, is_scoped}
 use Rattle.ssu_ir.proofs.Lists.{image_from}
-use Rattle.ssu_make.specs.inner.Uses.{Counts, here, occurs, operands, outside, uses}
-use Rattle.ssu_make.specs.inner.Made.{literal, last_taken, all_taken, name, names, atom_literal, literals, value, clone_step, clones, prim_step, spent, most, made}
+use Rattle.ssu_make.specs.Uses.{Counts, here, occurs, operands, outside, uses}
+use Rattle.ssu_make.specs.Made.{literal, last_taken, all_taken, name, names, atom_literal, literals, value, clone_step, clones, prim_step, spent, most, made}
 use Rattle.ssu_make.proofs.Assigned.{same-test, in-stretch}
 use Rattle.ssu_make.proofs.Fitting.{live-known}
 

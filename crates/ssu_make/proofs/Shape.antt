@@ -18,8 +18,8 @@ use Rattle.ssu_ir.specs.Tree as ssu
 use Rattle.ssu_ir.specs.Single.{is_narrow, are_nodes, clones_early, are_addressed, Numbers, numbered, fits_scratch}
 use Rattle.ssu_ir.proofs.Lists.{image_from}
 use Rattle.ssu_ir.specs.Single as single
-use Rattle.ssu_make.specs.inner.Uses.{Counts, operands, outside, uses}
-use Rattle.ssu_make.specs.inner.Made.{high, low, literal, names_taken, last_taken, taken, all_taken, names, atom_literal, literals, value, clone_step, clones, prim_step, spent, made}
+use Rattle.ssu_make.specs.Uses.{Counts, operands, outside, uses}
+use Rattle.ssu_make.specs.Made.{high, low, literal, names_taken, last_taken, taken, all_taken, names, atom_literal, literals, value, clone_step, clones, prim_step, spent, made}
 use Rattle.ssu_make.proofs.Assigned.{same-test}
 use Rattle.ssu_make.proofs.Fitting.{let-parts, read-parts, write-parts, if-parts, jump-parts, halt-parts}
 

@@ -16,8 +16,8 @@ use Rattle.ssu_ir.specs.Tree as ssu
 use Rattle.ssu_ir.specs.Single.{is_narrow}
 use Rattle.ssu_ir.specs.Measures.{node_size, step_code, tree_size, tree_code, size, labels_code, entry_code, code_bound}
 use Rattle.ssu_make.specs.Bounds.{size_bound, length_bound}
-use Rattle.ssu_make.specs.inner.Uses.{Counts, operands, outside, uses}
-use Rattle.ssu_make.specs.inner.Made.{literal, all_taken, names, atom_literal, literals, value, clone_step, clones, prim_step, spent, most, made, made_label, AllMade}
+use Rattle.ssu_make.specs.Uses.{Counts, operands, outside, uses}
+use Rattle.ssu_make.specs.Made.{literal, all_taken, names, atom_literal, literals, value, clone_step, clones, prim_step, spent, most, made, made_label, AllMade}
 use Rattle.ssu_make.proofs.Shape.{names-length}
 
 -- ---- nodes before a tree

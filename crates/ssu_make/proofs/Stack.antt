@@ -14,8 +14,8 @@ use Rattle.ssu_ir.specs.declared.build.SsuBuild.{SsuBuild}
 use Rattle.ssu_ir.specs.Build.{Holds}
 use Rattle.ssu_ir.specs.Tree as ssu
 use Rattle.ssu_make.specs.declared.tree.Part.{Part}
-use Rattle.ssu_make.specs.inner.Uses.{Counts, occurs, operands, outside, uses}
-use Rattle.ssu_make.specs.inner.Made.{all_taken, most, spent, made, made_let, made_read, made_write, made_if}
+use Rattle.ssu_make.specs.Uses.{Counts, occurs, operands, outside, uses}
+use Rattle.ssu_make.specs.Made.{all_taken, most, spent, made, made_let, made_read, made_write, made_if}
 use Rattle.ssu_make.specs.inner.Making.{counted, HasRoots, IsRoot, AreRoots, Becomes, Joined, MadeTo, successor_list, tops, Builds, next_after, roots_of, AreCounted, Stacked, CanMake, IsOver}
 use Rattle.ssu_make.proofs.Along.{same-everywhere, OnWay}
 use Rattle.ssu_make.proofs.Turns.{tops-last}

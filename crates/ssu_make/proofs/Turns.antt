@@ -14,8 +14,8 @@ use Rattle.ssu_ir.specs.declared.node.SsuNode.{SsuNode}
 use Rattle.ssu_ir.specs.Build.{Holds, CanTake, Grown}
 use Rattle.ssu_ir.specs.Slots.{over, node_of, successors_of}
 use Rattle.ssu_ir.specs.Tree as ssu
-use Rattle.ssu_make.specs.inner.Uses.{Counts, here, occurs, all_uses}
-use Rattle.ssu_make.specs.inner.Made.{name, names, taken, all_taken, literals, atom_literal, clone_step, clones}
+use Rattle.ssu_make.specs.Uses.{Counts, here, occurs, all_uses}
+use Rattle.ssu_make.specs.Made.{name, names, taken, all_taken, literals, atom_literal, clone_step, clones}
 use Rattle.ssu_make.specs.inner.Making.{HasRoots, IsRoot, AreRoots, Becomes, Joined, Adds, tops, successor_list, node_operands, node_defined}
 use Rattle.ssu_make.proofs.Along.{same-everywhere, Named, LiteralsOn, ClonesOn, weight, weights, sum_uses, defined_in, Surveys}
 

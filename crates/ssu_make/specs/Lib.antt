@@ -1,3 +1,5 @@
 pub mod Bounds
+pub mod Made
 pub mod Used
+pub mod Uses
 pub mod inner

@@ -1,3 +1,1 @@
-pub mod Uses
-pub mod Made
 pub mod Making

@@ -4,7 +4,7 @@ ghost use Rattle.std.specs.Prelude.{◌≡◌, ℕ, ◌+◌, ◌≤◌, ◌++◌
 ghost use Rattle.flow_ir.specs.Formed.{defined};
 ghost use Rattle.flow_ir.specs.View.{tree_view};
 ghost use Rattle.ssu_make.specs.inner.Making.{counted, tops, successor_list, node_operands, node_defined, LaidOut};
-ghost use Rattle.ssu_make.specs.inner.Uses.{here, occurs, all_uses};
+ghost use Rattle.ssu_make.specs.Uses.{here, occurs, all_uses};
 
 use crate::counts::Counts;
 use crate::naming::plus;

@@ -2,7 +2,7 @@
 
 ghost use Rattle.std.specs.Prelude.{◌≡◌, ℕ, ◌<◌, max, nat_eq, true, IfOk, OnOk, if◌then◌else◌};
 ghost use Rattle.nv_base.specs.Sets.{is_in};
-ghost use Rattle.ssu_make.specs.inner.Uses.{kept, outside};
+ghost use Rattle.ssu_make.specs.Uses.{kept, outside};
 
 use nv_base::NoMemory;
 use std::alloc::Global;

@@ -4,9 +4,9 @@ ghost use Rattle.std.specs.Prelude.{◌≡◌, ℕ, ◌+◌, ◌<◌, ◌^◌, m
 ghost use Rattle.nv_base.specs.declared.term.Atom.TheVariants.{Var, Lit};
 ghost use Rattle.ssu_ir.specs.Single.{is_narrow};
 ghost use Rattle.ssu_make.specs.inner.Making.{counted};
-ghost use Rattle.ssu_make.specs.inner.Made.{name, names, value, all_taken};
-ghost use Rattle.ssu_make.specs.inner.Made as made;
-ghost use Rattle.ssu_make.specs.inner.Uses.{here, occurs};
+ghost use Rattle.ssu_make.specs.Made.{name, names, value, all_taken};
+ghost use Rattle.ssu_make.specs.Made as made;
+ghost use Rattle.ssu_make.specs.Uses.{here, occurs};
 
 use crate::counts::Counts;
 use nv_base::{Atom, NoMemory};

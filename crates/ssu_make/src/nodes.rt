@@ -4,7 +4,7 @@ ghost use Rattle.std.specs.Prelude.{◌≡◌, ◌+◌, ◌<◌, ◌^◌, false,
 ghost use Rattle.std.specs.List.{range_with_len};
 ghost use Rattle.nv_base.specs.declared.term.Atom.TheVariants.{Lit};
 ghost use Rattle.ssu_make.specs.inner.Making.{counted, IsRoot, Becomes};
-ghost use Rattle.ssu_make.specs.inner.Made as made;
+ghost use Rattle.ssu_make.specs.Made as made;
 
 use crate::counts::Counts;
 use crate::naming::{is_literal, plus, taken};

@@ -12,6 +12,7 @@ ghost use Rattle.ssu_ir.specs.Measures.{peak, size, code_bound};
 ghost use Rattle.ssu_ir.specs.Single.{single};
 ghost use Rattle.ssu_ir.specs.View.{labels_view};
 ghost use Rattle.ssu_make.specs.Bounds.{size_bound, length_bound};
+ghost use Rattle.ssu_make.specs.Made.{AllMade};
 ghost use Rattle.ssu_make.specs.Used.{all_lets_used};
 ghost use Rattle.ssu_make.specs.inner.Making.{HasRoots, LabelMade, LabelsMade};
 
@@ -24,10 +25,12 @@ use nv_base::NoMemory;
 use ssu_ir::{Ssu, SsuBuild, SsuLabel};
 use std::alloc::Global;
 
-/// The single-use form of a flow. Memory exhaustion is also the answer where 2^32 names or nodes would
-/// be needed.
+/// The single-use form of a flow: its labels in order, and in each the nodes of its tree, in order, with literals before
+/// the node that uses them, and clones after the node that defines a value of several uses. It has no other nodes.
+/// Memory exhaustion is also the answer where 2^32 names or nodes would be needed.
 pub fn make(alloc: Global, f: &Flow) -> Result<Ssu, NoMemory>
     requires { all_lets_used (map label_view f.now.labels.items) ≡ true }
+    ensures made { IfOk result (λ s. AllMade 0 (map label_view f.now.labels.items) (labels_view s)) }
     ensures params { IfOk result (λ s. flow_params (map label_view f.now.labels.items) ≡ ssu_params (labels_view s)) }
     ensures equal { IfOk result (λ s. AreEqual (flow_params (map label_view f.now.labels.items)) (flow_meaning (map label_view f.now.labels.items)) (ssu_meaning (labels_view s))) }
     ensures single { IfOk result (λ s. single (labels_view s) ≡ true) }

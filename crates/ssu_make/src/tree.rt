@@ -5,9 +5,9 @@ ghost use Rattle.flow_ir.specs.View.{tree_view};
 ghost use Rattle.ssu_ir.specs.Tree as ssu;
 ghost use Rattle.ssu_ir.specs.Slots.{node_of, successors_of};
 ghost use Rattle.ssu_make.specs.inner.Making.{counted, HasRoots, IsRoot, AreRoots, Becomes, Joined, Adds, MadeTo, tops, successor_list, Builds, CanMake, IsOver};
-ghost use Rattle.ssu_make.specs.inner.Made.{all_taken, most, spent, made, made_let, made_read, made_write, made_if, made_jump, made_halt, prim_step};
-ghost use Rattle.ssu_make.specs.inner.Uses.{occurs, outside, uses};
-ghost use Rattle.ssu_make.specs.inner.Uses as spec;
+ghost use Rattle.ssu_make.specs.Made.{all_taken, most, spent, made, made_let, made_read, made_write, made_if, made_jump, made_halt, prim_step};
+ghost use Rattle.ssu_make.specs.Uses.{occurs, outside, uses};
+ghost use Rattle.ssu_make.specs.Uses as spec;
 
 use crate::counts::Counts;
 use crate::naming::{operands, value_name, values};

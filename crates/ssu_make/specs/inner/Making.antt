@@ -13,9 +13,9 @@ use Rattle.ssu_ir.specs.Tree as ssu
 use Rattle.ssu_ir.specs.View.{with_bodies}
 use Rattle.ssu_make.specs.declared.counts.Counts.{Counts}
 use Rattle.ssu_make.specs.declared.tree.Part.{Part}
-use Rattle.ssu_make.specs.inner.Uses as number
-use Rattle.ssu_make.specs.inner.Uses.{kept, operands, uses}
-use Rattle.ssu_make.specs.inner.Made.{spent, made, Laid, IsMade, AllMade}
+use Rattle.ssu_make.specs.Uses as number
+use Rattle.ssu_make.specs.Uses.{kept, operands, uses}
+use Rattle.ssu_make.specs.Made.{spent, made, Laid, IsMade, AllMade}
 
 -- the numbers
 abbrev pub counted : Counts → number.Counts

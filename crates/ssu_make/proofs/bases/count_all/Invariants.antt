@@ -1,6 +1,6 @@
 use Rattle.std.proofs.Common.{◌≡◌, ℕ, ◌+◌, drop}
 use Rattle.ssu_make.specs.inner.Making.{counted}
-use Rattle.ssu_make.specs.inner.Uses.{occurs}
+use Rattle.ssu_make.specs.Uses.{occurs}
 use Rattle.ssu_make.proofs.bases.count_all.Given as goal
 
 abbrev pub invariant-loop-a : goal.invariant-loop-a

@@ -1,6 +1,6 @@
 use Rattle.std.proofs.Common.{◌≡◌, map, take}
 use Rattle.ssu_make.specs.inner.Making.{counted}
-use Rattle.ssu_make.specs.inner.Made.{value}
+use Rattle.ssu_make.specs.Made.{value}
 use Rattle.ssu_make.proofs.naming.values.Given as goal
 
 abbrev pub invariant-loop-x : goal.invariant-loop-x

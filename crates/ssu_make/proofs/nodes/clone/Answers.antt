@@ -5,7 +5,7 @@ use Rattle.ssu_ir.specs.Build.{Grown}
 use Rattle.std.proofs.Common.{nat_lt}
 use Rattle.ssu_ir.specs.declared.node.SsuNode.TheVariants.{Clone}
 use Rattle.ssu_make.specs.inner.Making.{Becomes}
-use Rattle.ssu_make.specs.inner.Made.{clone_step}
+use Rattle.ssu_make.specs.Made.{clone_step}
 use Rattle.ssu_make.proofs.Turns.{can-take-one}
 use Rattle.ssu_make.proofs.NodeForms.{clone-becomes}
 use Rattle.ssu_make.proofs.nodes.clone.Goals as goal

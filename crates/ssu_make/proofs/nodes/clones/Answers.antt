@@ -1,6 +1,6 @@
 use Rattle.std.proofs.Common.{◌≡◌, ◌-◌, nat_lt, get_or, drop, refl, subst, arith}
 use Rattle.ssu_make.specs.inner.Making.{counted, Becomes}
-use Rattle.ssu_make.specs.inner.Made.{clones, clone_step}
+use Rattle.ssu_make.specs.Made.{clones, clone_step}
 use Rattle.ssu_make.proofs.Along.{clones-start}
 use Rattle.ssu_make.proofs.Turns.{clones-more}
 use Rattle.ssu_make.proofs.nodes.clones.Goals as goal

@@ -4,7 +4,7 @@ use Rattle.ssu_ir.specs.Build.{Grown}
 use Rattle.nv_base.specs.declared.term.Atom.TheVariants as atom
 use Rattle.ssu_ir.specs.declared.node.SsuNode.TheVariants.{Lit}
 use Rattle.ssu_make.specs.inner.Making.{Becomes}
-use Rattle.ssu_make.specs.inner.Made as made
+use Rattle.ssu_make.specs.Made as made
 use Rattle.ssu_make.proofs.Turns.{can-take-one}
 use Rattle.ssu_make.proofs.NodeForms.{narrow-becomes}
 use Rattle.ssu_make.proofs.nodes.literal.Goals as goal

@@ -1,7 +1,7 @@
 use Rattle.std.proofs.Common.{◌≡◌, ◌+◌, ◌-◌, get_or, drop, refl, ap, subst, ◌∙◌, arith}
 use Rattle.nv_base.specs.declared.term.Atom.TheVariants.{Var}
 use Rattle.ssu_make.specs.inner.Making.{Becomes}
-use Rattle.ssu_make.specs.inner.Made.{literals}
+use Rattle.ssu_make.specs.Made.{literals}
 use Rattle.ssu_make.proofs.Along.{literals-start}
 use Rattle.ssu_make.proofs.Turns.{literals-more}
 use Rattle.ssu_make.proofs.nodes.literals.Goals as goal

@@ -5,8 +5,8 @@ use Rattle.ssu_ir.specs.Build.{Grown}
 use Rattle.ssu_ir.specs.declared.node.SsuNode.TheVariants.{Lit, Bin}
 use Rattle.ssu_ir.specs.Tree as ssu
 use Rattle.ssu_make.specs.inner.Making.{Becomes}
-use Rattle.ssu_make.specs.inner.Made.{high, low}
-use Rattle.ssu_make.specs.inner.Made as made
+use Rattle.ssu_make.specs.Made.{high, low}
+use Rattle.ssu_make.specs.Made as made
 use Rattle.ssu_make.proofs.Turns.{can-take-one, becomes-node, becomes-root}
 use Rattle.ssu_make.proofs.NodeForms.{wide-becomes}
 use Rattle.ssu_make.proofs.nodes.wide_literal.Goals as goal

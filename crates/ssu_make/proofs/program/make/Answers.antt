@@ -11,6 +11,9 @@ use Rattle.ssu_make.proofs.Peak.{peak-of}
 use Rattle.ssu_make.proofs.Sizes.{size-made, code-made}
 use Rattle.ssu_make.proofs.program.make.Goals as goal
 
+pub returns-clause-made : goal.returns-clause-made
+returns-clause-made c = whole-made (map label_view c.deref.result.now) (map label_view c.args.f.now.labels.items) c.in_ok-labels.labels.items c.make_labels.new.build (labels_view c.finish.result) c.in_ok-labels.ensures c.finish.ensures.trees (ap (map label_view) c.deref.ensures.value)
+
 pub returns-clause-params : goal.returns-clause-params
 returns-clause-params c = same-params 0 _ _ (whole-made (map label_view c.deref.result.now) (map label_view c.args.f.now.labels.items) c.in_ok-labels.labels.items c.make_labels.new.build (labels_view c.finish.result) c.in_ok-labels.ensures c.finish.ensures.trees (ap (map label_view) c.deref.ensures.value))
 

@@ -2,7 +2,7 @@ use Rattle.std.proofs.Common.{◌++◌, map, ap, subst, ◌∙◌}
 use Rattle.flow_ir.specs.Formed.{defined}
 use Rattle.flow_ir.specs.View.{tree_view, label_view}
 use Rattle.ssu_make.specs.inner.Making.{counted, Becomes}
-use Rattle.ssu_make.specs.inner.Made.{value, clones}
+use Rattle.ssu_make.specs.Made.{value, clones}
 use Rattle.ssu_make.proofs.Turns.{adds-root}
 use Rattle.ssu_make.proofs.NodeForms.{label-made}
 use Rattle.ssu_make.proofs.program.make_label.Goals as goal

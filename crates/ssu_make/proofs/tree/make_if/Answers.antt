@@ -2,7 +2,7 @@ use Rattle.std.proofs.Common.{length, refl, ap, arith}
 use Rattle.std.proofs.lemmas.List.{get_or_read}
 use Rattle.ssu_ir.specs.declared.node.SsuNode.TheVariants.{If}
 use Rattle.ssu_make.specs.inner.Making.{counted}
-use Rattle.ssu_make.specs.inner.Made.{most}
+use Rattle.ssu_make.specs.Made.{most}
 use Rattle.ssu_make.proofs.Turns.{can-take-two, joined-node, joined-root}
 use Rattle.ssu_make.proofs.NodeForms.{if-made}
 use Rattle.ssu_make.proofs.tree.make_if.Goals as goal

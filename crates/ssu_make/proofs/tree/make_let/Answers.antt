@@ -1,6 +1,6 @@
 use Rattle.std.proofs.Common.{ap, subst, ◌∙◌}
 use Rattle.ssu_make.specs.inner.Making.{counted, Becomes}
-use Rattle.ssu_make.specs.inner.Made.{names, literals}
+use Rattle.ssu_make.specs.Made.{names, literals}
 use Rattle.ssu_make.proofs.Turns.{can-take-one, becomes-node, becomes-root}
 use Rattle.ssu_make.proofs.NodeForms.{let-made}
 use Rattle.ssu_make.proofs.tree.make_let.Goals as goal

@@ -3,7 +3,7 @@ use Rattle.std.proofs.lemmas.List.{get_or_read}
 use Rattle.ssu_ir.specs.declared.node.SsuNode.TheVariants.{Write}
 use Rattle.ssu_ir.specs.Tree as ssu
 use Rattle.ssu_make.specs.inner.Making.{counted, Becomes}
-use Rattle.ssu_make.specs.inner.Made.{names, literals}
+use Rattle.ssu_make.specs.Made.{names, literals}
 use Rattle.ssu_make.proofs.Along.{words-rest}
 use Rattle.ssu_make.proofs.Turns.{can-take-one, becomes-node, becomes-root}
 use Rattle.ssu_make.proofs.NodeForms.{write-made}

@@ -1,5 +1,5 @@
 use Rattle.std.proofs.Common.{◌≡◌, ℕ, drop}
-use Rattle.ssu_make.specs.inner.Uses.{kept, outside}
+use Rattle.ssu_make.specs.Uses.{kept, outside}
 use Rattle.ssu_make.proofs.counts.Counts.forget.Given as goal
 
 abbrev pub invariant-loop-x : goal.invariant-loop-x

@@ -1,6 +1,6 @@
 use Rattle.std.proofs.Common.{◌≡◌, ℕ, ◌+◌, max, nat_eq, get_or, length, take, ap, subst, sym, ◌∙◌, if◌then◌else◌, arith}
 use Rattle.std.proofs.lemmas.List.{take_more, take_all}
-use Rattle.ssu_make.specs.inner.Uses.{kept}
+use Rattle.ssu_make.specs.Uses.{kept}
 use Rattle.ssu_make.proofs.Along.{Raised, raised-more, raised-all}
 use Rattle.ssu_make.proofs.counts.Counts.raised.Goals as goal
 

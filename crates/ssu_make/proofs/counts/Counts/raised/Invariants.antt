@@ -1,5 +1,5 @@
 use Rattle.std.proofs.Common.{take}
-use Rattle.ssu_make.specs.inner.Uses.{kept}
+use Rattle.ssu_make.specs.Uses.{kept}
 use Rattle.ssu_make.proofs.Along.{Raised}
 use Rattle.ssu_make.proofs.counts.Counts.raised.Given as goal
 

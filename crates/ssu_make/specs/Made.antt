@@ -1,5 +1,5 @@
 -- The single use form of a tree. Each variable x has consecutive names from `base x` on: the use after which k uses follow on the fullest path has
--- the name `base x + k`. A value that is used twice or more has the name behind those of its copies, and its clones directly after its
+-- the name `base x + k`. A value that is used twice or more has the name after those of its clones, and its clones directly after its
 -- definition. Literals are made directly before their node, under new names, which are numbered from the end of the tree upwards.
 use Rattle.std.specs.Prelude.{◌≡◌, ℕ, ◌+◌, ◌*◌, ◌/◌, ◌%◌, ◌<◌, ◌≤◌, max, nat_lt, Bool, true, false, ◌⊎◌, ⊤, List, [], ◌∷◌, ◌++◌, map, drop, slice_index, if◌then◌else◌}
 use Rattle.std.specs.List.{range_with_len}
@@ -17,7 +17,7 @@ use Rattle.flow_ir.specs.Tree as flow
 use Rattle.flow_ir.specs.Formed.{defined}
 use Rattle.ssu_ir.specs.Tree as ssu
 use Rattle.ssu_ir.specs.Single.{is_narrow}
-use Rattle.ssu_make.specs.inner.Uses.{Counts, occurs, operands, outside, uses, all_uses}
+use Rattle.ssu_make.specs.Uses.{Counts, occurs, operands, outside, uses, all_uses}
 
 -- ---- literals
 
