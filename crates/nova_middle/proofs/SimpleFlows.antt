@@ -1,9 +1,9 @@
 -- Labels that simplification leaves as they are.
-use Rattle.std.proofs.Common.{◌≡◌, ℕ, ◌+◌, ◌<◌, ◌≤◌, Bool, true, false, not, ◌&&◌, ◌||◌, if◌then◌else◌, List, [], ◌∷◌, ◌++◌, Some, None, is_some, map, All, refl, sym, ap, subst, ◌∙◌, length, slice_get, get_or, take, arith}
+use Rattle.std.proofs.Common.{◌≡◌, ◌↔◌, ℕ, ◌+◌, ◌<◌, ◌≤◌, Bool, true, false, not, ◌&&◌, ◌||◌, if◌then◌else◌, List, [], ◌∷◌, ◌++◌, Some, None, is_some, map, All, refl, sym, ap, subst, ◌∙◌, length, slice_get, get_or, take, arith}
 use Rattle.std.specs.List.{list_all}
 use Rattle.std.proofs.lemmas.Bool.{and_parts, false≢true}
-use Rattle.std.proofs.lemmas.List.{take_more, take_all}
-use Rattle.std.proofs.lemmas.List.Elements.{All-nil, All-cons, All-head, All-tail, All-append, All-map}
+use Rattle.std.proofs.lemmas.List.{take_more, take_all, length-map, get_or-map}
+use Rattle.std.proofs.lemmas.List.Elements.{All-nil, All-cons, All-head, All-tail, All-append, All-map, All-get_or}
 use Rattle.nv_base.specs.declared.term.Atom.{Atom}
 use Rattle.nv_base.specs.declared.term.Atom.TheVariants.{Var, Lit}
 use Rattle.nv_base.specs.declared.term.Bin.{Bin}
@@ -61,19 +61,36 @@ two_answered op a b c d f s n ec ed ef es en =
 
 -- ---- along a tree
 
--- where the rest is as simplification leaves it, the whole is
+-- the whole is as simplification leaves it just where the rest is
 pub record LeftTo (t cur : Tree) : Type 0 where
   pub back : EachLet IsLeft (tree_view cur) → EachLet IsLeft (tree_view t)
+  pub on : EachLet IsLeft (tree_view t) → EachLet IsLeft (tree_view cur)
   pub size : size-Tree cur ≤ size-Tree t
 
-left_on : {t cur : Tree} (node part rest : Tree) → LeftTo t cur → cur ≡ node → rest ≡ part → (EachLet IsLeft (tree_view part) → EachLet IsLeft (tree_view node)) → size-Tree part ≤ size-Tree node → LeftTo t rest
-left_on {t} {cur} node part rest h is e f le = record {
+left_on : {t cur : Tree} (node part rest : Tree) → LeftTo t cur → cur ≡ node → rest ≡ part → (EachLet IsLeft (tree_view part) → EachLet IsLeft (tree_view node)) → (EachLet IsLeft (tree_view node) → EachLet IsLeft (tree_view part)) → size-Tree part ≤ size-Tree node → LeftTo t rest
+left_on {t} {cur} node part rest h is e f g le = record {
   back = λ k. h.back (subst (λ z. EachLet IsLeft (tree_view z)) (sym is) (f (subst (λ z. EachLet IsLeft (tree_view z)) e k)));
+  on = λ k. subst (λ z. EachLet IsLeft (tree_view z)) (sym e) (g (subst (λ z. EachLet IsLeft (tree_view z)) is (h.on k)));
   size = let s = h.size in let less = smaller cur node rest part is e le in omega arith;
 }
 
 left_here : {t cur : Tree} (node : Tree) → LeftTo t cur → cur ≡ node → EachLet IsLeft (tree_view node) → EachLet IsLeft (tree_view t)
 left_here node h is k = h.back (subst (λ z. EachLet IsLeft (tree_view z)) (sym is) k)
+
+left_at : {t cur : Tree} (node : Tree) → LeftTo t cur → cur ≡ node → EachLet IsLeft (tree_view t) → EachLet IsLeft (tree_view node)
+left_at node h is k = subst (λ z. EachLet IsLeft (tree_view z)) is (h.on k)
+
+yes : {A : Type 0} → A → true ≡ true ↔ A
+yes a = (λ e. a, λ b. refl)
+
+no : {A : Type 0} → (A → ⊥) → false ≡ true ↔ A
+no f = (λ e. absurd (false≢true e), λ a. absurd (f a))
+
+some_answer : (a s m : Bool) → ((a || s) || not m) ≡ true → a ≡ false → s ≡ false → m ≡ true → ⊥
+some_answer true s m e p q r = false≢true (sym p)
+some_answer false true m e p q r = false≢true (sym q)
+some_answer false false true e p q r = false≢true e
+some_answer false false false e p q r = false≢true r
 
 no_answer : (a s m : Bool) → ((a || s) || not m) ≡ false → (a ≡ false) × (s ≡ false) × (m ≡ true)
 no_answer true s m e = absurd (false≢true (sym e))
@@ -84,22 +101,30 @@ no_answer false false false e = absurd (false≢true (sym e))
 pub left_let : {t cur : Tree} (x : ℕ) (p : Primitive) (q : _) (r rest : Tree) (a s m : Bool) → LeftTo t cur → cur ≡ Let' x p q r → rest ≡ r → a ≡ is_answered p → s ≡ is_same p → m ≡ is_in x (uses (tree_view rest)) → ((a || s) || not m) ≡ false → LeftTo t rest
 left_let {cur = cur} x p q r rest a s m h is e ea es em fails =
     let n = no_answer a s m fails in
-    left_on (Let' x p q r) r rest h is e (λ k. ((sym ea ∙ n.0, sym es ∙ n.1, ap (λ z. is_in x (uses (tree_view z))) (sym e) ∙ sym em ∙ n.2), k)) (omega (arith, deep-Let' x p q r))
+    left_on (Let' x p q r) r rest h is e (λ k. ((sym ea ∙ n.0, sym es ∙ n.1, ap (λ z. is_in x (uses (tree_view z))) (sym e) ∙ sym em ∙ n.2), k)) (λ k. k.1) (omega (arith, deep-Let' x p q r))
+
+pub left_let_not : {t cur : Tree} (x : ℕ) (p : Primitive) (q : _) (r rest : Tree) (a s m : Bool) → LeftTo t cur → cur ≡ Let' x p q r → rest ≡ r → a ≡ is_answered p → s ≡ is_same p → m ≡ is_in x (uses (tree_view rest)) → ((a || s) || not m) ≡ true → false ≡ true ↔ EachLet IsLeft (tree_view t)
+left_let_not x p q r rest a s m h is e ea es em holds =
+    no (λ k. let n = left_at (Let' x p q r) h is k in some_answer a s m holds (ea ∙ n.0.0) (es ∙ n.0.1) (em ∙ ap (λ z. is_in x (uses (tree_view z))) e ∙ n.0.2))
 
 pub left_read : {t cur : Tree} (m : _) (xs : _) (a : _) (q : _) (r rest : Tree) → LeftTo t cur → cur ≡ Read' m xs a q r → rest ≡ r → LeftTo t rest
-left_read m xs a q r rest h is e = left_on (Read' m xs a q r) r rest h is e (λ k. k) (omega (arith, deep-Read' m xs a q r))
+left_read m xs a q r rest h is e = left_on (Read' m xs a q r) r rest h is e (λ k. k) (λ k. k) (omega (arith, deep-Read' m xs a q r))
 
 pub left_write : {t cur : Tree} (m : _) (a : _) (bs : _) (q : _) (r rest : Tree) → LeftTo t cur → cur ≡ Write' m a bs q r → rest ≡ r → LeftTo t rest
-left_write m a bs q r rest h is e = left_on (Write' m a bs q r) r rest h is e (λ k. k) (omega (arith, deep-Write' m a bs q r))
+left_write m a bs q r rest h is e = left_on (Write' m a bs q r) r rest h is e (λ k. k) (λ k. k) (omega (arith, deep-Write' m a bs q r))
 
-pub left_if : {t cur : Tree} (c a b : _) (q q' : _) (f r part rest : Tree) (g : Bool) → LeftTo t cur → cur ≡ If' c a b q f q' r → part ≡ f → rest ≡ r → (g ≡ true → EachLet IsLeft (tree_view part)) → g ≡ true → LeftTo t rest
-left_if c a b q q' f r part rest g h is ef e first holds = left_on (If' c a b q f q' r) r rest h is e (λ k. (subst (λ z. EachLet IsLeft (tree_view z)) ef (first holds), k)) (omega (arith, deep-If' c a b q f q' r))
+pub left_if : {t cur : Tree} (c a b : _) (q q' : _) (f r part rest : Tree) (g : Bool) → LeftTo t cur → cur ≡ If' c a b q f q' r → part ≡ f → rest ≡ r → g ≡ true ↔ EachLet IsLeft (tree_view part) → g ≡ true → LeftTo t rest
+left_if c a b q q' f r part rest g h is ef e first holds = left_on (If' c a b q f q' r) r rest h is e (λ k. (subst (λ z. EachLet IsLeft (tree_view z)) ef (first.0 holds), k)) (λ k. k.1) (omega (arith, deep-If' c a b q f q' r))
 
-pub left_jump : {t cur : Tree} (l : ℕ) (bs : _) → LeftTo t cur → cur ≡ Jump l bs → EachLet IsLeft (tree_view t)
-left_jump l bs h is = left_here (Jump l bs) h is tt
+pub left_if_not : {t cur : Tree} (c a b : _) (q q' : _) (f r part : Tree) (g : Bool) → LeftTo t cur → cur ≡ If' c a b q f q' r → part ≡ f → g ≡ true ↔ EachLet IsLeft (tree_view part) → g ≡ false → false ≡ true ↔ EachLet IsLeft (tree_view t)
+left_if_not c a b q q' f r part g h is ef first fails =
+    no (λ k. false≢true (sym fails ∙ first.1 (subst (λ z. EachLet IsLeft (tree_view z)) (sym ef) (left_at (If' c a b q f q' r) h is k).0)))
 
-pub left_halt : {t cur : Tree} (n : ℕ) (bs : _) → LeftTo t cur → cur ≡ Halt n bs → EachLet IsLeft (tree_view t)
-left_halt n bs h is = left_here (Halt n bs) h is tt
+pub left_jump : {t cur : Tree} (l : ℕ) (bs : _) → LeftTo t cur → cur ≡ Jump l bs → true ≡ true ↔ EachLet IsLeft (tree_view t)
+left_jump l bs h is = yes (left_here (Jump l bs) h is tt)
+
+pub left_halt : {t cur : Tree} (n : ℕ) (bs : _) → LeftTo t cur → cur ≡ Halt n bs → true ≡ true ↔ EachLet IsLeft (tree_view t)
+left_halt n bs h is = yes (left_here (Halt n bs) h is tt)
 
 -- ---- labels
 
@@ -138,8 +163,15 @@ pub simple_more : (labels : List FlowLabel) (i : ℕ) (d l : FlowLabel) → i < 
 simple_more labels i d l lt e here h =
     subst AllSimple (sym (take_more labels i d lt ∙ ap (λ z. take i labels ++ z ∷ []) (sym e))) (All-append (λ k. IsSimple (label_view k)) (take i labels) (l ∷ []) h (All-cons (λ k. IsSimple (label_view k)) l [] here (All-nil (λ k. IsSimple (label_view k)))))
 
-pub simple_all : (labels : List FlowLabel) (i : ℕ) → length labels ≤ i → AllSimple (take i labels) → All IsSimple (map label_view labels)
-simple_all labels i le h = All-map IsSimple label_view labels (subst AllSimple (take_all i labels le) h)
+pub simple_all : (labels : List FlowLabel) (i : ℕ) → length labels ≤ i → AllSimple (take i labels) → true ≡ true ↔ All IsSimple (map label_view labels)
+simple_all labels i le h = yes (All-map IsSimple label_view labels (subst AllSimple (take_all i labels le) h))
+
+pub simple_not : (labels : List FlowLabel) (i : ℕ) (d l : FlowLabel) (b : Bool) → i < length labels → l ≡ get_or labels i d → b ≡ true ↔ IsSimple (label_view l) → b ≡ false → false ≡ true ↔ All IsSimple (map label_view labels)
+simple_not labels i d l b lt e here fails =
+    no (λ h.
+    let within : i < length (map label_view labels) = omega (arith, lt, length-map labels label_view) in
+    let there = All-get_or IsSimple (map label_view labels) i (label_view l) within h in
+    false≢true (sym fails ∙ here.1 (subst IsSimple (get_or-map label_view labels i d (label_view l) lt ∙ ap label_view (sym e)) there)))
 
 -- ---- flows
 

@@ -1,5 +1,5 @@
 -- The bounds of a single-use form, by the expanded size and the room of a source.
-use Rattle.std.proofs.Common.{◌≡◌, ℕ, zero, suc, ◌+◌, ◌*◌, ◌≤◌, sym, subst, arith}
+use Rattle.std.proofs.Common.{ℕ, zero, suc, ◌+◌, ◌*◌, ◌≤◌, sym, subst, arith}
 use Rattle.std.proofs.Math.Nat.{le_trans, max-eq_left}
 use Rattle.nv_base.specs.Measures.{Bulk, IsAtMost, of_size}
 use Rattle.ssu_make.specs.Bounds.{size_bound, length_bound}

@@ -1,5 +1,5 @@
 -- What holds through all passes.
-use Rattle.std.proofs.Common.{◌≡◌, ℕ, ◌≤◌, List, sym, subst, arith, Result, Ok, Err, IfOk, All, le_trans}
+use Rattle.std.proofs.Common.{◌≡◌, ℕ, ◌≤◌, List, sym, subst, arith, Result, Ok, Err, IfOk, le_trans}
 use Rattle.nv_base.specs.Memories.{Memories}
 use Rattle.nv_base.specs.Meanings.{Meaning, KeepsOutcomes, AreEqual}
 use Rattle.nv_base.specs.Measures.{Bulk, IsAtMost}

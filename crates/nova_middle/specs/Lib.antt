@@ -1,2 +1,3 @@
+pub mod Reduced
 pub mod Rules
 pub mod inner

@@ -1,6 +1,6 @@
 // Whole programs.
 
-ghost use Rattle.std.specs.Prelude.{◌≡◌, ◌≤◌, true, All, IfOk, map};
+ghost use Rattle.std.specs.Prelude.{◌≡◌, ◌≤◌, true, List, All, IfOk, map};
 ghost use Rattle.nv_base.specs.Meanings.{KeepsOutcomes};
 ghost use Rattle.nv_base.specs.Measures.{IsAtMost};
 ghost use Rattle.flat_ir.specs.Bulk.{bulk as flat_bulk};
@@ -9,17 +9,20 @@ ghost use Rattle.flat_ir.specs.Reached.{params_in as flat_params};
 ghost use Rattle.flat_ir.specs.Wide.{wide as flat_wide};
 ghost use Rattle.flow_ir.specs.Bulk.{bulk};
 ghost use Rattle.flow_ir.specs.Meaning.{flow_meaning, flow_params};
+ghost use Rattle.flow_ir.specs.Tree as flow;
 ghost use Rattle.flow_ir.specs.View.{label_view};
 ghost use Rattle.flow_ir.specs.Wide.{wide};
 ghost use Rattle.cps_rules.specs.Simplified.{AreTidy};
 ghost use Rattle.flow_contract.specs.Contracted.{AreContracted};
 ghost use Rattle.flow_prune.specs.Wanted.{AllWanted};
+ghost use Rattle.nova_middle.specs.Reduced.{AreReduced};
 ghost use Rattle.nova_middle.specs.Rules.{IsAtRest};
 ghost use Rattle.ssu_ir.specs.Meaning.{ssu_meaning, ssu_params};
 ghost use Rattle.ssu_ir.specs.Measures.{peak, size, code_bound};
 ghost use Rattle.ssu_ir.specs.Single.{single};
 ghost use Rattle.ssu_ir.specs.View.{labels_view};
 ghost use Rattle.ssu_make.specs.Bounds.{size_bound, length_bound};
+ghost use Rattle.ssu_make.specs.Made.{AllMade};
 
 use crate::rules::simplified;
 use crate::simple::are_simple;
@@ -118,11 +121,13 @@ fn count_nodes(t: &Tree) -> u64 {
     }
 }
 
-/// The single-use form of a flat program, which has its outcomes. It holds no more values at once than the
-/// program is wide, and its size and the length of its code are bounded by the program's width and bulk. Memory
-/// exhaustion is also the answer where a form would need 2^32 labels or variables.
+/// The single-use form of a flat program, which has its outcomes. It is made of a flow in which the passes have
+/// nothing left to do, node by node. It holds no more values at once than the program is wide, and its size and the
+/// length of its code are bounded by the program's width and bulk. Memory exhaustion is also the answer where a form
+/// would need 2^32 labels or variables.
 pub fn middle(alloc: Global, f: &FlatProgram) -> Result<Ssu, NoMemory>
     ensures kept { IfOk result (λ s. KeepsOutcomes (flat_params f.now.funs.items f.now.main) (ssu_params (labels_view s)) (flat_meaning f.now.funs.items f.now.main) (ssu_meaning (labels_view s))) }
+    ensures made { IfOk result (λ s. (labels : List flow.Label) × AreReduced labels × AllMade 0 labels (labels_view s)) }
     ensures single { IfOk result (λ s. single (labels_view s) ≡ true) }
     ensures peak { IfOk result (λ s. peak (labels_view s) ≤ flat_wide f.now.funs.items f.now.main) }
     ensures size { IfOk result (λ s. size (labels_view s) ≤ size_bound (flat_wide f.now.funs.items f.now.main) (flat_bulk f.now.funs.items f.now.main)) }

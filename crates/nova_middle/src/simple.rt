@@ -1,6 +1,6 @@
 // Whether a flow is simplified already.
 
-ghost use Rattle.std.specs.Prelude.{◌≡◌, true, All, map};
+ghost use Rattle.std.specs.Prelude.{◌≡◌, ◌↔◌, true, All, map};
 ghost use Rattle.cps_rules.specs.Simplified as simplified;
 ghost use Rattle.cps_rules.specs.Simplified.{EachLet};
 ghost use Rattle.flow_ir.specs.View.{tree_view, label_view};
@@ -40,7 +40,7 @@ fn is_same(p: Prim) -> bool
 
 // Whether simplification would leave each `Let` of a tree as it is.
 fn is_simple(t: &Tree) -> bool
-    ensures { result ≡ true → EachLet IsLeft (tree_view t.now) }
+    ensures { result ≡ true ↔ EachLet IsLeft (tree_view t.now) }
 {
     let mut cur = t;
     'spine: loop {
@@ -67,7 +67,7 @@ fn is_simple(t: &Tree) -> bool
 
 /// Whether it would leave these labels as they are.
 pub fn are_simple(labels: &[Label]) -> bool
-    ensures { result ≡ true → All IsSimple (map label_view labels.now) }
+    ensures { result ≡ true ↔ All IsSimple (map label_view labels.now) }
 {
     for l in labels {
         if !is_simple(&l.body) {

@@ -3,10 +3,10 @@ use Rattle.nova_middle.proofs.Whole.{again}
 use Rattle.nova_middle.proofs.program.reduce.Goals as goal
 
 pub returns-then-are_simple-clause-rules : goal.returns-then-are_simple-clause-rules
-returns-then-are_simple-clause-rules c = rest_at _ _ (c.are_simple.ensures c.if-are_simple.true) c.deref.ensures.value
+returns-then-are_simple-clause-rules c = rest_at _ _ (c.are_simple.ensures.0 c.if-are_simple.true) c.deref.ensures.value
 
 pub returns-then-are_simple-clause-tidy : goal.returns-then-are_simple-clause-tidy
-returns-then-are_simple-clause-tidy c = tidy_at _ _ (c.are_simple.ensures c.if-are_simple.true) c.deref.ensures.value c.rounds.g.formed
+returns-then-are_simple-clause-tidy c = tidy_at _ _ (c.are_simple.ensures.0 c.if-are_simple.true) c.deref.ensures.value c.rounds.g.formed
 
 pub rounds-preserved : goal.rounds-preserved
 rounds-preserved c =
