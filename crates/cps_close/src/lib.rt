@@ -9,4 +9,4 @@ mod table;
 mod trees;
 mod uses;
 
-pub use program::close;
+pub use program::{close, drop_unreached};

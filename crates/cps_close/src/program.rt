@@ -41,6 +41,19 @@ pub fn close(alloc: Global, c: Cps) -> Result<Flow, NoMemory>
     Ok(Flow { labels })
 }
 
+/// The flow without the labels that label 0 doesn't lead to. It takes as many words, and its outcomes within each number
+/// of jumps are equal.
+pub fn drop_unreached(alloc: Global, f: &Flow) -> Result<Flow, NoMemory>
+    ensures params { IfOk result (λ g. flow_params (map label_view g.labels.items) ≡ flow_params (map label_view f.now.labels.items)) }
+    ensures equal { IfOk result (λ g. AreEqual (flow_params (map label_view f.now.labels.items)) (flow_meaning (map label_view f.now.labels.items)) (flow_meaning (map label_view g.labels.items))) }
+    ensures wide { IfOk result (λ g. flow_wide (map label_view g.labels.items) ≤ flow_wide (map label_view f.now.labels.items)) }
+    ensures led { IfOk result (λ g. AreLedTo (map label_view g.labels.items)) }
+    ensures bulk { IfOk result (λ g. IsAtMost (flow_bulk (map label_view g.labels.items)) (flow_bulk (map label_view f.now.labels.items))) }
+{
+    let labels = pruned(alloc, &f.labels)?;
+    Ok(Flow { labels })
+}
+
 // The labels of a function's flow.
 fn closed(alloc: Global, f: &CpsFun) -> Result<Vec<Label>, NoMemory>
     ensures { IfOk result (λ v. IsClosed (fun_view f.now) (map label_view v.items)) }

@@ -9,13 +9,13 @@ use Rattle.std.proofs.lemmas.List.FromFn.{length-range_with_len}
 use Rattle.std.proofs.lemmas.Option.{none-some, same_Some}
 use Rattle.nv_base.specs.declared.outcome.Outcome.TheVariants as outcome
 use Rattle.nv_base.specs.Memories.{Memories, HasSizes}
-use Rattle.nv_base.specs.Meanings.{FullOutcome, KeepsOutcomes}
+use Rattle.nv_base.specs.Meanings.{FullOutcome, KeepsOutcomes, AreEqual}
 use Rattle.nv_base.specs.Measures.{entry_wide}
 use Rattle.nv_base.specs.Sets.{is_in, all_different, Within}
 use Rattle.nv_base.specs.Access.{is_known}
 use Rattle.nv_base.specs.Words.{assigned_all}
 use Rattle.nv_base.specs.World.{World, begun, over}
-use Rattle.nv_base.proofs.Same.{lands_at, same_lands, same-sym, keeps-trans}
+use Rattle.nv_base.proofs.Same.{lands_at, same_lands, same-sym, keeps-trans, keeps-equal}
 use Rattle.flow_ir.proofs.Growth.{meaning-grows}
 use Rattle.flow_ir.specs.Formed.{defined, is_formed, is_label, is_entry, is_flow, takes_as_many}
 use Rattle.flow_ir.specs.Meaning.{Next, does, blank, enter, run, flow_meaning, flow_params, params_of}
@@ -23,6 +23,7 @@ use Rattle.flow_ir.specs.Tree.{Label}
 use Rattle.flow_ir.specs.View.{label_view}
 use Rattle.flow_ir.specs.Wide.{tree_wide, label_wide, wide}
 use Rattle.flow_ir.specs.declared.flow.Label.{Label as FlowLabel}
+use Rattle.cps_close.specs.Led.{AreLedTo}
 use Rattle.cps_rules.specs.Substitution.{Names}
 use Rattle.cps_rules.specs.inner.Way.{IsScopedLabel}
 use Rattle.cps_rules.proofs.Members.{in-left, different-parts}
@@ -226,10 +227,17 @@ copied_at xs ys s ms h e = subst (λ l. AreCopied (map label_view l) s 0 0 (map 
 
 pub record Rounds (f g : List Label) : Type 0 where
   pub kept : KeepsOutcomes (flow_params f) (flow_params g) (flow_meaning f) (flow_meaning g)
+  pub led : AreLedTo g
   pub wide : wide g ≤ wide f
 
-pub one_more : (f g h : List Label) → Rounds f g → KeepsOutcomes (flow_params g) (flow_params h) (flow_meaning g) (flow_meaning h) → wide h ≤ wide g → Rounds f h
-one_more f g h p kept le = record { kept = keeps-trans (flow_params f) (flow_params g) (flow_params h) (flow_meaning f) (flow_meaning g) (flow_meaning h) p.kept kept; wide = let more = p.wide in omega arith }
+-- the second flow without labels that nothing leads to
+pub then_equal : (f g h : List Label) → KeepsOutcomes (flow_params f) (flow_params g) (flow_meaning f) (flow_meaning g) → flow_params h ≡ flow_params g → AreEqual (flow_params g) (flow_meaning g) (flow_meaning h) → KeepsOutcomes (flow_params f) (flow_params h) (flow_meaning f) (flow_meaning h)
+then_equal f g h kept same equal =
+    keeps-trans (flow_params f) (flow_params g) (flow_params h) (flow_meaning f) (flow_meaning g) (flow_meaning h) kept
+    (subst (λ k. KeepsOutcomes (flow_params g) k (flow_meaning g) (flow_meaning h)) (sym same) (keeps-equal (flow_params g) (flow_meaning g) (flow_meaning h) equal))
+
+pub one_more : (f g h : List Label) → Rounds f g → KeepsOutcomes (flow_params g) (flow_params h) (flow_meaning g) (flow_meaning h) → AreLedTo h → wide h ≤ wide g → Rounds f h
+one_more f g h p kept led le = record { led = led; kept = keeps-trans (flow_params f) (flow_params g) (flow_params h) (flow_meaning f) (flow_meaning g) (flow_meaning h) p.kept kept; wide = let more = p.wide in omega arith }
 
 -- ---- one label more
 

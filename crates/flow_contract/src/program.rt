@@ -7,12 +7,14 @@ ghost use Rattle.flow_ir.specs.Bulk.{bulk};
 ghost use Rattle.flow_ir.specs.Meaning.{flow_meaning, flow_params};
 ghost use Rattle.flow_ir.specs.View.{label_view};
 ghost use Rattle.flow_ir.specs.Wide.{wide};
+ghost use Rattle.cps_close.specs.Led.{AreLedTo};
 ghost use Rattle.flow_contract.specs.Contracted.{AreContracted};
 
 use crate::checks::are_contracted;
 use crate::copying::all_copied;
 use crate::plan::Plan;
 use crate::sizes::{is_within, sizes_of};
+use cps_close::drop_unreached;
 use flow_ir::Flow;
 use nv_base::NoMemory;
 use std::alloc::Global;
@@ -28,30 +30,42 @@ fn contract_once(alloc: Global, f: &Flow) -> Result<Flow, NoMemory>
     Ok(Flow { labels })
 }
 
+// The same, without the labels that label 0 doesn't lead to once choices between literals are made.
+fn contract_round(alloc: Global, f: &Flow) -> Result<Flow, NoMemory>
+    ensures kept { IfOk result (λ g. KeepsOutcomes (flow_params (map label_view f.now.labels.items)) (flow_params (map label_view g.labels.items)) (flow_meaning (map label_view f.now.labels.items)) (flow_meaning (map label_view g.labels.items))) }
+    ensures led { IfOk result (λ g. AreLedTo (map label_view g.labels.items)) }
+    ensures wide { IfOk result (λ g. wide (map label_view g.labels.items) ≤ wide (map label_view f.now.labels.items)) }
+{
+    let g = contract_once(alloc, f)?;
+    drop_unreached(alloc, &g)
+}
+
 // Rounds until the flow is contracted. Each that isn't the last leaves fewer labels or fewer choices, so there are
 // enough; that the flow is contracted is tested, which takes less to prove. So memory exhaustion doesn't come of this.
 fn contract_all(alloc: Global, f: &Flow, rounds: usize) -> Result<Flow, NoMemory>
     ensures kept { IfOk result (λ g. KeepsOutcomes (flow_params (map label_view f.now.labels.items)) (flow_params (map label_view g.labels.items)) (flow_meaning (map label_view f.now.labels.items)) (flow_meaning (map label_view g.labels.items))) }
     ensures contracted { IfOk result (λ g. AreContracted (map label_view g.labels.items)) }
+    ensures led { IfOk result (λ g. AreLedTo (map label_view g.labels.items)) }
     ensures wide { IfOk result (λ g. wide (map label_view g.labels.items) ≤ wide (map label_view f.now.labels.items)) }
 {
-    let mut g = contract_once(alloc, f)?;
+    let mut g = contract_round(alloc, f)?;
     'rounds: for _ in 0..=rounds {
         if are_contracted(alloc, &g.labels)? {
             return Ok(g);
         }
-        g = contract_once(alloc, &g)?;
+        g = contract_round(alloc, &g)?;
     }
     Err(NoMemory)
 }
 
 /// The flow contracted, which has its outcomes and is neither wider nor larger. A label to which one jump leads
 /// is put in the jump's place, and a label that is nothing but an end in the place of each jump to it; an `If`
-/// over two literals is one of its arms. So to each label but 0 at least two jumps lead. Memory exhaustion is also the
-/// answer where it has 2^32 labels.
+/// over two literals is one of its arms. So to each label but 0 at least two jumps lead. Label 0 leads to each label.
+/// Memory exhaustion is also the answer where it has 2^32 labels.
 pub fn contract(alloc: Global, f: &Flow) -> Result<Flow, NoMemory>
     ensures kept { IfOk result (λ g. KeepsOutcomes (flow_params (map label_view f.now.labels.items)) (flow_params (map label_view g.labels.items)) (flow_meaning (map label_view f.now.labels.items)) (flow_meaning (map label_view g.labels.items))) }
     ensures contracted { IfOk result (λ g. AreContracted (map label_view g.labels.items)) }
+    ensures led { IfOk result (λ g. AreLedTo (map label_view g.labels.items)) }
     ensures wide { IfOk result (λ g. wide (map label_view g.labels.items) ≤ wide (map label_view f.now.labels.items)) }
     ensures bulk { IfOk result (λ g. IsAtMost (bulk (map label_view g.labels.items)) (bulk (map label_view f.now.labels.items))) }
 {

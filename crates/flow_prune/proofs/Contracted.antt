@@ -1,8 +1,9 @@
--- A contracted flow stays contracted.
-use Rattle.std.proofs.Common.{◌≡◌, ℕ, zero, suc, ◌+◌, ◌<◌, ◌≤◌, true, ◌&&◌, not, List, [], ◌∷◌, Some, refl, sym, ap, ◌∙◌, length, slice_get, All, arith}
+-- A contracted flow stays contracted, and each label led to.
+use Rattle.std.proofs.Common.{◌≡◌, ℕ, zero, suc, ◌+◌, ◌<◌, ◌≤◌, true, ◌&&◌, not, List, [], ◌∷◌, Some, refl, sym, ap, subst, ◌∙◌, length, slice_get, All, arith, inl, inr}
 use Rattle.std.proofs.lemmas.List.Elements.{All-nil, All-cons, All-head, All-tail}
 use Rattle.std.proofs.lemmas.Option.{none-some, same_Some}
 use Rattle.flow_ir.specs.Tree.{Tree, Let, Read, Write, If, Jump, Halt, Label}
+use Rattle.cps_close.specs.Led.{GoesTo, IsLedTo, first, jumped, AreLedTo}
 use Rattle.flow_contract.specs.Contracted.{jumps_to, all_jumps_to, is_bare, is_literal, is_undecided, AreContracted}
 use Rattle.flow_prune.specs.inner.Pruned.{pruned, ArePruned}
 
@@ -61,6 +62,33 @@ module _ (labels : List Label) (gone : ℕ → List ℕ) where
   all_undecided i (k ∷ ls) [] a h = absurd a
   all_undecided i (k ∷ ls) (m ∷ ms) a h =
       All-cons (λ n. is_undecided n.body ≡ true) m ms (ap is_undecided a.0.body ∙ same_undecided k.body ∙ All-head (λ n. is_undecided n.body ≡ true) k ls h) (all_undecided (suc i) ls ms a.1 (All-tail (λ n. is_undecided n.body ≡ true) k ls h))
+
+  -- ---- jumps
+
+  goes_still : (t : Tree) (n : ℕ) → GoesTo t n → GoesTo (pruned labels gone t) n
+  goes_still (Let x p t) n h = goes_still t n h
+  goes_still (Read m xs a t) n h = goes_still t n h
+  goes_still (Write m a bs t) n h = goes_still t n h
+  goes_still (If c a b t u) n (inl h) = inl (goes_still t n h)
+  goes_still (If c a b t u) n (inr h) = inr (goes_still u n h)
+  goes_still (Jump l bs) n h = h
+  goes_still (Halt e bs) n h = absurd h
+
+  there_still : (i j : ℕ) (ls ms : List Label) (l : Label) → ArePruned labels gone i ls ms → slice_get ls j ≡ Some l → (m : Label) × (slice_get ms j ≡ Some m) × (m.body ≡ pruned labels gone l.body)
+  there_still i j [] [] l a at = absurd (none-some l at)
+  there_still i j [] (m ∷ ms) l a at = absurd a
+  there_still i j (k ∷ ls) [] l a at = absurd a
+  there_still i zero (k ∷ ls) (m ∷ ms) l a at = (m, refl, a.0.body ∙ ap (λ (z : Label). pruned labels gone z.body) (same_Some k l at))
+  there_still i (suc j) (k ∷ ls) (m ∷ ms) l a at = there_still (suc i) j ls ms l a.1 at
+
+  led_still : (ls ms : List Label) → ArePruned labels gone 0 ls ms → (l : ℕ) → IsLedTo ls l → IsLedTo ms l
+  led_still ls ms a l first = first
+  led_still ls ms a n (jumped l m from led at goes) =
+      let here = there_still 0 l ls ms from a at in
+      jumped l m here.0 (led_still ls ms a l led) here.1 (subst (λ (t : Tree). GoesTo t m) (sym here.2) (goes_still from.body m goes))
+
+pub still_led : (labels news : List Label) (gone : ℕ → List ℕ) → ArePruned labels gone 0 labels news → AreLedTo labels → AreLedTo news
+still_led labels news gone a h = λ l lt. let many = as_many labels gone 0 labels news a in led_still labels gone labels news a l (h l (omega (arith, many, lt)))
 
 pub still_contracted : (labels news : List Label) (gone : ℕ → List ℕ) → ArePruned labels gone 0 labels news → AreContracted labels → AreContracted news
 still_contracted labels news gone a h = record {

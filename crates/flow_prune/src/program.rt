@@ -7,6 +7,7 @@ ghost use Rattle.flow_ir.specs.Bulk.{bulk};
 ghost use Rattle.flow_ir.specs.Meaning.{flow_meaning, flow_params};
 ghost use Rattle.flow_ir.specs.View.{label_view};
 ghost use Rattle.flow_ir.specs.Wide.{wide};
+ghost use Rattle.cps_close.specs.Led.{AreLedTo};
 ghost use Rattle.flow_contract.specs.Contracted.{AreContracted};
 ghost use Rattle.flow_prune.specs.Wanted.{AllWanted};
 
@@ -22,6 +23,7 @@ fn without_gone(alloc: Global, f: &Flow, table: &[Vec<u32>]) -> Result<Flow, NoM
     ensures params { IfOk result (λ g. flow_params (map label_view g.labels.items) ≡ flow_params (map label_view f.now.labels.items)) }
     ensures equal { IfOk result (λ g. AreEqual (flow_params (map label_view f.now.labels.items)) (flow_meaning (map label_view f.now.labels.items)) (flow_meaning (map label_view g.labels.items))) }
     ensures contracted { IfOk result (λ g. AreContracted (map label_view f.now.labels.items) → AreContracted (map label_view g.labels.items)) }
+    ensures led { IfOk result (λ g. AreLedTo (map label_view f.now.labels.items) → AreLedTo (map label_view g.labels.items)) }
     ensures wide { IfOk result (λ g. wide (map label_view g.labels.items) ≤ wide (map label_view f.now.labels.items)) }
     ensures bulk { IfOk result (λ g. IsAtMost (bulk (map label_view g.labels.items)) (bulk (map label_view f.now.labels.items))) }
 {
@@ -33,7 +35,7 @@ fn without_gone(alloc: Global, f: &Flow, table: &[Vec<u32>]) -> Result<Flow, NoM
 }
 
 /// The flow without the parameters of labels but 0 that nothing wants. Its outcomes within each number of jumps are
-/// equal, it stays contracted, and it is neither wider nor larger. A parameter is wanted where a node other than a
+/// equal, it stays contracted, where label 0 led to each label it still does, and it is neither wider nor larger. A parameter is wanted where a node other than a
 /// jump uses it, or where a jump hands it on for a wanted one. Memory exhaustion is also the answer where it has 2^32
 /// labels.
 pub fn prune(alloc: Global, f: &Flow) -> Result<Flow, NoMemory>
@@ -41,6 +43,7 @@ pub fn prune(alloc: Global, f: &Flow) -> Result<Flow, NoMemory>
     ensures equal { IfOk result (λ g. AreEqual (flow_params (map label_view f.now.labels.items)) (flow_meaning (map label_view f.now.labels.items)) (flow_meaning (map label_view g.labels.items))) }
     ensures wanted { IfOk result (λ g. AllWanted (map label_view g.labels.items)) }
     ensures contracted { IfOk result (λ g. AreContracted (map label_view f.now.labels.items) → AreContracted (map label_view g.labels.items)) }
+    ensures led { IfOk result (λ g. AreLedTo (map label_view f.now.labels.items) → AreLedTo (map label_view g.labels.items)) }
     ensures wide { IfOk result (λ g. wide (map label_view g.labels.items) ≤ wide (map label_view f.now.labels.items)) }
     ensures bulk { IfOk result (λ g. IsAtMost (bulk (map label_view g.labels.items)) (bulk (map label_view f.now.labels.items))) }
 {

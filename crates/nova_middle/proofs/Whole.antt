@@ -9,6 +9,7 @@ use Rattle.flow_ir.specs.Bulk.{bulk}
 use Rattle.flow_ir.specs.Meaning.{flow_meaning, flow_params}
 use Rattle.flow_ir.specs.Tree.{Label}
 use Rattle.flow_ir.specs.Wide.{wide}
+use Rattle.cps_close.specs.Led.{AreLedTo}
 use Rattle.flow_contract.specs.Contracted.{AreContracted}
 use Rattle.flow_prune.specs.Wanted.{AllWanted}
 
@@ -34,6 +35,7 @@ if_ok (Err e) P Q f h = tt
 pub record Reduced (f g : List Label) : Type 0 where
   pub kept : KeepsOutcomes (flow_params f) (flow_params g) (flow_meaning f) (flow_meaning g)
   pub contracted : AreContracted g
+  pub led : AreLedTo g
   pub wanted : AllWanted g
   pub wide : wide g ≤ wide f
   pub bulk : IsAtMost (bulk g) (bulk f)
@@ -45,6 +47,7 @@ again f g h k p params equal narrow small q = record {
       keeps-trans (flow_params f) (flow_params g) (flow_params k) (flow_meaning f) (flow_meaning g) (flow_meaning k) p.kept
       (keeps-trans (flow_params g) (flow_params h) (flow_params k) (flow_meaning g) (flow_meaning h) (flow_meaning k) (equal_kept (flow_params g) (flow_params h) (flow_meaning g) (flow_meaning h) params equal) q.kept);
   contracted = q.contracted;
+  led = q.led;
   wanted = q.wanted;
   wide = le_trans q.wide (le_trans narrow p.wide);
   bulk = most-trans (bulk k) (bulk h) (bulk f) q.bulk (most-trans (bulk h) (bulk g) (bulk f) small p.bulk);

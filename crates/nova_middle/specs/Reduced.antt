@@ -1,14 +1,16 @@
 -- Flows in which the passes have nothing left to do.
 use Rattle.std.specs.Prelude.{List, All}
 use Rattle.flow_ir.specs.Tree.{Label}
+use Rattle.cps_close.specs.Led.{AreLedTo}
 use Rattle.cps_rules.specs.Simplified.{AreTidy}
 use Rattle.flow_contract.specs.Contracted.{AreContracted}
 use Rattle.flow_prune.specs.Wanted.{AllWanted}
 use Rattle.nova_middle.specs.Rules.{IsAtRest}
 
--- contracted, with wanted parameters alone, and no `Let` that a rule answers, that is just another operand, or whose variable nothing uses
+-- contracted, with no label but those that the first one leads to, with wanted parameters alone, and no `Let` that a rule answers, that is just another operand, or whose variable nothing uses
 pub record AreReduced (labels : List Label) : Type 0 where
   pub contracted : AreContracted labels
+  pub led : AreLedTo labels
   pub wanted : AllWanted labels
   pub rules : All IsAtRest labels
   pub tidy : AreTidy labels

@@ -12,6 +12,7 @@ ghost use Rattle.flow_ir.specs.Meaning.{flow_meaning, flow_params};
 ghost use Rattle.flow_ir.specs.Tree as flow;
 ghost use Rattle.flow_ir.specs.View.{label_view};
 ghost use Rattle.flow_ir.specs.Wide.{wide};
+ghost use Rattle.cps_close.specs.Led.{AreLedTo};
 ghost use Rattle.cps_rules.specs.Simplified.{AreTidy};
 ghost use Rattle.flow_contract.specs.Contracted.{AreContracted};
 ghost use Rattle.flow_prune.specs.Wanted.{AllWanted};
@@ -39,13 +40,14 @@ use ssu_make::make;
 use std::alloc::Global;
 
 /// The flow of a flat program, which has its outcomes and is neither wider nor larger: in continuation form, in
-/// one function, in labels without free variables, contracted, and simplified by the rules. To each label but 0 at
-/// least two jumps lead, and each of its parameters is wanted; no `If` compares two literals. No `Let` is left that
+/// one function, in labels without free variables, contracted, and simplified by the rules. Label 0 leads to each
+/// label. To each label but 0 at least two jumps lead, and each of its parameters is wanted; no `If` compares two literals. No `Let` is left that
 /// a rule answers, that is just another operand, or whose variable nothing uses. Memory exhaustion is also the answer
 /// where a form would need 2^32 labels or variables.
 pub fn to_flow(alloc: Global, f: &FlatProgram) -> Result<Flow, NoMemory>
     ensures kept { IfOk result (λ g. KeepsOutcomes (flat_params f.now.funs.items f.now.main) (flow_params (map label_view g.labels.items)) (flat_meaning f.now.funs.items f.now.main) (flow_meaning (map label_view g.labels.items))) }
     ensures contracted { IfOk result (λ g. AreContracted (map label_view g.labels.items)) }
+    ensures led { IfOk result (λ g. AreLedTo (map label_view g.labels.items)) }
     ensures wanted { IfOk result (λ g. AllWanted (map label_view g.labels.items)) }
     ensures rules { IfOk result (λ g. All IsAtRest (map label_view g.labels.items)) }
     ensures tidy { IfOk result (λ g. AreTidy (map label_view g.labels.items)) }
@@ -62,6 +64,7 @@ pub fn to_flow(alloc: Global, f: &FlatProgram) -> Result<Flow, NoMemory>
 fn contract_and_prune(alloc: Global, f: &Flow) -> Result<Flow, NoMemory>
     ensures kept { IfOk result (λ g. KeepsOutcomes (flow_params (map label_view f.now.labels.items)) (flow_params (map label_view g.labels.items)) (flow_meaning (map label_view f.now.labels.items)) (flow_meaning (map label_view g.labels.items))) }
     ensures contracted { IfOk result (λ g. AreContracted (map label_view g.labels.items)) }
+    ensures led { IfOk result (λ g. AreLedTo (map label_view g.labels.items)) }
     ensures wanted { IfOk result (λ g. AllWanted (map label_view g.labels.items)) }
     ensures wide { IfOk result (λ g. wide (map label_view g.labels.items) ≤ wide (map label_view f.now.labels.items)) }
     ensures bulk { IfOk result (λ g. IsAtMost (bulk (map label_view g.labels.items)) (bulk (map label_view f.now.labels.items))) }
@@ -75,6 +78,7 @@ fn contract_and_prune(alloc: Global, f: &Flow) -> Result<Flow, NoMemory>
 fn reduce(alloc: Global, f: &Flow) -> Result<Flow, NoMemory>
     ensures kept { IfOk result (λ g. KeepsOutcomes (flow_params (map label_view f.now.labels.items)) (flow_params (map label_view g.labels.items)) (flow_meaning (map label_view f.now.labels.items)) (flow_meaning (map label_view g.labels.items))) }
     ensures contracted { IfOk result (λ g. AreContracted (map label_view g.labels.items)) }
+    ensures led { IfOk result (λ g. AreLedTo (map label_view g.labels.items)) }
     ensures wanted { IfOk result (λ g. AllWanted (map label_view g.labels.items)) }
     ensures rules { IfOk result (λ g. All IsAtRest (map label_view g.labels.items)) }
     ensures tidy { IfOk result (λ g. AreTidy (map label_view g.labels.items)) }

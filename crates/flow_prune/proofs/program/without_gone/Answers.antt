@@ -2,7 +2,7 @@ use Rattle.std.proofs.Common.{map, refl}
 use Rattle.flow_ir.specs.View.{label_view}
 use Rattle.flow_prune.specs.inner.Pruned.{gone_of}
 use Rattle.flow_prune.proofs.Whole.{pruned_at, same_params, flow_formed, flow_same, flow_wide, flow_bulk, most_same}
-use Rattle.flow_prune.proofs.Contracted.{still_contracted}
+use Rattle.flow_prune.proofs.Contracted.{still_contracted, still_led}
 use Rattle.flow_prune.proofs.program.without_gone.Goals as goal
 
 pub invariant_of-result : goal.invariant_of-result
@@ -22,3 +22,6 @@ returns-clause-bulk c = most_same (map label_view c.args.f.now.labels.items) (ma
 
 pub returns-clause-contracted : goal.returns-clause-contracted
 returns-clause-contracted c = still_contracted (map label_view c.args.f.now.labels.items) (map label_view c.in_ok-labels.labels.items) (gone_of c.args.table.now) (pruned_at _ _ _ _ c.in_ok-labels.ensures c.deref.ensures.value)
+
+pub returns-clause-led : goal.returns-clause-led
+returns-clause-led c = still_led (map label_view c.args.f.now.labels.items) (map label_view c.in_ok-labels.labels.items) (gone_of c.args.table.now) (pruned_at _ _ _ _ c.in_ok-labels.ensures c.deref.ensures.value)

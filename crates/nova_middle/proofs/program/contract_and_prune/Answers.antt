@@ -11,6 +11,9 @@ returns-clause-kept c = if_ok_both c.prune.result _ _ _ (λ g params equal. keep
 pub returns-clause-contracted : goal.returns-clause-contracted
 returns-clause-contracted c = if_ok c.prune.result _ _ (λ g still. still c.in_ok-contracted.ensures.contracted) c.prune.ensures.contracted
 
+pub returns-clause-led : goal.returns-clause-led
+returns-clause-led c = if_ok c.prune.result _ _ (λ g still. still c.in_ok-contracted.ensures.led) c.prune.ensures.led
+
 pub returns-clause-wide : goal.returns-clause-wide
 returns-clause-wide c = if_ok c.prune.result _ _ (λ g le. le_trans le c.in_ok-contracted.ensures.wide) c.prune.ensures.wide
 

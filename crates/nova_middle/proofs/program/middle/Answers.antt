@@ -13,7 +13,7 @@ returns-clause-kept c = if_ok_both c.make.result _ _ _ (λ s params equal. made_
 
 pub returns-clause-made : goal.returns-clause-made
 returns-clause-made c =
-    if_ok c.make.result _ _ (λ s made. (map label_view c.in_ok-flow.flow.labels.items, record { contracted = c.in_ok-flow.ensures.contracted; wanted = c.in_ok-flow.ensures.wanted; rules = c.in_ok-flow.ensures.rules; tidy = c.in_ok-flow.ensures.tidy }, made))
+    if_ok c.make.result _ _ (λ s made. (map label_view c.in_ok-flow.flow.labels.items, record { contracted = c.in_ok-flow.ensures.contracted; led = c.in_ok-flow.ensures.led; wanted = c.in_ok-flow.ensures.wanted; rules = c.in_ok-flow.ensures.rules; tidy = c.in_ok-flow.ensures.tidy }, made))
     c.make.ensures.made
 
 pub returns-clause-peak : goal.returns-clause-peak

@@ -13,6 +13,7 @@ rounds-preserved c =
     again _ _ _ _ c.rounds.invariant c.in_ok-simple.ensures.params c.in_ok-simple.ensures.equal c.in_ok-simple.ensures.wide c.in_ok-simple.ensures.bulk (record {
       kept = c.in_ok-g-2.ensures.kept;
       contracted = c.in_ok-g-2.ensures.contracted;
+      led = c.in_ok-g-2.ensures.led;
       wanted = c.in_ok-g-2.ensures.wanted;
       wide = c.in_ok-g-2.ensures.wide;
       bulk = c.in_ok-g-2.ensures.bulk;
