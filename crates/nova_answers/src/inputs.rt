@@ -1,12 +1,16 @@
 //! Files that are loaded.
-ghost use Rattle.std.specs.Prelude.{◌≡◌, ◌≤◌, length, IfSome};
+ghost use Rattle.std.specs.Prelude.{◌≡◌, ◌≤◌, ◌∷◌, [], ℕ, List, Some, length, IfSome};
+ghost use Rattle.nv_outside.specs.Calls.{Load, Asked};
+ghost use Rattle.nova_answers.specs.Paths.{system_path};
 
 use crate::answer::Answer;
 use nv_outside::{Files, Loaded};
 use std::alloc::Global;
 
 /// The name that a file has in the system: `-` is the standard input.
-fn path_of(name: &str) -> &str {
+fn path_of(name: &str) -> &str
+    ensures { result.now ≡ system_path name.now }
+{
     if name == "-" { "/dev/stdin" } else { name }
 }
 
@@ -19,6 +23,11 @@ pub fn load<F: Files>(
     answer: &mut Answer,
 ) -> Option<Vec<u8>>
     ensures within { IfSome result (λ bytes. length bytes.items ≤ limit) }
+    ensures read { F.tells → IfSome result (λ bytes. F.held files.old (system_path name.now) ≡ Some bytes.items) }
+    ensures asked { Asked F.history files.old files.new (Load (system_path name.now) ∷ []) }
+    ensures no_cause { IfSome result (λ _. (q : List ℕ) → F.load_faults files.new q ≡ F.load_faults files.old q) }
+    ensures load_faults { (q : List ℕ) → F.load_faults files.old q ≤ F.load_faults files.new q }
+    ensures save_faults { (q : List ℕ) → F.save_faults files.new q ≡ F.save_faults files.old q }
     ensures held { F.held files.new ≡ F.held files.old }
 {
     let mut bytes = Vec::new(alloc);

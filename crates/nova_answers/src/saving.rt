@@ -1,5 +1,9 @@
 //! Files that are saved.
-ghost use Rattle.std.specs.Prelude.{◌≡◌, []};
+ghost use Rattle.std.specs.Prelude.{◌≡◌, ◌≤◌, ◌⊎◌, ◌∷◌, ◌++◌, [], ℕ, List, true, false};
+ghost use Rattle.nv_outside.specs.Calls.{Asked, AsksAtMost};
+ghost use Rattle.nv_outside.specs.Causes.{Rose};
+ghost use Rattle.nv_outside.specs.Holding.{AppendsFront};
+ghost use Rattle.nova_answers.specs.Saving.{files_of, saves_of, printed_of, AreSaved, IsUnsaved, IsAppended};
 
 use crate::answer::Answer;
 use nv_outside::{Files, Put, Saved, Sink};
@@ -19,7 +23,10 @@ pub fn add_saving(
     name: &str,
     bytes: Vec<u8>,
     answer: &mut Answer,
-) {
+)
+    // Without memory nothing is added.
+    ensures { (savings.new.items ≡ savings.old.items) ⊎ (IsAppended savings.old.items savings.new.items name.now bytes.items × (answer.new ≡ answer.old)) }
+{
     match name.to_string(alloc) {
         Ok(name) => {
             if savings.push(Saving { name, bytes }).is_err() {
@@ -37,7 +44,14 @@ pub fn save_all<F: Files, K: Sink, E: Sink>(
     out: &mut K,
     err: &mut E,
 ) -> bool
-    ensures { savings.now ≡ [] → F.held files.new ≡ F.held files.old }
+    ensures asked { AsksAtMost F.history files.old files.new (saves_of savings.now) }
+    ensures saved { result ≡ true → Asked F.history files.old files.new (saves_of savings.now) }
+    ensures held { F.tells → result ≡ true → AreSaved (files_of savings.now) (F.held files.old) (F.held files.new) }
+    ensures printed { K.tells → result ≡ true → K.written out.new ≡ K.written out.old ++ printed_of savings.now }
+    ensures no_fault { result ≡ true → (q : List ℕ) → F.save_faults files.new q ≡ F.save_faults files.old q }
+    ensures no_print_fault { result ≡ true → K.faults out.new ≡ K.faults out.old }
+    ensures cause { result ≡ false → IsUnsaved (files_of savings.now) (F.save_faults files.old) (F.save_faults files.new) ⊎ Rose (K.faults out.old) (K.faults out.new) }
+    ensures nothing { savings.now ≡ [] → F.held files.new ≡ F.held files.old }
 {
     savings.is_empty() || save_each(savings, files, out, err)
 }
@@ -47,7 +61,15 @@ fn save_each<F: Files, K: Sink, E: Sink>(
     files: &mut F,
     out: &mut K,
     err: &mut E,
-) -> bool {
+) -> bool
+    ensures asked { AsksAtMost F.history files.old files.new (saves_of savings.now) }
+    ensures saved { result ≡ true → Asked F.history files.old files.new (saves_of savings.now) }
+    ensures held { F.tells → result ≡ true → AreSaved (files_of savings.now) (F.held files.old) (F.held files.new) }
+    ensures printed { K.tells → result ≡ true → K.written out.new ≡ K.written out.old ++ printed_of savings.now }
+    ensures no_fault { result ≡ true → (q : List ℕ) → F.save_faults files.new q ≡ F.save_faults files.old q }
+    ensures no_print_fault { result ≡ true → K.faults out.new ≡ K.faults out.old }
+    ensures cause { result ≡ false → IsUnsaved (files_of savings.now) (F.save_faults files.old) (F.save_faults files.new) ⊎ Rose (K.faults out.old) (K.faults out.new) }
+{
     for saving in savings {
         if !save(saving, files, out, err) {
             return false;
@@ -61,7 +83,14 @@ fn save<F: Files, K: Sink, E: Sink>(
     files: &mut F,
     out: &mut K,
     err: &mut E,
-) -> bool {
+) -> bool
+    ensures asked { Asked F.history files.old files.new (saves_of (saving.now ∷ [])) }
+    ensures held { F.tells → result ≡ true → AreSaved (files_of (saving.now ∷ [])) (F.held files.old) (F.held files.new) }
+    ensures printed { K.tells → result ≡ true → K.written out.new ≡ K.written out.old ++ printed_of (saving.now ∷ []) }
+    ensures no_fault { result ≡ true → (q : List ℕ) → F.save_faults files.new q ≡ F.save_faults files.old q }
+    ensures no_print_fault { result ≡ true → K.faults out.new ≡ K.faults out.old }
+    ensures cause { result ≡ false → IsUnsaved (files_of (saving.now ∷ [])) (F.save_faults files.old) (F.save_faults files.new) ⊎ Rose (K.faults out.old) (K.faults out.new) }
+{
     let is_saved = if saving.name.as_str() == "-" {
         print(out, &saving.bytes)
     } else {
@@ -75,6 +104,12 @@ fn save<F: Files, K: Sink, E: Sink>(
 }
 
 /// Prints a text; of an empty one nothing is written.
-pub fn print<K: Sink>(out: &mut K, text: &[u8]) -> bool {
+pub fn print<K: Sink>(out: &mut K, text: &[u8]) -> bool
+    ensures done { K.tells → result ≡ true → K.written out.new ≡ K.written out.old ++ text.now }
+    ensures failed { K.tells → result ≡ false → AppendsFront (K.written out.old) (K.written out.new) text.now }
+    ensures cause { result ≡ false → Rose (K.faults out.old) (K.faults out.new) }
+    ensures no_cause { result ≡ true → K.faults out.new ≡ K.faults out.old }
+    ensures faults { K.faults out.old ≤ K.faults out.new }
+{
     text.is_empty() || out.put(text) == Put::Done
 }
