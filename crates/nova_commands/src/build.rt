@@ -6,8 +6,10 @@ ghost use Rattle.nv_ast.specs.TypedView.{typed_program};
 ghost use Rattle.ssu_ir.specs.Measures.{peak};
 ghost use Rattle.ssu_ir.specs.View.{labels_view};
 ghost use Rattle.uc_isa.specs.Moves.{moves};
-ghost use Rattle.nova_back.specs.Causes.{AreStartsOf, IsReportOn, HasVector, IsCheapFor, report_cost};
+ghost use Rattle.zo_model.specs.Program.{vector};
+ghost use Rattle.nova_back.specs.Causes.{IsCodeOf, AreStartsOf, IsReportOn, HasVector, IsCheapFor, report_cost};
 ghost use Rattle.nova_back.specs.Memory.{IsWithinBound};
+ghost use Rattle.nova_back.specs.Placed.{IsPlacedBy};
 ghost use Rattle.nova_front.specs.Sources.{IsTypedSource};
 ghost use Rattle.nova_commands.specs.Building.{IsCompileCause, IsFormCause, IsTextCause};
 ghost use Rattle.nova_commands.specs.Forms.{form_bound, IsCodeFor, IsBoundedFormOf, HasBanks};
@@ -112,11 +114,14 @@ pub fn compile_text(
     ensures program { IfOk result (λ t. IsTypedSource bytes.now (typed_program t.typed)) }
     ensures form { IfOk result (λ t. IsBoundedFormOf (typed_program t.typed) (labels_view t.built.ssu)) }
     ensures code { IfOk result (λ t. IsCodeFor (typed_program t.typed) t.built.code) }
+    ensures form_code { IfOk result (λ t. IsCodeOf (labels_view t.built.ssu) slots t.built.code) }
     ensures short { IfOk result (λ t. length t.built.code.list ≤ store) }
     ensures brief { IfOk result (λ t. length t.built.code.list ≤ form_bound (typed_program t.typed)) }
     ensures starts { IfOk result (λ t. AreStartsOf (labels_view t.built.ssu) t.built.code t.built.starts.items) }
     ensures report { IfOk result (λ t. IsReportOn (labels_view t.built.ssu) slots w.now budget t.built.report) }
     ensures found { IfOk result (λ t. HasVector t.built.report.verdict) }
+    // Each value stands where the report's vector has it.
+    ensures placed { IfOk result (λ t. IsPlacedBy (labels_view t.built.ssu) slots (vector t.built.report.x.on.items) t.built.code.list) }
     // Under the weights the code's moves cost at most what the report's vector does.
     ensures light { IfOk result (λ t. moves t.built.code.list t.built.starts.items w.now ≤ report_cost t.built.report) }
     // Where all live values at once fit a bank, at most two copies a value and one a use, each times the greatest weight.

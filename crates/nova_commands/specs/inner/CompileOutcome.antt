@@ -2,12 +2,16 @@
 use Rattle.std.specs.Prelude.{◌≡◌, ◌≤◌, ◌<◌, ◌^◌, ℕ, List, All, length, Result, Ok, Err}
 use Rattle.nv_ast.specs.Tree.{ProgramTree}
 use Rattle.nv_ast.specs.TypedView.{typed_program}
+use Rattle.ssu_ir.specs.View.{labels_view}
 use Rattle.zo_cert.specs.Report.{IsValidReport}
 use Rattle.zo_cert.specs.declared.report.Report.{Report}
 use Rattle.zo_cert.specs.declared.report.Verdict.{Verdict}
 use Rattle.zo_cert.specs.declared.report.Verdict.TheVariants as verdict
+use Rattle.zo_model.specs.Program.{vector}
+use Rattle.nova_back.specs.Causes.{IsCodeOf, AreStartsOf, IsReportOn}
+use Rattle.nova_back.specs.Placed.{IsPlacedBy}
 use Rattle.nova_front.specs.Sources.{IsTypedSource}
-use Rattle.nova_commands.specs.Forms.{form_bound, IsCodeFor, HasBanks, HasNoBanks}
+use Rattle.nova_commands.specs.Forms.{form_bound, IsCodeFor, IsBoundedFormOf, HasBanks, HasNoBanks}
 use Rattle.nova_commands.specs.declared.build.Compiled.{Compiled}
 use Rattle.nova_commands.specs.declared.build.CompileError.{CompileError}
 use Rattle.nova_commands.specs.declared.build.CompileError.TheVariants as compile
@@ -17,12 +21,22 @@ use Rattle.command_line.specs.declared.refusal.Refusal.{Refusal}
 use Rattle.command_line.specs.declared.refusal.Refusal.TheVariants as refusal
 use Rattle.nova_commands.specs.inner.Telling.{IsSpelledAs}
 
--- the typed program of the text, its code, and the report on its banks
+-- The form that is returned beside the code is one of the program. The code is that of this form, whose labels start at these places. The
+-- report is on its banks, and the values stand where its vector has them.
+pub record IsOfItsForm (slots : ℕ) (ws : List ℕ) (budget : ℕ) (t : Compiled) : Type 0 where
+  pub is_form : IsBoundedFormOf (typed_program t.typed) (labels_view t.built.ssu)
+  pub code : IsCodeOf (labels_view t.built.ssu) slots t.built.code
+  pub starts : AreStartsOf (labels_view t.built.ssu) t.built.code t.built.starts.items
+  pub report : IsReportOn (labels_view t.built.ssu) slots ws budget t.built.report
+  pub placed : IsPlacedBy (labels_view t.built.ssu) slots (vector t.built.report.x.on.items) t.built.code.list
+
+-- the typed program of the text, its form and code, and the report on its banks
 pub record IsBuilt (text : List ℕ) (slots : ℕ) (ws : List ℕ) (budget store : ℕ) (t : Compiled) : Type 0 where
   pub is_source : IsTypedSource text (typed_program t.typed)
   pub code : IsCodeFor (typed_program t.typed) t.built.code
   pub short : length t.built.code.list ≤ store
   pub brief : length t.built.code.list ≤ form_bound (typed_program t.typed)
+  pub form : IsOfItsForm slots ws budget t
   pub banks : HasBanks (typed_program t.typed) slots ws budget t.built.code t.built.starts.items t.built.report
 
 -- the text has a typed program, and the report says with this verdict why no banks were found for it

@@ -38,6 +38,9 @@ returns-clause-code c =
     let form : IsBoundedFormOf (typed_program c.in_ok-typed.typed) (labels_view c.in_ok-form.form) = form-of _ c.in_ok-typed.flat.funs.items c.in_ok-typed.flat.main _ c.in_ok-typed.flat.formed c.in_ok-typed.ensures.kept c.in_ok-typed.ensures.wide c.in_ok-typed.ensures.bulk c.in_ok-form.ensures.single c.in_ok-form.ensures.kept c.in_ok-form.ensures.peak c.in_ok-form.ensures.size c.in_ok-form.ensures.code in
     code-for _ _ _ _ form c.in_ok-built.ensures.code
 
+pub returns-clause-form_code : goal.returns-clause-form_code
+returns-clause-form_code c = rw c.in_ok-built.ensures.form c.in_ok-built.ensures.code
+
 pub returns-clause-brief : goal.returns-clause-brief
 returns-clause-brief c =
     let form : IsBoundedFormOf (typed_program c.in_ok-typed.typed) (labels_view c.in_ok-form.form) = form-of _ c.in_ok-typed.flat.funs.items c.in_ok-typed.flat.main _ c.in_ok-typed.flat.formed c.in_ok-typed.ensures.kept c.in_ok-typed.ensures.wide c.in_ok-typed.ensures.bulk c.in_ok-form.ensures.single c.in_ok-form.ensures.kept c.in_ok-form.ensures.peak c.in_ok-form.ensures.size c.in_ok-form.ensures.code in
@@ -51,6 +54,9 @@ returns-clause-starts c = rw c.in_ok-built.ensures.form c.in_ok-built.ensures.st
 
 pub returns-clause-cheap : goal.returns-clause-cheap
 returns-clause-cheap c = rw c.in_ok-built.ensures.form c.in_ok-built.ensures.cheap
+
+pub returns-clause-placed : goal.returns-clause-placed
+returns-clause-placed c = rw c.in_ok-built.ensures.form c.in_ok-built.ensures.placed
 
 pub returns-clause-bounded : goal.returns-clause-bounded
 returns-clause-bounded c = rw c.in_ok-built.ensures.form c.in_ok-built.ensures.bounded

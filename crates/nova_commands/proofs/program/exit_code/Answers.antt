@@ -2,13 +2,12 @@ use Rattle.std.proofs.Common.{◌≡◌, ◌∙◌, sym, refl, inl, inr, ap, Lis
 use Rattle.std.proofs.lemmas.Bool.{false≢true}
 use Rattle.std.proofs.lemmas.Result.{IfErr-weaker}
 use Rattle.nv_outside.specs.Causes.{Rose}
-use Rattle.nv_outside.proofs.Steps.{if-err}
 use Rattle.command_line.specs.Command.{command_of}
 use Rattle.command_line.specs.declared.status.Status.TheVariants as status
 use Rattle.nova_commands.specs.Exits.{words_given}
 use Rattle.nova_commands.proofs.Agreed.{agreed}
 use Rattle.nova_commands.proofs.Completeness.{memory-complete, memory-made}
-use Rattle.nova_commands.proofs.Ending.{always, asks-nothing}
+use Rattle.nova_commands.proofs.Ending.{always, any-error, asks-nothing}
 use Rattle.nova_commands.proofs.Printing.{all-same, memory-generated, memory-printed}
 use Rattle.nova_commands.proofs.program.exit_code.Goals as goal
 
@@ -153,4 +152,4 @@ pub returns-in-Err-clause-silent : goal.returns-in-Err-clause-silent
 returns-in-Err-clause-silent g c = (status.NoMemory, c.from-in-Err.ensures ∙ c.code-in-Err.ensures, λ memory. refl)
 
 pub returns-in-Err-clause-memory : goal.returns-in-Err-clause-memory
-returns-in-Err-clause-memory g c = if-err c.args.given _ (λ e kind. (status.NoMemory, c.from-in-Err.ensures ∙ c.code-in-Err.ensures, refl))
+returns-in-Err-clause-memory g c = any-error c.args.given _ (λ e kind. (status.NoMemory, c.from-in-Err.ensures ∙ c.code-in-Err.ensures, refl))
