@@ -1,5 +1,5 @@
 // What a program declares, found by name.
-ghost use Rattle.std.specs.Prelude.{◌≡◌, ◌≤◌, ◌+◌, ◌++◌, ℕ, List, [], ◌∷◌, false, None, Some, bytes_eq, length, map, if◌then◌else◌, IfOk, OnOk, MatchOption};
+ghost use Rattle.std.specs.Prelude.{◌≡◌, ◌≤◌, ◌+◌, ◌++◌, ℕ, List, [], ◌∷◌, ◌<◌, false, None, Some, bytes_eq, length, map, option_map, slice_get, if◌then◌else◌, IfOk, OnOk, MatchOption};
 ghost use Rattle.std.specs.HashMap.{get_by};
 ghost use Rattle.nv_ast.specs.LayoutView.{layout_tree};
 ghost use Rattle.nv_ast.specs.Tree.{NamedLayout};
@@ -263,7 +263,9 @@ impl<'a> Table<'a> {
     /// a name itself, the one that is named.
     pub fn layout(&self, x: &Name, limit: usize) -> Option<(&'a LayoutText, usize)>
         ensures outline { MatchOption result (outline (take limit (declared_in self.now).layouts) (NamedLayout x.now) ≡ PartsOutline no_named_outlines) (λ found. outline (take limit (declared_in self.now).layouts) (NamedLayout x.now) ≡ outline (take found.1 (declared_in self.now).layouts) (layout_tree found.0.now)) }
-        ensures unnamed { MatchOption result (limit ≡ limit) (λ found. is_alias (layout_tree found.0.now) ≡ false) }
+        ensures unnamed { IfSome result (λ found. is_alias (layout_tree found.0.now) ≡ false) }
+        ensures stands { IfSome result (λ found. option_map (λ l. l.1) (slice_get self.now.layouts.items found.1) ≡ Some found.0) }
+        ensures within { IfSome result (λ found. found.1 < limit) }
     {
         let mut place = *self.layout_places.get(&x)?;
         let mut before = limit;

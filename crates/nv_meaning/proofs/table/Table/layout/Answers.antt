@@ -1,4 +1,5 @@
-use Rattle.std.proofs.Common.{◌∙◌, ap, sym, refl, take, arith}
+use Rattle.std.proofs.Common.{◌∙◌, Some, option_map, ap, sym, refl, take, arith}
+use Rattle.std.proofs.lemmas.Option.{slice_get-get_or}
 use Rattle.nv_ast.specs.Outline.{outline}
 use Rattle.nv_meaning.specs.inner.TableView.{declared_in}
 use Rattle.nv_meaning.proofs.NameIndices.{place-below, layout-none, layout-beyond, layout-found}
@@ -9,7 +10,7 @@ returns-in_err-place-clause-outline c =
     rw c.from_residual.ensures (layout-none c.args.self.now.layouts.items c.args.x.now c.args.limit (sym (c.in_err-place.ensures.value ∙ c.args.self.now.layouts_found c.args.x.now)))
 
 pub loop-place-init : goal.loop-place-init
-loop-place-init c = (c.args.x.now, sym (c.in_ok-place.ensures.value ∙ c.args.self.now.layouts_found c.args.x.now), refl)
+loop-place-init c = (c.args.x.now, sym (c.in_ok-place.ensures.value ∙ c.args.self.now.layouts_found c.args.x.now), refl, omega arith)
 
 pub index-requires : goal.index-requires
 index-requires c =
@@ -34,15 +35,25 @@ loop-place-preserved c =
       c.in-Some.next.now,
       sym (c.in_ok-place-in-Some.ensures.value ∙ c.args.self.now.layouts_found c.in-Some.next.now),
       inv.2 ∙ layout-found items inv.0 c.loop-place.place c.loop-place.before c.index.result.now inv.1 c.loop-place-test.true c.index.ensures ∙ ap (outline (take c.loop-place.place known)) c.in-Some.ensures,
+      (let below = inv.3 in omega (arith, below, c.loop-place-test.true)),
     )
 
-pub returns-in-None : goal.returns-in-None
-returns-in-None c =
+pub returns-in-None-clause-outline : goal.returns-in-None-clause-outline
+returns-in-None-clause-outline c =
     let inv = c.loop-place.invariant in
-    record {
-      outline = inv.2 ∙ layout-found c.args.self.now.layouts.items inv.0 c.loop-place.place c.loop-place.before c.index.result.now inv.1 c.loop-place-test.true c.index.ensures;
-      unnamed = c.in-None.ensures;
-    }
+    inv.2 ∙ layout-found c.args.self.now.layouts.items inv.0 c.loop-place.place c.loop-place.before c.index.result.now inv.1 c.loop-place-test.true c.index.ensures
+
+pub returns-in-None-clause-unnamed : goal.returns-in-None-clause-unnamed
+returns-in-None-clause-unnamed c = c.in-None.ensures
+
+pub returns-in-None-clause-stands : goal.returns-in-None-clause-stands
+returns-in-None-clause-stands c =
+    let items = c.args.self.now.layouts.items in
+    let below = place-below (λ k. k.0.now) items c.loop-place.invariant.0 c.loop-place.place c.loop-place.invariant.1 in
+    ap (option_map (λ l. l.1)) (slice_get-get_or items c.loop-place.place c.index.result.now below ∙ ap Some (sym c.index.ensures))
+
+pub returns-in-None-clause-within : goal.returns-in-None-clause-within
+returns-in-None-clause-within c = let below = c.loop-place.invariant.3 in omega (arith, below, c.loop-place-test.true)
 
 pub returns-clause-outline : goal.returns-clause-outline
 returns-clause-outline c =
