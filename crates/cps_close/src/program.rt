@@ -14,6 +14,7 @@ ghost use Rattle.flow_ir.specs.View.{label_view};
 ghost use Rattle.flow_ir.specs.Wide.{wide as flow_wide};
 ghost use Rattle.cps_close.specs.Led.{AreLedTo};
 ghost use Rattle.cps_close.specs.inner.Closed.{IsClosed};
+ghost use Rattle.cps_close.specs.inner.Pruned.{IsPruned};
 
 use crate::collect::labels_in;
 use crate::prune::pruned;
@@ -41,13 +42,14 @@ pub fn close(alloc: Global, c: Cps) -> Result<Flow, NoMemory>
     Ok(Flow { labels })
 }
 
-/// The flow without the labels that label 0 doesn't lead to. It takes as many words, and its outcomes within each number
-/// of jumps are equal.
+/// The flow without the labels that label 0 doesn't lead to; the others stay as they are, but for their numbers. It takes as many
+/// words, its outcomes within each number of jumps are equal, and it is neither wider nor larger.
 pub fn drop_unreached(alloc: Global, f: &Flow) -> Result<Flow, NoMemory>
     ensures params { IfOk result (λ g. flow_params (map label_view g.labels.items) ≡ flow_params (map label_view f.now.labels.items)) }
     ensures equal { IfOk result (λ g. AreEqual (flow_params (map label_view f.now.labels.items)) (flow_meaning (map label_view f.now.labels.items)) (flow_meaning (map label_view g.labels.items))) }
     ensures wide { IfOk result (λ g. flow_wide (map label_view g.labels.items) ≤ flow_wide (map label_view f.now.labels.items)) }
     ensures led { IfOk result (λ g. AreLedTo (map label_view g.labels.items)) }
+    ensures left { IfOk result (λ g. IsPruned (map label_view f.now.labels.items) (map label_view g.labels.items)) }
     ensures bulk { IfOk result (λ g. IsAtMost (flow_bulk (map label_view g.labels.items)) (flow_bulk (map label_view f.now.labels.items))) }
 {
     let labels = pruned(alloc, &f.labels)?;
