@@ -1,9 +1,9 @@
 -- The tests of a contracted flow, node by node and label by label.
 use Rattle.std.proofs.Common.{◌≡◌, ◌↔◌, ℕ, zero, suc, ◌+◌, ◌<◌, ◌≤◌, min, Bool, true, false, not, ◌&&◌, ◌||◌, nat_eq, nat_le, List, [], ◌∷◌, ◌++◌, Some, map, refl, sym, ap, subst, ◌∙◌, length, take, drop, get_or, slice_get, All, if◌then◌else◌, arith}
 use Rattle.std.below.core.specs.declared.int.u32.TheConstants.{MAX}
-use Rattle.std.proofs.lemmas.Bool.{and_parts, and_from, or_right, or_cases, not-true, false≢true}
+use Rattle.std.proofs.lemmas.Bool.{and_parts, and_from, or_right, not-true, false≢true}
 use Rattle.std.proofs.lemmas.Bool.Decides.{nat_tests}
-use Rattle.std.proofs.lemmas.List.{map_more, at_drop_more}
+use Rattle.std.proofs.lemmas.List.{map_more}
 use Rattle.std.proofs.lemmas.List.Elements.{All-nil, All-cons, All-get_or}
 use Rattle.std.proofs.lemmas.Option.{none-some, same_Some, slice_get_within, get_or_from_slice_get}
 use Rattle.flow_ir.specs.Tree.{Label}
@@ -12,6 +12,7 @@ use Rattle.flow_ir.specs.declared.flow.Label.{Label as FlowLabel}
 use Rattle.flow_ir.specs.declared.flow.Tree.{Tree, size-Tree}
 use Rattle.flow_ir.specs.declared.flow.Tree.TheVariants.{Let', Read', Write', If', Jump, Halt}
 use Rattle.flow_ir.specs.declared.flow.Tree.TheViews.{deep-Let', deep-Read', deep-Write', deep-If'}
+use Rattle.cps_close.proofs.Leaving.{item-next}
 use Rattle.cps_rules.proofs.Mentions.{smaller}
 use Rattle.flow_contract.proofs.Lookup.{there}
 use Rattle.flow_contract.specs.Contracted.{jumps_to, all_jumps_to, is_bare, is_literal, is_undecided, AreContracted}
@@ -178,9 +179,6 @@ asked_if {cur = cur} c a b q q' f r part rest x y z h is ef e ex ey ez none =
 
 -- ---- all labels
 
-item_next : {X : Type 0} (xs : List X) (i : ℕ) (x : X) → i < length xs → x ≡ get_or xs i x → drop i xs ≡ x ∷ drop (i + 1) xs
-item_next xs i x lt is = at_drop_more (λ l. l) xs i x lt ∙ ap (λ y. y ∷ drop (i + 1) xs) (sym is)
-
 -- those in front of i fit
 abbrev pub Fitting : List ℕ → List FlowLabel → ℕ → Type 0
 Fitting counts labels i = all_fit counts i (map label_view (drop i labels)) ≡ all_fit counts 0 (map label_view labels)
@@ -188,7 +186,7 @@ Fitting counts labels i = all_fit counts i (map label_view (drop i labels)) ≡ 
 fitting_step : (counts : List ℕ) (labels : List FlowLabel) (i : ℕ) (l : FlowLabel) (b : Bool) → i < length labels → l ≡ get_or labels i l → b ≡ fits counts i (label_view l) → all_fit counts i (map label_view (drop i labels)) ≡ (b && all_fit counts (i + 1) (map label_view (drop (i + 1) labels)))
 fitting_step counts labels i l b lt at is =
     let next : suc i ≡ i + 1 = omega arith in
-    ap (λ r. all_fit counts i (map label_view r)) (item_next labels i l lt at) ∙ ap (λ c. c && all_fit counts (suc i) (map label_view (drop (i + 1) labels))) (sym is)
+    ap (λ r. all_fit counts i (map label_view r)) (item-next labels i l lt at) ∙ ap (λ c. c && all_fit counts (suc i) (map label_view (drop (i + 1) labels))) (sym is)
     ∙ ap (λ j. b && all_fit counts j (map label_view (drop (i + 1) labels))) next
 
 pub fitting_turn : (counts : List ℕ) (labels : List FlowLabel) (i : ℕ) (l : FlowLabel) (b : Bool) → i < length labels → l ≡ get_or labels i l → b ≡ fits counts i (label_view l) → b ≡ true → Fitting counts labels i → Fitting counts labels (i + 1)

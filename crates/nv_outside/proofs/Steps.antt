@@ -1,5 +1,5 @@
 -- The calls that a save makes.
-use Rattle.std.proofs.Common.{arith, ◌≡◌, ◌≢◌, ◌≤◌, ◌+◌, ◌⊎◌, inl, inr, ℕ, List, [], ◌∷◌, ◌++◌, All, map, length, Option, Some, None, Result, Ok, Err, OnOk, IfErr, refl, ap, subst}
+use Rattle.std.proofs.Common.{arith, ◌≡◌, ◌≢◌, ◌≤◌, ◌+◌, ◌⊎◌, inl, inr, ℕ, List, [], ◌∷◌, ◌++◌, All, map, length, Option, Result, Ok, Err, OnOk, IfErr, refl, ap, subst}
 use Rattle.std.proofs.lemmas.List.Elements.{All-append, All-nil, All-cons}
 use Rattle.std.proofs.lemmas.List.{length-append}
 use Rattle.std.specs.IoError.{error_kind}
@@ -10,11 +10,6 @@ use Rattle.std.specs.declared.io.ErrorKind.TheVariants as kinds
 use Rattle.nv_outside.specs.Calls.{Asked}
 use Rattle.nv_outside.specs.Steps.{Step, CreateNew, Remove, Overwrite, Made, Done, Failed, made_by, Makes, Told, Refused, IsBeside, IsTaken, IsCreated, IsNotCreated, filling, IsCutOff, IsReplaced, IsLeft, IsOfOther, IsTarget, HasTaken, HasNotTaken, IsSaved, IsUnsaved}
 use Rattle.nv_outside.proofs.Calls.{asked-none, asked-both}
-
--- of each error
-pub if-err-map : {T E : Type 0} (r : Result T E) (P Q : E → Type 0) → ((e : E) → P e → Q e) → IfErr r P → IfErr r Q
-if-err-map (Ok v) P Q f x = tt
-if-err-map (Err e) P Q f x = f e x
 
 -- names that are taken
 abbrev pub PassesOver : {S : Type 0} → (S → List Made → Type 0) → List ℕ → S → S → ℕ → Type 0

@@ -1,8 +1,8 @@
 use Rattle.std.proofs.Common.{[], ◌∷◌}
-use Rattle.std.proofs.lemmas.Result.{err_from_is_err_and}
+use Rattle.std.proofs.lemmas.Result.{IfErr-weaker, err_from_is_err_and}
 use Rattle.std.specs.IoError.{error_kind}
 use Rattle.nv_outside.specs.Steps.{WriteAll, SyncAll, Rename, putting, Makes, IsCutOff}
-use Rattle.nv_outside.proofs.Steps.{if-err-map, cut-now, cut-later, cut-last}
+use Rattle.nv_outside.proofs.Steps.{cut-now, cut-later, cut-last}
 use Rattle.nv_outside.proofs.saving.put.Goals as goal
 
 pub returns-in_err-write_all-clause-cut_off : goal.returns-in_err-write_all-clause-cut_off
@@ -19,7 +19,7 @@ returns-in_err-sync_all-clause-cut_off g c =
 
 pub returns-clause-cut_off : goal.returns-clause-cut_off
 returns-clause-cut_off g c =
-    if-err-map c.rename.result (λ e. Makes g.C.SaveCalls.history c.sync_all.new.self c.rename.new.self (IsCutOff (error_kind e) (Rename c.args.path.now c.args.name.now ∷ [])))
+    IfErr-weaker c.rename.result (λ e. Makes g.C.SaveCalls.history c.sync_all.new.self c.rename.new.self (IsCutOff (error_kind e) (Rename c.args.path.now c.args.name.now ∷ [])))
     (λ e. Makes g.C.SaveCalls.history c.args.calls.now c.rename.new.self (IsCutOff (error_kind e) (putting c.args.bytes.now c.args.path.now c.args.name.now)))
     (λ e last. cut-later g.C.SaveCalls.history c.args.calls.now c.write_all.new.self c.rename.new.self (WriteAll c.args.bytes.now) (SyncAll ∷ Rename c.args.path.now c.args.name.now ∷ []) (error_kind e) c.in_ok-write_all.ensures.made
     (cut-later g.C.SaveCalls.history c.write_all.new.self c.sync_all.new.self c.rename.new.self SyncAll (Rename c.args.path.now c.args.name.now ∷ []) (error_kind e) c.in_ok-sync_all.ensures.made last))
