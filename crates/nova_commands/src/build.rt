@@ -11,6 +11,7 @@ ghost use Rattle.nova_back.specs.Causes.{IsCodeOf, AreStartsOf, IsReportOn, HasV
 ghost use Rattle.nova_back.specs.Memory.{IsWithinBound};
 ghost use Rattle.nova_back.specs.Placed.{IsPlacedBy};
 ghost use Rattle.nova_front.specs.Sources.{IsTypedSource};
+ghost use Rattle.nova_middle.specs.Reduced.{IsMadeOfReduced};
 ghost use Rattle.nova_commands.specs.Building.{IsCompileCause, IsFormCause, IsTextCause};
 ghost use Rattle.nova_commands.specs.Forms.{form_bound, IsCodeFor, IsBoundedFormOf, HasBanks};
 
@@ -120,7 +121,7 @@ pub fn compile_text(
     ensures starts { IfOk result (λ t. AreStartsOf (labels_view t.built.ssu) t.built.code t.built.starts.items) }
     ensures report { IfOk result (λ t. IsReportOn (labels_view t.built.ssu) slots w.now budget t.built.report) }
     ensures found { IfOk result (λ t. HasVector t.built.report.verdict) }
-    // Each value stands where the report's vector has it.
+    // The code is what the form emits where its values stand as the report's vector has them, without some instructions.
     ensures placed { IfOk result (λ t. IsPlacedBy (labels_view t.built.ssu) slots (vector t.built.report.x.on.items) t.built.code.list) }
     // Under the weights the code's moves cost at most what the report's vector does.
     ensures light { IfOk result (λ t. moves t.built.code.list t.built.starts.items w.now ≤ report_cost t.built.report) }
@@ -128,6 +129,8 @@ pub fn compile_text(
     ensures cheap { IfOk result (λ t. peak (labels_view t.built.ssu) ≤ 15 → IsCheapFor (labels_view t.built.ssu) w.now (report_cost t.built.report)) }
     ensures banks { IfOk result (λ t. HasBanks (typed_program t.typed) slots w.now budget t.built.code t.built.starts.items t.built.report) }
     ensures bounded { IfOk result (λ t. IsWithinBound (labels_view t.built.ssu)) }
+    // The form is that of a flow in which the passes have nothing left to do.
+    ensures made { IfOk result (λ t. IsMadeOfReduced (labels_view t.built.ssu)) }
     ensures only_program { (p : ProgramTree) → IsTypedSource bytes.now p → MatchResult result (λ t. typed_program t.typed ≡ p) (λ e. (e ≡ CompileError.NoMemory) ⊎ IsFormCause p slots w.now budget store e) }
     ensures refused { IfErr result (λ e. (e ≡ CompileError.NoMemory) ⊎ IsCompileCause bytes.now slots w.now budget store e) }
     ensures only_refused { (f : CompileError) → IsTextCause bytes.now f → MatchResult result (λ _. ⊥) (λ e. (e ≡ CompileError.NoMemory) ⊎ (e ≡ f)) }

@@ -5,12 +5,19 @@ use Rattle.cps_close.specs.Led.{AreLedTo}
 use Rattle.cps_rules.specs.Simplified.{AreTidy}
 use Rattle.flow_contract.specs.Contracted.{AreContracted}
 use Rattle.flow_prune.specs.Wanted.{AllWanted}
+use Rattle.ssu_ir.specs.Tree as ssu
+use Rattle.ssu_make.specs.Made.{AllMade}
 use Rattle.nova_middle.specs.Rules.{IsAtRest}
 
--- contracted, with no label but those that the first one leads to, with wanted parameters alone, and no `Let` that a rule answers, that is just another operand, or whose variable nothing uses
+-- contracted, with no label but those that the first one leads to, with wanted parameters alone in each label but the first, and no `Let` that
+-- a rule answers, that is just another operand, or whose variable nothing uses
 pub record AreReduced (labels : List Label) : Type 0 where
   pub contracted : AreContracted labels
   pub led : AreLedTo labels
   pub wanted : AllWanted labels
   pub rules : All IsAtRest labels
   pub tidy : AreTidy labels
+
+-- a form in single use that is made of such a flow, node by node
+abbrev pub IsMadeOfReduced : List ssu.Label → Type 0
+IsMadeOfReduced form = (labels : List Label) × AreReduced labels × AllMade 0 labels form

@@ -1,6 +1,6 @@
 // Whole programs.
 
-ghost use Rattle.std.specs.Prelude.{◌≡◌, ◌≤◌, true, List, All, IfOk, map};
+ghost use Rattle.std.specs.Prelude.{◌≡◌, ◌≤◌, true, All, IfOk, map};
 ghost use Rattle.nv_base.specs.Meanings.{KeepsOutcomes};
 ghost use Rattle.nv_base.specs.Measures.{IsAtMost};
 ghost use Rattle.flat_ir.specs.Bulk.{bulk as flat_bulk};
@@ -9,21 +9,19 @@ ghost use Rattle.flat_ir.specs.Reached.{params_in as flat_params};
 ghost use Rattle.flat_ir.specs.Wide.{wide as flat_wide};
 ghost use Rattle.flow_ir.specs.Bulk.{bulk};
 ghost use Rattle.flow_ir.specs.Meaning.{flow_meaning, flow_params};
-ghost use Rattle.flow_ir.specs.Tree as flow;
 ghost use Rattle.flow_ir.specs.View.{label_view};
 ghost use Rattle.flow_ir.specs.Wide.{wide};
 ghost use Rattle.cps_close.specs.Led.{AreLedTo};
 ghost use Rattle.cps_rules.specs.Simplified.{AreTidy};
 ghost use Rattle.flow_contract.specs.Contracted.{AreContracted};
 ghost use Rattle.flow_prune.specs.Wanted.{AllWanted};
-ghost use Rattle.nova_middle.specs.Reduced.{AreReduced};
+ghost use Rattle.nova_middle.specs.Reduced.{IsMadeOfReduced};
 ghost use Rattle.nova_middle.specs.Rules.{IsAtRest};
 ghost use Rattle.ssu_ir.specs.Meaning.{ssu_meaning, ssu_params};
 ghost use Rattle.ssu_ir.specs.Measures.{peak, size, code_bound};
 ghost use Rattle.ssu_ir.specs.Single.{single};
 ghost use Rattle.ssu_ir.specs.View.{labels_view};
 ghost use Rattle.ssu_make.specs.Bounds.{size_bound, length_bound};
-ghost use Rattle.ssu_make.specs.Made.{AllMade};
 
 use crate::rules::simplified;
 use crate::simple::are_simple;
@@ -41,9 +39,9 @@ use std::alloc::Global;
 
 /// The flow of a flat program, which has its outcomes and is neither wider nor larger: in continuation form, in
 /// one function, in labels without free variables, contracted, and simplified by the rules. Label 0 leads to each
-/// label. To each label but 0 at least two jumps lead, and each of its parameters is wanted; no `If` compares two literals. No `Let` is left that
-/// a rule answers, that is just another operand, or whose variable nothing uses. Memory exhaustion is also the answer
-/// where a form would need 2^32 labels or variables.
+/// label. To each label but 0 at least two jumps lead, and each of its parameters is wanted; no `If` compares two
+/// literals. No `Let` is left that a rule answers, that is just another operand, or whose variable nothing uses. Memory
+/// exhaustion is also the answer where a form would need 2^32 labels or variables.
 pub fn to_flow(alloc: Global, f: &FlatProgram) -> Result<Flow, NoMemory>
     ensures kept { IfOk result (λ g. KeepsOutcomes (flat_params f.now.funs.items f.now.main) (flow_params (map label_view g.labels.items)) (flat_meaning f.now.funs.items f.now.main) (flow_meaning (map label_view g.labels.items))) }
     ensures contracted { IfOk result (λ g. AreContracted (map label_view g.labels.items)) }
@@ -131,7 +129,7 @@ fn count_nodes(t: &Tree) -> u64 {
 /// would need 2^32 labels or variables.
 pub fn middle(alloc: Global, f: &FlatProgram) -> Result<Ssu, NoMemory>
     ensures kept { IfOk result (λ s. KeepsOutcomes (flat_params f.now.funs.items f.now.main) (ssu_params (labels_view s)) (flat_meaning f.now.funs.items f.now.main) (ssu_meaning (labels_view s))) }
-    ensures made { IfOk result (λ s. (labels : List flow.Label) × AreReduced labels × AllMade 0 labels (labels_view s)) }
+    ensures made { IfOk result (λ s. IsMadeOfReduced (labels_view s)) }
     ensures single { IfOk result (λ s. single (labels_view s) ≡ true) }
     ensures peak { IfOk result (λ s. peak (labels_view s) ≤ flat_wide f.now.funs.items f.now.main) }
     ensures size { IfOk result (λ s. size (labels_view s) ≤ size_bound (flat_wide f.now.funs.items f.now.main) (flat_bulk f.now.funs.items f.now.main)) }

@@ -55,6 +55,9 @@ returns-clause-starts c = rw c.in_ok-built.ensures.form c.in_ok-built.ensures.st
 pub returns-clause-cheap : goal.returns-clause-cheap
 returns-clause-cheap c = rw c.in_ok-built.ensures.form c.in_ok-built.ensures.cheap
 
+pub returns-clause-made : goal.returns-clause-made
+returns-clause-made c = rw c.in_ok-built.ensures.form c.in_ok-form.ensures.made
+
 pub returns-clause-placed : goal.returns-clause-placed
 returns-clause-placed c = rw c.in_ok-built.ensures.form c.in_ok-built.ensures.placed
 
