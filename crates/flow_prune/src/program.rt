@@ -35,9 +35,9 @@ fn without_gone(alloc: Global, f: &Flow, table: &[Vec<u32>]) -> Result<Flow, NoM
 }
 
 /// The flow without the parameters of labels but 0 that nothing wants. Its outcomes within each number of jumps are
-/// equal, it stays contracted, where label 0 led to each label it still does, and it is neither wider nor larger. A parameter is wanted where a node other than a
-/// jump uses it, or where a jump hands it on for a wanted one. Memory exhaustion is also the answer where it has 2^32
-/// labels.
+/// equal, and it is neither wider nor larger. It stays contracted, and where label 0 led to each label, it still does. A
+/// parameter is wanted where a node other than a jump uses it, or where a jump hands it on for a wanted one. Memory
+/// exhaustion is also the answer where it has 2^32 labels.
 pub fn prune(alloc: Global, f: &Flow) -> Result<Flow, NoMemory>
     ensures params { IfOk result (λ g. flow_params (map label_view g.labels.items) ≡ flow_params (map label_view f.now.labels.items)) }
     ensures equal { IfOk result (λ g. AreEqual (flow_params (map label_view f.now.labels.items)) (flow_meaning (map label_view f.now.labels.items)) (flow_meaning (map label_view g.labels.items))) }

@@ -14,7 +14,8 @@ fn path_of(name: &str) -> &str
     if name == "-" { "/dev/stdin" } else { name }
 }
 
-/// The bytes of a file of at most so many; where there are none, the answer says why.
+/// The bytes of a file of at most so many; where there are none, the answer says why. No clause says when there are none,
+/// nor what the answer says then.
 pub fn load<F: Files>(
     alloc: Global,
     files: &mut F,

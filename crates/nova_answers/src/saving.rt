@@ -16,7 +16,8 @@ pub struct Saving {
     pub bytes: Vec<u8>,
 }
 
-/// Adds a file that is to be saved.
+/// Adds a file that is to be saved, or the answer fails since memory is exhausted. No clause says that it is added, nor that the
+/// answer fails where it isn't.
 pub fn add_saving(
     alloc: Global,
     savings: &mut Vec<Saving>,
@@ -37,7 +38,8 @@ pub fn add_saving(
     }
 }
 
-/// Saves files, `-` being the standard output, up to the first that can't be, and tells of that.
+/// Whether all files were saved, `-` being the standard output: up to the first that can't be, of which the second sink is told.
+/// Which of them were saved where one can't be, and what is told, no clause says.
 pub fn save_all<F: Files, K: Sink, E: Sink>(
     savings: &[Saving],
     files: &mut F,
@@ -56,6 +58,7 @@ pub fn save_all<F: Files, K: Sink, E: Sink>(
     savings.is_empty() || save_each(savings, files, out, err)
 }
 
+// Saves them one by one.
 fn save_each<F: Files, K: Sink, E: Sink>(
     savings: &[Saving],
     files: &mut F,
@@ -78,6 +81,7 @@ fn save_each<F: Files, K: Sink, E: Sink>(
     true
 }
 
+// Saves or prints one of them.
 fn save<F: Files, K: Sink, E: Sink>(
     saving: &Saving,
     files: &mut F,
@@ -103,7 +107,7 @@ fn save<F: Files, K: Sink, E: Sink>(
     is_saved
 }
 
-/// Prints a text; of an empty one nothing is written.
+/// Whether a text was printed; of an empty one nothing is written.
 pub fn print<K: Sink>(out: &mut K, text: &[u8]) -> bool
     ensures done { K.tells → result ≡ true → K.written out.new ≡ K.written out.old ++ text.now }
     ensures failed { K.tells → result ≡ false → AppendsFront (K.written out.old) (K.written out.new) text.now }

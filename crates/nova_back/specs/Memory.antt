@@ -1,7 +1,7 @@
 -- What the choice of banks of a form takes, by counts that are made before its tables.
 use Rattle.std.specs.Prelude.{ℕ, ◌+◌, ◌*◌, ◌^◌, ◌≤◌, List, length}
 use Rattle.ssu_ir.specs.Measures.{size, total}
-use Rattle.ssu_ir.specs.Points.{Point, points}
+use Rattle.ssu_ir.specs.Points.{points}
 use Rattle.ssu_ir.specs.Tree.{Label}
 
 -- the live values of all points, each counted at each point

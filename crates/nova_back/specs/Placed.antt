@@ -1,4 +1,4 @@
--- Code in which the values of a form stand where a vector of its bank program has them.
+-- Code by a placement that is read from a vector of a form's bank program.
 use Rattle.std.specs.Prelude.{ℕ, Bool, List}
 use Rattle.ssu_ir.specs.Tree.{Label}
 use Rattle.placement.specs.declared.place.Placement.{Placement}
@@ -8,7 +8,8 @@ use Rattle.uc_isa.specs.declared.instruction.Instr.{Instr}
 use Rattle.uc_peep.specs.Rewrites.{IsWithout}
 use Rattle.ucode_emit.specs.Emits.{AreEmitted}
 
--- for a placement that is read from the vector, the code is what the form emits under it, without instructions that nothing needs
+-- for a placement that is read from the vector, the code is what the form emits under it, without some straight instructions, and with tests
+-- in the place of some comparisons
 pub record IsPlacedBy (labels : List Label) (slots : ℕ) (x : ℕ → Bool) (code : List Instr) : Type 0 where
   pub placement : Placement
   pub read : IsReadFrom labels slots x placement

@@ -92,7 +92,7 @@ pub fn back(
     ensures brief { IfOk result (λ b. length b.code.list ≤ code_bound (labels_view s)) }
     ensures report { IfOk result (λ b. IsReportOn (labels_view s) slots w.now budget b.report) }
     ensures found { IfOk result (λ b. HasVector b.report.verdict) }
-    // Each value stands where the report's vector has it.
+    // The code is what the form emits where its values stand as the report's vector has them, without some instructions.
     ensures placed { IfOk result (λ b. IsPlacedBy (labels_view s) slots (vector b.report.x.on.items) b.code.list) }
     // Under the weights the code's moves cost at most what the report's vector does.
     ensures light { IfOk result (λ b. moves b.code.list b.starts.items w.now ≤ report_cost b.report) }

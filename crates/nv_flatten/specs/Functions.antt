@@ -10,7 +10,8 @@ use Rattle.flat_values.specs.inner.Bounded.{AreOnce}
 use Rattle.flat_values.specs.inner.Made.{IsMade}
 use Rattle.flat_values.specs.inner.Whole.{Whole, whole_of, group_of}
 
--- a flat function is that of the program's function with the i-th of these names: it has its parameters, its result and its group, and does what its body does, where each call by number is one by name
+-- a flat function is that of the program's function with the i-th of these names: it has its parameters, its result and its group, and does
+-- what its body does, where each call by number is one by name
 pub record IsFunctionOf (w : Whole) (names : List (List ℕ)) (i : ℕ) (fun : FlatFun) : Type 0 where
   pub name : List ℕ
   pub named : slice_get names i ≡ Some name

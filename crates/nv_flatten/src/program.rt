@@ -39,8 +39,8 @@ use std::alloc::Global;
 
 /// The flat program of a typed one, which has its outcomes, within each number of calls. Each function
 /// that `main` reaches by calls stands in it once, and no others. `main` is number 0, and the others are
-/// numbered as they are first called. It is at most as wide as the program's room, and at most as large as its
-/// expanded size says.
+/// numbered as they are first called; no clause says in which order those are that one function calls. It is at
+/// most as wide as the program's room, and at most as large as its expanded size says.
 pub fn flatten(alloc: Global, t: &Typed) -> Result<FlatProgram, NoMemory>
     ensures first { IfOk result (λ f. f.main ≡ 0) }
     ensures functions { IfOk result (λ f. AreFunctionsOf (typed_program t.now) f.funs.items) }

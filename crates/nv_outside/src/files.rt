@@ -32,8 +32,8 @@ pub enum Saved {
 ///
 /// A store that tells what it holds says of each load and save what it did to these bytes. Every
 /// store counts, for each name, the loads and the saves that failed; a count starts at 0, rises only where a load
-/// or a save fails, never falls, and stands still at the end of its type. And it has a history: of each list of calls that were made before a
-/// load or a save, the list with this call after it was made after it.
+/// or a save fails, never falls, and stands still at the end of its type. And it has a history: of each list of calls
+/// that were made before a load or a save, the list with this call after it was made after it.
 pub trait Files {
     /// Whether stores of this kind tell what they hold.
     ghost tells: { Type 0 };

@@ -8,7 +8,8 @@ use Rattle.placement.specs.Plan.{Plan}
 use Rattle.par_move.specs.Moves.{Move, Words, all_at_once, one_by_one, temporary, StandFor}
 use Rattle.ucode_emit.specs.Pieces.{Sequences, instr_of, items, starts, parallel_moves}
 
--- single moves that do what a parallel move does: each of its moves whose ends are two places, some by way of the compiler's own register
+-- single moves that do what a parallel move does: each of its moves whose ends are two places, some by way of the compiler's own
+-- register; they are at most three for two
 pub record IsSequence (moves ms : List Move) : Type 0 where
   pub effect : (e : Words) (q : Place) → q ≢ temporary → one_by_one ms e q ≡ all_at_once moves e q
   pub kinds : StandFor moves ms

@@ -22,7 +22,7 @@ pub record KnowsFields (f : Facts) (ts : NamedTys) : Type 0 where
   pub of_height : f.height ≡ still (highest_named_ty ts)
   pub of_bool : f.has_bool ≡ some_named_bool ts
 
--- what is known by a number, of a cell of any kind and also where there is none: what is known of a cell's parts determines what is known of it
+-- what the cells determine of a number: of a cell what follows from its parts, and nothing where there is no cell
 pub record IsFactOf (s : Store) (i : ℕ) (f : Facts) : Type 0 where
   pub facts : List Facts
   pub of_cells : IsTable s.names s.cells facts
