@@ -12,7 +12,7 @@ use Rattle.placement.specs.declared.place.Pass.{Pass}
 use Rattle.placement.specs.Plan.{Home, first_in, first, serve_in, pass_in}
 use Rattle.placement.specs.Uses.{Access, accesses, Use}
 use Rattle.placement.proofs.Ordered.{RisesFrom, rises-cons, rises-later}
-use Rattle.placement.specs.Fits.{Rises, same_use, IsEighth, at_operand, use_operand}
+use Rattle.placement.specs.Fits.{same_use, IsEighth, at_operand, use_operand}
 use Rattle.zo_model.specs.Program.{cost_where}
 use Rattle.bank_form.specs.declared.column.Column.{Column}
 use Rattle.bank_form.specs.declared.column.Column.TheVariants.{First}

@@ -1,5 +1,5 @@
 -- The calls in progress before, in and after a call.
-use Rattle.std.specs.Prelude.{◌≡◌, ℕ, ◌≤◌, ◌-◌, List, Option, Some, None, map, length, take}
+use Rattle.std.specs.Prelude.{◌≡◌, ◌≤◌, ◌-◌, List, Option, Some, None, map, length, take}
 use Rattle.nv_values.specs.Running.{InCall, Chain, innermost}
 use Rattle.call_trace.specs.declared.callers.Caller.{Caller}
 use Rattle.call_trace.specs.declared.callers.Mark.{Mark}

@@ -4,7 +4,7 @@ use Rattle.std.specs.Prelude.{String, not, option_map, if◌then◌else◌}
 use Rattle.std.specs.declared.alloc.Global.{Global}
 use Rattle.std.specs.Str.{bytes_eq}
 use Rattle.std.proofs.lemmas.Slice.Eq.{bytes_eq-Decides}
-use Rattle.command_line.specs.Command.{Command, Run, Exec, Asm, Dis, Lint, Check, Contexts, Peep, Trace, Counts, Compile, Options, IfCompile, is_name, are_names, are_three_names, is_another, number_in, steps_of, gen_with, gen_of, command_of_two, command_of_three, command_of_four, command_of_more, trace_calls, trace_line, trace_with, trace_of, compile_with, compile_of, counts_of, options_of, options_with, taken, weights_of, command_of, texts}
+use Rattle.command_line.specs.Command.{Command, Run, Exec, Asm, Dis, Lint, Check, Contexts, Peep, Counts, Compile, Options, IfCompile, is_name, are_names, are_three_names, is_another, number_in, steps_of, gen_with, gen_of, command_of_two, command_of_three, command_of_four, command_of_more, trace_calls, trace_line, trace_with, trace_of, compile_with, compile_of, counts_of, options_of, options_with, taken, weights_of, command_of, texts}
 use Rattle.command_line.specs.Limits.{slots_limit, budget_default, budget_limit, store_default, store_limit}
 
 abbrev pub AreApart : Option Command → Type 0

@@ -1,5 +1,5 @@
 -- The bulks of groups are the least that bound their functions together.
-use Rattle.std.proofs.Common.{◌≡◌, ℕ, zero, suc, ◌+◌, ◌-◌, ◌≤◌, ◌<◌, true, nat_lt, ◌==◌, List, [], ◌∷◌, sym, subst, if◌then◌else◌, Option, Some, None, length, slice_get, arith}
+use Rattle.std.proofs.Common.{◌≡◌, ℕ, zero, suc, ◌+◌, ◌-◌, ◌≤◌, ◌<◌, nat_lt, ◌==◌, List, [], ◌∷◌, sym, subst, if◌then◌else◌, Option, Some, None, length, slice_get, arith}
 use Rattle.std.proofs.lemmas.Bool.{ltb-true, eqb-true}
 use Rattle.nv_base.specs.Measures.{Bulks, nothing, a_label, a_jump, a_node, both, IsAtMost}
 use Rattle.nv_base.proofs.Measures.{most-refl, most-trans, most-none, most-both, most-behind, most-if}

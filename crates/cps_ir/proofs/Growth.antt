@@ -1,14 +1,14 @@
 -- With more jumps left, a run gets at least as far.
-use Rattle.std.proofs.Common.{◌≡◌, ℕ, zero, suc, ◌≤◌, List, Option, Some, None, refl, arith, slice_get, length}
+use Rattle.std.proofs.Common.{ℕ, zero, suc, ◌≤◌, List, Option, Some, None, arith, slice_get, length}
 use Rattle.nv_base.specs.Memories.{Memories}
 use Rattle.nv_base.specs.Meanings.{FullOutcome, IsPrefix}
 use Rattle.nv_base.specs.Progress.{IsMonotone}
 use Rattle.nv_base.specs.Words.{Env, assigned, assigned_all, atom_word, atom_words, prim_word, compares}
-use Rattle.nv_base.specs.World.{World, begun, over, ended}
+use Rattle.nv_base.specs.World.{World, begun}
 use Rattle.nv_base.proofs.Same.{prefix-refl}
 use Rattle.nv_base.proofs.Kept.{IsKept, kept-read, kept-write, kept-if, kept-over, Adds, adds-kept, Gets, gets-kept, gets-going}
-use Rattle.cps_ir.specs.Term.{Handler, Term, Let, Read, Write, If, Fix, Call, Return, Throw, Jump, Halt, Fun}
-use Rattle.cps_ir.specs.Meaning.{handler_of, Body, label_in, Scope, Top, Bound, Frames, Bottom, Frame, Task, ToLabel, ToFun, Next, waiting, returned, or_label, thrown, does, at_body, enter_label, blank, enter_fun, enter, run, cps_meaning}
+use Rattle.cps_ir.specs.Term.{Term, Let, Read, Write, If, Fix, Call, Return, Throw, Jump, Halt, Fun}
+use Rattle.cps_ir.specs.Meaning.{handler_of, Body, label_in, Scope, Top, Bound, Frames, Bottom, Frame, Task, ToLabel, ToFun, Next, returned, or_label, thrown, does, at_body, enter_label, blank, enter_fun, enter, run, cps_meaning}
 
 module _ (R : World → FullOutcome → FullOutcome → Type 0) (k : IsKept R) (f g : Next) (h : (task : Task) (w : World) → R w (f task w) (g task w)) where
   kept-returned : (ws : List ℕ) (fr : Frames) (w : World) → R w (returned f ws fr w) (returned g ws fr w)

@@ -1,5 +1,5 @@
 -- The view of a term, node by node.
-use Rattle.std.proofs.Common.{◌≡◌, ℕ, List, Option, rules, Vec, Box}
+use Rattle.std.proofs.Common.{◌≡◌, ℕ, rules, Vec, Box}
 use Rattle.std.specs.declared.alloc.Global.{Global}
 use Rattle.nv_base.specs.declared.term.Atom.{Atom}
 use Rattle.nv_base.specs.declared.term.Cmp.{Cmp}
@@ -7,7 +7,7 @@ use Rattle.nv_base.specs.declared.term.Mem.{Mem}
 use Rattle.nv_base.specs.declared.term.Primitive.{Primitive}
 use Rattle.cps_ir.specs.declared.term.Term.{Term, Let, Read, Write, If, Fix, the_lemmas}
 use Rattle.cps_ir.specs.declared.term.Cont.{Cont}
-use Rattle.cps_ir.specs.View.{Seen, labels_of, term_view, label_view, labels_view}
+use Rattle.cps_ir.specs.View.{term_view, label_view, labels_view}
 use Rattle.cps_ir.specs.Term as pure
 
 pub view-Let : (x : ℕ) (a : Primitive) (t : Box Term Global) → term_view (Let x a t) ≡ pure.Let x a (term_view t.value)

@@ -1,6 +1,6 @@
 -- How much code a program makes when each call of an earlier group gets a copy of that group, as of flat programs: labels, jumps, other
 -- nodes, and the words that the other nodes define and use.
-use Rattle.std.specs.Prelude.{ℕ, zero, suc, ◌+◌, ◌≤◌, nat_lt, ◌==◌, if◌then◌else◌, List, [], ◌∷◌, Option, Some, None, slice_get, length}
+use Rattle.std.specs.Prelude.{ℕ, zero, suc, ◌+◌, nat_lt, ◌==◌, if◌then◌else◌, List, [], ◌∷◌, Option, Some, None, slice_get, length}
 use Rattle.nv_base.specs.Measures.{Bulk, Bulks, nothing, a_label, a_jump, a_node, both, IsAtMost}
 use Rattle.cps_ir.specs.Term.{Term, Let, Read, Write, If, Fix, Call, Return, Throw, Jump, Halt, Labels, none, label, Fun}
 

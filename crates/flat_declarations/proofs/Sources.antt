@@ -1,5 +1,5 @@
 -- What is declared, in lists: what is said of a list as far as a loop has come.
-use Rattle.std.proofs.Common.{◌≡◌, ◌∙◌, refl, sym, ap, ℕ, zero, suc, ◌+◌, ◌<◌, ◌≤◌, List, [], ◌∷◌, ◌++◌, map, length, drop, get_or, Some, append_assoc, append-nil, add-one, arith, Bor, Vec, Global}
+use Rattle.std.proofs.Common.{◌≡◌, ◌∙◌, refl, sym, ap, ℕ, zero, suc, ◌+◌, ◌<◌, ◌≤◌, List, [], ◌∷◌, ◌++◌, map, length, drop, get_or, Some, append_assoc, append-nil, arith, Bor, Vec, Global}
 use Rattle.std.specs.Prelude.{slice_get, replicate, unwrap_or}
 use Rattle.nv_ast.specs.declared.token.Span.{Span}
 use Rattle.nv_ast.specs.declared.tree.Decl.{Decl}
@@ -15,7 +15,7 @@ use Rattle.nv_meaning.specs.Meaning.{Declared, declared}
 use Rattle.nv_meaning.specs.inner.Tables.{place_from, functions_in}
 use Rattle.nv_meaning.proofs.NameIndices.{declared-functions}
 use Rattle.flat_values.specs.inner.Whole.{Whole, whole_of, groups_from, raised_in, raised_or_none, group_at, group_of}
-use Rattle.std.proofs.lemmas.List.{map-append, length-append, length-replicate, length-map, replicate_more, drop_all}
+use Rattle.std.proofs.lemmas.List.{map-append, length-append, length-replicate, length-map, drop_all}
 use Rattle.nv_ast.proofs.Items.{next_item}
 
 -- a declaration further

@@ -1,5 +1,5 @@
 -- Steps that only compute, one after another.
-use Rattle.std.proofs.Common.{◌≡◌, ◌∙◌, refl, ap, sym, subst, ℕ, zero, suc, ◌+◌, ◌*◌, ◌/◌, ◌^◌, ◌<◌, ◌≤◌, if◌then◌else◌, List, [], ◌∷◌, ◌++◌, length, get_or, append_assoc, append-nil, arith, bit_or}
+use Rattle.std.proofs.Common.{◌≡◌, ◌∙◌, refl, ap, sym, subst, ℕ, zero, suc, ◌+◌, ◌*◌, ◌/◌, ◌^◌, ◌<◌, ◌≤◌, List, [], ◌∷◌, ◌++◌, length, get_or, append_assoc, append-nil, arith, bit_or}
 use Rattle.std.proofs.lemmas.Nat.{shr_le, or_of_32, mod_below, pow_pos}
 use Rattle.std.proofs.lemmas.List.Elements.{All-cons, All-head}
 use Rattle.nv_base.specs.declared.term.Atom.{Atom}

@@ -1,13 +1,13 @@
 -- How much code there is, node by node and label by label.
-use Rattle.std.proofs.Common.{◌≡◌, ℕ, ◌+◌, ◌<◌, ◌≤◌, List, [], ◌∷◌, ◌++◌, map, refl, sym, ap, ◌∙◌, length, take, get_or, arith}
+use Rattle.std.proofs.Common.{◌≡◌, ℕ, ◌+◌, ◌<◌, ◌≤◌, List, [], ◌∷◌, ◌++◌, map, sym, ap, ◌∙◌, length, take, get_or, arith}
 use Rattle.std.proofs.lemmas.List.{map_more}
-use Rattle.nv_base.specs.Measures.{Bulk, nothing, a_label, a_jump, a_node, both}
+use Rattle.nv_base.specs.Measures.{Bulk, a_label, a_jump, a_node, both}
 use Rattle.flow_ir.specs.Bulk.{tree_bulk, bulk}
 use Rattle.flow_ir.specs.Tree.{Label}
 use Rattle.flow_ir.specs.View.{tree_view, label_view}
 use Rattle.flow_ir.specs.declared.flow.Label.{Label as FlowLabel}
 use Rattle.flow_ir.specs.declared.flow.Tree.{Tree, size-Tree}
-use Rattle.flow_ir.specs.declared.flow.Tree.TheVariants.{Let', Read', Write', If', Jump, Halt}
+use Rattle.flow_ir.specs.declared.flow.Tree.TheVariants.{Let', Read', Write', If'}
 use Rattle.flow_ir.specs.declared.flow.Tree.TheViews.{deep-Let', deep-Read', deep-Write', deep-If'}
 use Rattle.cps_rules.proofs.Mentions.{smaller}
 use Rattle.flow_contract.specs.declared.sizes.Sizes.{Sizes}

@@ -1,20 +1,19 @@
 -- A copy is formed, and defines numbers in a row.
-use Rattle.std.proofs.Common.{◌≡◌, ℕ, zero, suc, ◌+◌, Bool, true, false, nat_eq, nat_le, ◌&&◌, ◌||◌, List, [], ◌∷◌, ◌++◌, Some, refl, sym, ap, subst, ◌∙◌, length, slice_get, arith, append-nil}
+use Rattle.std.proofs.Common.{◌≡◌, ℕ, suc, ◌+◌, Bool, true, false, nat_eq, nat_le, ◌&&◌, ◌||◌, List, [], ◌∷◌, ◌++◌, Some, refl, sym, ap, ◌∙◌, length, slice_get, arith}
 use Rattle.std.specs.List.{range_with_len}
 use Rattle.std.proofs.lemmas.Bool.{and_parts, and_from, false≢true}
 use Rattle.std.proofs.lemmas.List.FromFn.{length-range_with_len}
 use Rattle.nv_base.specs.declared.term.Atom.{Atom}
 use Rattle.nv_base.specs.declared.term.Atom.TheVariants.{Var, Lit}
-use Rattle.nv_base.specs.declared.term.Mem.{Mem}
 use Rattle.nv_base.specs.declared.term.Primitive.{Primitive}
 use Rattle.nv_base.specs.declared.term.Primitive.TheVariants.{Same, Una as UnaOf, Bin as BinOf}
 use Rattle.nv_base.specs.Sets.{is_in}
 use Rattle.nv_base.specs.Access.{is_known, all_known, has_count, is_primitive, can_move, is_address}
 use Rattle.nv_base.proofs.Sets.{in-later}
-use Rattle.flow_ir.specs.Tree.{Tree, Let, Read, Write, If, Jump, Halt, Label}
+use Rattle.flow_ir.specs.Tree.{Tree, Label}
 use Rattle.flow_ir.specs.Formed.{defined, is_formed, takes_as_many}
 use Rattle.cps_rules.specs.Substitution.{Names, renamed, all_renamed, prim_renamed}
-use Rattle.cps_rules.proofs.Members.{in-first, in-rest, in-left, in-right, first-or-rest}
+use Rattle.cps_rules.proofs.Members.{in-first, in-rest, in-left, first-or-rest}
 use Rattle.cps_rules.proofs.Renaming.{all_length, address_renamed}
 use Rattle.flow_contract.proofs.Lookup.{in_other}
 use Rattle.flow_contract.specs.inner.Copied.{named, all_named, numbered, Numbering, Copied, kept, read, write, choice, swapped, first, second, jump, halt, inside}

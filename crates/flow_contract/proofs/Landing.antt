@@ -1,8 +1,8 @@
 -- A copy does the same, in fewer jumps.
-use Rattle.std.proofs.Common.{◌≡◌, ℕ, zero, suc, ◌+◌, ◌<◌, ◌≤◌, Bool, true, false, not, nat_eq, ◌||◌, List, [], ◌∷◌, ◌++◌, Option, Some, None, refl, sym, ap, subst, ◌∙◌, length, if◌then◌else◌, slice_get, arith}
+use Rattle.std.proofs.Common.{◌≡◌, ℕ, suc, ◌+◌, ◌<◌, ◌≤◌, Bool, true, false, not, nat_eq, List, [], ◌∷◌, ◌++◌, Option, Some, None, refl, sym, ap, subst, ◌∙◌, length, if◌then◌else◌, slice_get, arith}
 use Rattle.std.specs.Prelude.{⊤}
 use Rattle.std.specs.List.{range_with_len}
-use Rattle.std.proofs.lemmas.Bool.{or_left, or_right, false≢true, eq-eqb, false_from_ne_true}
+use Rattle.std.proofs.lemmas.Bool.{false≢true, eq-eqb}
 use Rattle.std.proofs.lemmas.List.FromFn.{length-range_with_len}
 use Rattle.std.proofs.lemmas.Option.{none-some, same_Some}
 use Rattle.nv_base.specs.declared.term.Atom.{Atom}
@@ -13,11 +13,11 @@ use Rattle.nv_base.specs.declared.term.Mem.{Mem}
 use Rattle.nv_base.specs.declared.outcome.Outcome.TheVariants as outcome
 use Rattle.nv_base.specs.Memories.{Memories, fetched, stored}
 use Rattle.nv_base.specs.Meanings.{FullOutcome}
-use Rattle.nv_base.specs.Words.{Env, word, assigned, assigned_all, atom_word, atom_words, prim_word, atom_vars, prim_vars, compares}
+use Rattle.nv_base.specs.Words.{Env, word, assigned, assigned_all, atom_word, atom_words, prim_word, atom_vars, compares}
 use Rattle.nv_base.specs.World.{World, over, ended, after_read, read_words, wrote, after_write, write_words}
 use Rattle.nv_base.specs.Sets.{is_in, all_vars, Within}
-use Rattle.nv_base.proofs.Sets.{same-number, in-later}
-use Rattle.flow_ir.specs.Tree.{Tree, Let, Read, Write, If, Jump, Halt, Label}
+use Rattle.nv_base.proofs.Sets.{in-later}
+use Rattle.flow_ir.specs.Tree.{Tree, Label}
 use Rattle.flow_ir.specs.Meaning.{Next, does, blank, enter, run}
 use Rattle.cps_rules.specs.Substitution.{Names, renamed, all_renamed, prim_renamed}
 use Rattle.cps_rules.specs.inner.Way.{Fits, IsScopedLabel}

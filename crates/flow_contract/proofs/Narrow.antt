@@ -4,7 +4,7 @@ use Rattle.std.specs.List.{range_with_len}
 use Rattle.std.proofs.lemmas.Bool.{and_parts, not-true, false≢true, false_from_ne_true}
 use Rattle.nv_base.specs.declared.term.Atom.TheVariants.{Var}
 use Rattle.nv_base.specs.Words.{atom_vars, prim_vars}
-use Rattle.nv_base.specs.Sets.{is_in, all_different, all_vars, different, without, Within}
+use Rattle.nv_base.specs.Sets.{is_in, all_different, all_vars, without, Within}
 use Rattle.nv_base.proofs.Sets.{same-number, within-both}
 use Rattle.flow_ir.specs.Tree.{Tree, If, Label}
 use Rattle.flow_ir.specs.Formed.{defined}

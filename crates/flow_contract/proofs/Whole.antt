@@ -1,20 +1,17 @@
 -- Copied labels make a flow that is as the first one.
 use Rattle.std.proofs.Common.{◌≡◌, ℕ, zero, suc, ◌+◌, ◌<◌, ◌≤◌, ◌==◌, nat_le, true, false, ◌&&◌, List, [], ◌∷◌, ◌++◌, Option, Some, None, map, refl, sym, ap, subst, ◌∙◌, length, slice_get, get_or, take, arith, append-nil}
-use Rattle.std.specs.Prelude.{⊤}
 use Rattle.std.specs.List.{list_all, range_with_len}
 use Rattle.std.proofs.lemmas.Bool.{and_parts, and_from, false≢true}
 use Rattle.std.proofs.lemmas.Bool.Decides.{nat_tests}
 use Rattle.std.proofs.lemmas.List.{map_more, length-map, length-take-le}
 use Rattle.std.proofs.lemmas.List.FromFn.{length-range_with_len}
 use Rattle.std.proofs.lemmas.Option.{none-some, same_Some}
-use Rattle.nv_base.specs.declared.outcome.Outcome.TheVariants as outcome
-use Rattle.nv_base.specs.Memories.{Memories, HasSizes}
-use Rattle.nv_base.specs.Meanings.{FullOutcome, KeepsOutcomes, AreEqual}
+use Rattle.nv_base.specs.Meanings.{KeepsOutcomes, AreEqual}
 use Rattle.nv_base.specs.Measures.{entry_wide}
-use Rattle.nv_base.specs.Sets.{is_in, all_different, Within}
+use Rattle.nv_base.specs.Sets.{all_different}
 use Rattle.nv_base.specs.Access.{is_known}
 use Rattle.nv_base.specs.Words.{assigned_all}
-use Rattle.nv_base.specs.World.{World, begun, over}
+use Rattle.nv_base.specs.World.{World, begun}
 use Rattle.nv_base.proofs.Same.{lands_at, same_lands, same-sym, keeps-trans, keeps-equal}
 use Rattle.flow_ir.proofs.Growth.{meaning-grows}
 use Rattle.flow_ir.specs.Formed.{defined, is_formed, is_label, is_entry, is_flow, takes_as_many}
@@ -24,13 +21,12 @@ use Rattle.flow_ir.specs.View.{label_view}
 use Rattle.flow_ir.specs.Wide.{tree_wide, label_wide, wide}
 use Rattle.flow_ir.specs.declared.flow.Label.{Label as FlowLabel}
 use Rattle.cps_close.specs.Led.{AreLedTo}
-use Rattle.cps_rules.specs.Substitution.{Names}
 use Rattle.cps_rules.specs.inner.Way.{IsScopedLabel}
 use Rattle.cps_rules.proofs.Members.{in-left, different-parts}
 use Rattle.cps_rules.proofs.Renaming.{Agrees}
 use Rattle.cps_rules.proofs.Scopes.{label_fits}
 use Rattle.cps_rules.proofs.Flows.{map_last}
-use Rattle.flow_contract.specs.inner.Copied.{numbered, Numbering, Copied, IsCopied, AreCopied, none, stays, goes}
+use Rattle.flow_contract.specs.inner.Copied.{numbered, Numbering, IsCopied, AreCopied, none, stays, goes}
 use Rattle.flow_contract.proofs.Naming.{range_append, range_different}
 use Rattle.flow_contract.proofs.Landing.{Below, below_numbered, agrees_numbered, AllInScope, Comes, does_comes, comes_jump}
 use Rattle.flow_contract.proofs.Formed.{AreKnown, known_numbered, AllFormed, copy_formed, copy_defines}

@@ -1,10 +1,10 @@
 -- With more jumps left, a run gets at least as far.
-use Rattle.std.proofs.Common.{◌≡◌, ℕ, zero, suc, ◌≤◌, List, Option, Some, None, refl, arith, slice_get, length}
+use Rattle.std.proofs.Common.{ℕ, zero, suc, ◌≤◌, List, Option, Some, None, arith, slice_get, length}
 use Rattle.nv_base.specs.Memories.{Memories}
 use Rattle.nv_base.specs.Meanings.{FullOutcome, IsPrefix}
 use Rattle.nv_base.specs.Progress.{IsMonotone}
 use Rattle.nv_base.specs.Words.{Env, assigned, assigned_all, atom_word, atom_words, prim_word, compares}
-use Rattle.nv_base.specs.World.{World, begun, over, ended}
+use Rattle.nv_base.specs.World.{World, begun}
 use Rattle.nv_base.proofs.Same.{prefix-refl}
 use Rattle.nv_base.proofs.Kept.{IsKept, kept-read, kept-write, kept-if, kept-over, Adds, adds-kept, Gets, gets-kept, gets-going}
 use Rattle.flow_ir.specs.Tree.{Tree, Let, Read, Write, If, Jump, Halt, Label}

@@ -1,5 +1,5 @@
 -- How large a flow is: labels, jumps (and ends), other nodes, and the words that the other nodes define and use.
-use Rattle.std.specs.Prelude.{ℕ, ◌+◌, List, [], ◌∷◌, length}
+use Rattle.std.specs.Prelude.{◌+◌, List, [], ◌∷◌, length}
 use Rattle.nv_base.specs.Measures.{Bulk, nothing, a_label, a_jump, a_node, both}
 use Rattle.flow_ir.specs.Tree.{Tree, Let, Read, Write, If, Jump, Halt, Label}
 

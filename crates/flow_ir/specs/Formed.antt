@@ -1,5 +1,5 @@
 -- Which flows are well formed: what a pass over them may rest on.
-use Rattle.std.specs.Prelude.{ℕ, ◌==◌, nat_le, Bool, true, false, ◌&&◌, List, [], ◌∷◌, ◌++◌, Option, Some, None, slice_get, length}
+use Rattle.std.specs.Prelude.{ℕ, ◌==◌, nat_le, Bool, false, ◌&&◌, List, [], ◌∷◌, ◌++◌, Option, Some, None, slice_get, length}
 use Rattle.std.specs.List.{list_all}
 use Rattle.nv_base.specs.Access.{is_known, all_known, is_primitive, can_move, is_address}
 use Rattle.nv_base.specs.Sets.{all_different}

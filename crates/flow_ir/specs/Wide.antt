@@ -1,6 +1,6 @@
 -- How many words a flow wants at once: the greatest width of a place. A width counts the different live variables and, of a node, its
 -- operands, literals among them, with 1 for the second half of a literal; a `Let` counts two operands, since it may get another primitive.
-use Rattle.std.specs.Prelude.{ℕ, ◌+◌, max, List, [], ◌∷◌, ◌++◌, length}
+use Rattle.std.specs.Prelude.{ℕ, max, List, [], ◌∷◌, ◌++◌, length}
 use Rattle.nv_base.specs.Words.{atom_vars, prim_vars}
 use Rattle.nv_base.specs.Sets.{different, without, all_vars}
 use Rattle.nv_base.specs.Measures.{operands_wide, let_wide, entry_wide}

@@ -1,8 +1,8 @@
 -- The spine of a pruned tree, and words that stay, one by one.
-use Rattle.std.proofs.Common.{◌≡◌, ℕ, suc, ◌+◌, ◌<◌, ◌≤◌, Bool, true, false, not, ◌&&◌, List, [], ◌∷◌, ◌++◌, Option, Some, None, map, refl, sym, ap, subst, ◌∙◌, length, slice_get, get_or, take, drop, if◌then◌else◌, arith}
+use Rattle.std.proofs.Common.{◌≡◌, ℕ, ◌+◌, ◌<◌, ◌≤◌, Bool, true, false, List, [], ◌∷◌, ◌++◌, refl, sym, ap, subst, ◌∙◌, length, slice_get, get_or, take, drop, if◌then◌else◌, arith}
 use Rattle.std.specs.declared.vec.Vec.{Vec}
 use Rattle.std.specs.declared.alloc.Global.{Global}
-use Rattle.std.proofs.lemmas.Bool.{and_parts, not-true, false≢true, false_from_ne_true}
+use Rattle.std.proofs.lemmas.Bool.{false≢true, false_from_ne_true}
 use Rattle.std.proofs.lemmas.List.{drop_all, drop_more, take_more, append_assoc}
 use Rattle.smallvec.specs.SmallVec.{SmallVec}
 use Rattle.nv_base.specs.declared.term.Atom.{Atom}
@@ -11,7 +11,7 @@ use Rattle.nv_base.proofs.Sets.{same-number}
 use Rattle.flow_ir.proofs.Steps.{put_last}
 use Rattle.flow_ir.specs.Spine.{put, put_all}
 use Rattle.flow_ir.specs.Tree as pure
-use Rattle.flow_ir.specs.View.{tree_view, label_view}
+use Rattle.flow_ir.specs.View.{tree_view}
 use Rattle.flow_ir.specs.declared.flow.Tree.{Tree, size-Tree}
 use Rattle.flow_ir.specs.declared.flow.Tree.TheVariants.{Let', Read', Write', If', Jump, Halt}
 use Rattle.flow_ir.specs.declared.flow.Tree.TheViews.{deep-Let', deep-Read', deep-Write', deep-If'}
@@ -20,7 +20,7 @@ use Rattle.flow_ir.specs.declared.spine.Step.TheVariants as step
 use Rattle.cps_rules.proofs.Members.{either, first-or-rest}
 use Rattle.cps_rules.proofs.Mentions.{smaller}
 use Rattle.flow_prune.specs.inner.Pruned.{kept_words, params_in, pruned, Clear}
-use Rattle.flow_prune.proofs.Keeping.{without_last, kept_none}
+use Rattle.flow_prune.proofs.Keeping.{without_last}
 
 -- ---- trees
 

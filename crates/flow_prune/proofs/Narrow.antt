@@ -1,8 +1,8 @@
 -- A pruned tree is neither wider nor larger.
-use Rattle.std.proofs.Common.{◌≡◌, ℕ, ◌+◌, ◌≤◌, List, [], ◌∷◌, ◌++◌, refl, sym, ap, subst, ◌∙◌, length, slice_get, arith}
+use Rattle.std.proofs.Common.{◌≡◌, ℕ, ◌+◌, ◌≤◌, List, [], ◌∷◌, ◌++◌, refl, ap, ◌∙◌, length, slice_get, arith}
 use Rattle.nv_base.specs.declared.term.Atom.{Atom}
 use Rattle.nv_base.specs.Words.{atom_vars, prim_vars}
-use Rattle.nv_base.specs.Sets.{is_in, all_vars, different, without, Within}
+use Rattle.nv_base.specs.Sets.{all_vars, without, Within}
 use Rattle.nv_base.specs.Measures.{operands_wide, let_wide, a_node, both}
 use Rattle.nv_base.proofs.Measures.{operands-more}
 use Rattle.nv_base.proofs.Sets.{different-below, within-behind_same, within-without_same, within-both}

@@ -1,20 +1,19 @@
 -- Where each parameter has a rank, each is wanted.
-use Rattle.std.proofs.Common.{◌≡◌, ◌↔◌, ℕ, zero, suc, ◌+◌, ◌<◌, ◌≤◌, ◌==◌, nat_le, Bool, true, false, ◌&&◌, List, [], ◌∷◌, ◌++◌, Option, Some, None, map, refl, sym, ap, subst, ◌∙◌, length, slice_get, slice_index_or, get_or, arith, ◌⊎◌, ⊎_elim}
+use Rattle.std.proofs.Common.{◌≡◌, ◌↔◌, ℕ, zero, suc, ◌+◌, ◌<◌, ◌≤◌, nat_le, Bool, true, false, ◌&&◌, List, [], ◌∷◌, ◌++◌, Option, Some, None, map, refl, sym, ap, subst, ◌∙◌, length, slice_get, slice_index_or, get_or, arith, ⊎_elim}
 use Rattle.std.specs.List.{list_all}
 use Rattle.std.specs.declared.vec.Vec.{Vec}
 use Rattle.std.specs.declared.alloc.Global.{Global}
 use Rattle.std.proofs.lemmas.Bool.{and_parts, false≢true, eqb-true}
 use Rattle.std.proofs.lemmas.Bool.Decides.{nat_tests}
 use Rattle.std.proofs.lemmas.Option.{none-some, same_Some, slice_get_within, slice_get-get_or}
-use Rattle.nv_base.specs.declared.term.Atom.{Atom}
 use Rattle.nv_base.specs.declared.term.Atom.TheVariants.{Var}
-use Rattle.nv_base.specs.Sets.{is_in, all_different}
+use Rattle.nv_base.specs.Sets.{all_different}
 use Rattle.nv_base.specs.Access.{is_known, all_known, is_primitive, can_move, is_address}
 use Rattle.flow_ir.specs.Tree.{Tree, Let, Read, Write, If, Jump, Halt, Label}
 use Rattle.flow_ir.specs.Formed.{defined, is_formed, is_label, is_entry, is_flow, takes_as_many}
 use Rattle.flow_ir.specs.View.{label_view}
 use Rattle.flow_ir.specs.declared.flow.Label.{Label as FlowLabel}
-use Rattle.flow_prune.specs.Wanted.{used, HandsOn, IsWanted, used_there, handed_on, AllWanted}
+use Rattle.flow_prune.specs.Wanted.{HandsOn, IsWanted, used_there, handed_on, AllWanted}
 use Rattle.flow_prune.specs.inner.Pruned.{row_of}
 use Rattle.flow_prune.specs.inner.Ranked.{rank_at, IsFound, IsRanked, AreRanked}
 

@@ -2,7 +2,6 @@
 use Rattle.std.proofs.Common.{◌≡◌, ℕ, Bool, true, false, nat_eq, List, [], ◌∷◌, ◌++◌, refl, sym, ap, subst, ◌∙◌, length, if◌then◌else◌, slice_get}
 use Rattle.std.proofs.Math.Path.{fun_ext}
 use Rattle.std.proofs.lemmas.Bool.{false≢true}
-use Rattle.nv_base.specs.declared.term.Atom.{Atom}
 use Rattle.nv_base.specs.Words.{Env, assigned, assigned_all, atom_word, atom_words, prim_word, atom_vars, prim_vars, compares}
 use Rattle.nv_base.specs.World.{World, over, ended, read_words, write_words}
 use Rattle.nv_base.specs.Sets.{is_in, all_vars, without}

@@ -1,12 +1,12 @@
 -- Pruned labels make a flow that is as the first one.
-use Rattle.std.proofs.Common.{◌≡◌, ℕ, zero, suc, ◌+◌, ◌<◌, ◌≤◌, ◌==◌, nat_le, true, false, ◌&&◌, List, [], ◌∷◌, ◌++◌, Option, Some, None, map, refl, sym, ap, subst, ◌∙◌, length, slice_get, get_or, take, arith}
+use Rattle.std.proofs.Common.{◌≡◌, ℕ, zero, suc, ◌+◌, ◌<◌, ◌≤◌, nat_le, true, ◌&&◌, List, [], ◌∷◌, ◌++◌, Option, Some, None, map, refl, sym, ap, subst, ◌∙◌, length, slice_get, get_or, take, arith}
 use Rattle.std.specs.List.{list_all}
 use Rattle.std.proofs.lemmas.Bool.{and_parts, and_from, false≢true, eqb-true, eq-eqb}
 use Rattle.std.proofs.lemmas.List.{map_more, length-map, length-take-le}
 use Rattle.nv_base.specs.declared.term.Atom.{Atom}
 use Rattle.nv_base.specs.Meanings.{AreEqual}
-use Rattle.nv_base.specs.Measures.{IsAtMost, a_label, both, entry_wide}
-use Rattle.nv_base.specs.Sets.{is_in, all_different, without, Within}
+use Rattle.nv_base.specs.Measures.{IsAtMost, a_label, both}
+use Rattle.nv_base.specs.Sets.{all_different, without}
 use Rattle.nv_base.specs.Words.{assigned_all}
 use Rattle.nv_base.specs.World.{World, begun}
 use Rattle.nv_base.proofs.Measures.{most-refl}

@@ -1,9 +1,9 @@
 -- A text has no faulty line, and no two lines are the first faulty one.
-use Rattle.std.proofs.Common.{◌≡◌, ℕ, ◌+◌, List, [], ◌∷◌, ◌++◌, length, refl, sym, ap, ◌∙◌, subst, arith, append_assoc}
+use Rattle.std.proofs.Common.{◌≡◌, ℕ, ◌+◌, List, [], ◌∷◌, ◌++◌, length, sym, ap, ◌∙◌, subst, append_assoc}
 use Rattle.std.proofs.lemmas.List.{append-nil}
 use Rattle.line_text.specs.Line.{Lacks, AllLack, text_of}
 use Rattle.line_text.specs.Format.{IsText, Begins, IsFormat, FirstFault, wrong, short}
-use Rattle.line_text.proofs.SplitLaws.{Lie, same, longer, shorter, lie, after_same, after_longer, lacks_not, split_one, AllLack-front, AllLack-back}
+use Rattle.line_text.proofs.SplitLaws.{same, longer, shorter, lie, after_same, after_longer, lacks_not, split_one, AllLack-front, AllLack-back}
 
 -- what some whole text begins with is a format
 pub begins_format : (P : List (List ℕ) → Type 0) → ((ls : List (List ℕ)) → P ls → AllLack 10 ls) → IsFormat (Begins P) P

@@ -1,5 +1,5 @@
 -- No placement that fits costs less than a vector that costs least: each placement has a vector that costs the same.
-use Rattle.std.proofs.Common.{◌≡◌, ℕ, Bool, true, ◌≤◌, List, map, refl, sym, ap, subst, ◌∙◌}
+use Rattle.std.proofs.Common.{◌≡◌, ℕ, Bool, true, ◌≤◌, List, map, refl, ap, subst, ◌∙◌}
 use Rattle.ssu_ir.specs.Single.{single}
 use Rattle.ssu_ir.specs.Tree.{Label}
 use Rattle.zo_model.specs.Program.{Feasible, cost_of, costs_of, vector}

@@ -1,9 +1,7 @@
 -- A form without tables or without a program of the banks is refused with its cause.
-use Rattle.std.proofs.Common.{◌≡◌, ℕ, ◌*◌, ◌^◌, ◌<◌, ◌≤◌, ◌⊎◌, true, List, length, inl, inr, refl, sym, ap, ◌∙◌, Result, Err, arith}
-use Rattle.ssu_ir.specs.Measures.{size}
+use Rattle.std.proofs.Common.{◌≡◌, ℕ, ◌⊎◌, true, List, inl, inr, refl, sym, ap, ◌∙◌, arith}
 use Rattle.ssu_ir.specs.Single.{single}
 use Rattle.ssu_ir.specs.Tree.{Label}
-use Rattle.bank_form.specs.Columns.{columns}
 use Rattle.bank_form.specs.Program.{IsTooLarge}
 use Rattle.bank_prog.specs.declared.error.BankError.{BankError}
 use Rattle.bank_prog.specs.declared.error.BankError.TheVariants as bank

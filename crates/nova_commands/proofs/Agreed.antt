@@ -1,6 +1,5 @@
 -- Where the files hold a source and code that does what it says, no command ends with the status of a difference.
-use Rattle.std.proofs.Common.{◌≡◌, ◌≢◌, ℕ, ◌⊎◌, inl, inr, List, [], ◌∷◌, Option, Some, None, refl, ap, sym, ◌∙◌, subst}
-use Rattle.std.specs.Prelude.{⊤}
+use Rattle.std.proofs.Common.{◌≡◌, ◌≢◌, ℕ, inl, inr, List, [], ◌∷◌, Option, Some, sym, ◌∙◌, subst}
 use Rattle.nv_outside.specs.Holding.{Holding}
 use Rattle.nv_ast.specs.Sizes.{main_words}
 use Rattle.nv_ast.specs.Tree.{ProgramTree}
@@ -12,16 +11,16 @@ use Rattle.uc_isa.specs.Code.{CodeView}
 use Rattle.uc_object.specs.Object.{IsObject, code_of}
 use Rattle.uc_object.specs.declared.object.Object.{Object}
 use Rattle.uc_object.proofs.Spelling.{object-one}
-use Rattle.command_line.specs.Command.{Command, Compile, Run, Exec, Asm, Dis, Lint, Check, Gen, Contexts, Peep, Trace, IfCommand, IfTrace}
+use Rattle.command_line.specs.Command.{Command, Trace, IfCommand, IfTrace}
 use Rattle.command_line.specs.Lines.{IsUncaused, refusal_status}
 use Rattle.command_line.specs.declared.refusal.Refusal.{Refusal}
 use Rattle.command_line.specs.declared.refusal.Refusal.TheVariants.{TraceParams, TraceWrite}
 use Rattle.command_line.specs.declared.status.Status.{Status}
 use Rattle.command_line.specs.declared.status.Status.TheVariants as status
 use Rattle.machine_commands.specs.inner.Outcomes.{IsOutcome}
-use Rattle.nova_commands.specs.Answers.{Refuses, IsCaused, IsDone, IsRefused, IsPrinted}
-use Rattle.nova_commands.specs.Loading.{Input, AreRead, IsRead, StopsAt, IsUnread, inputs_of}
-use Rattle.nova_commands.specs.Tracing.{HoldAgreeing, TraceRefuses, ObjectRefuses, CodeRefuses, IsOtherFor}
+use Rattle.nova_commands.specs.Answers.{Refuses, IsPrinted}
+use Rattle.nova_commands.specs.Loading.{Input, AreRead, StopsAt, IsUnread, inputs_of}
+use Rattle.nova_commands.specs.Tracing.{HoldAgreeing, TraceRefuses, ObjectRefuses, CodeRefuses}
 use Rattle.nova_commands.proofs.Agreeing.{never-other}
 use Rattle.nova_commands.proofs.OneAnswer.{makes-outcome}
 

@@ -1,5 +1,5 @@
 -- Code that does what its source says writes the same as the source, as far as both go.
-use Rattle.std.proofs.Common.{◌≡◌, ◌≢◌, ℕ, zero, suc, ◌+◌, ◌^◌, ◌<◌, List, [], ◌∷◌, ◌++◌, Option, Some, None, All, length, map, take, drop, refl, sym, ap, ◌∙◌, subst, append_assoc, append-nil, unwrap_or, arith, ◌⊎◌, inl, inr}
+use Rattle.std.proofs.Common.{◌≡◌, ℕ, zero, suc, ◌^◌, ◌<◌, List, [], ◌∷◌, ◌++◌, Option, Some, None, All, length, take, drop, refl, sym, ap, ◌∙◌, subst, append_assoc, append-nil, unwrap_or, arith, inl, inr}
 use Rattle.std.specs.Prelude.{slice_get}
 use Rattle.std.proofs.lemmas.List.{take-append-drop, take-map}
 use Rattle.std.proofs.lemmas.Bool.{cases_lt}
@@ -8,7 +8,7 @@ use Rattle.std.proofs.lemmas.List.Elements.{All-nil, All-cons}
 use Rattle.std.specs.Str.Parse.{digits_value}
 use Rattle.line_text.specs.Number.{SpellsWord}
 use Rattle.nv_base.specs.Memories.{Memories, HasSizes, blank, stored}
-use Rattle.nv_base.specs.Meanings.{IsPrefix, seen, source_writes}
+use Rattle.nv_base.specs.Meanings.{IsPrefix, seen}
 use Rattle.nv_base.specs.declared.outcome.Write.{Write}
 use Rattle.nv_base.proofs.Blank.{blank-sizes}
 use Rattle.nv_base.proofs.MemoryLemmas.{stored-sizes}

@@ -10,7 +10,7 @@ use Rattle.nv_ast.specs.Accepted.{IsAccepted}
 use Rattle.nv_types.specs.Refusals.{IsRefusal}
 use Rattle.type_costs.specs.declared.error.TypeError.{TypeError}
 use Rattle.type_costs.specs.declared.error.TypeError.TheVariants as types
-use Rattle.nova_front.specs.Sources.{IsSource, IsTypedSource, IsUntyped, IsLarge, IsCause}
+use Rattle.nova_front.specs.Sources.{IsSource, IsTypedSource, IsCause}
 use Rattle.nova_front.specs.declared.error.FrontError.{FrontError}
 use Rattle.nova_front.specs.declared.error.FrontError.TheVariants.{NoMemory, Fault, TooLarge}
 use Rattle.nova_front.proofs.OneSource.{source-program, cause-one, cause-none}

@@ -1,5 +1,5 @@
 -- The test of types finds equal ones.
-use Rattle.std.proofs.Common.{◌≡◌, ◌∙◌, refl, ap, true, false, ◌&&◌, List, ℕ, bytes_eq}
+use Rattle.std.proofs.Common.{◌≡◌, ◌∙◌, refl, ap, true, ◌&&◌, List, ℕ, bytes_eq}
 use Rattle.std.specs.Cmp.Lexicographic.{bytes_decides}
 use Rattle.std.proofs.lemmas.Bool.{false≢true, and_parts}
 use Rattle.nv_ast.specs.Types.{Ty, WordTy, BoolTy, TupleTy, RecordTy, Tys, no_tys, ty_and, NamedTys, no_named_tys, named_ty_and, same_type, same_types, same_named_types}

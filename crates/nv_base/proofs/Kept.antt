@@ -1,5 +1,5 @@
 -- What holds between two runs from a world on, where it holds at each end and is kept by a write: the steps that all forms with jumps share.
-use Rattle.std.proofs.Common.{◌≡◌, ℕ, Bool, true, false, List, [], ◌∷◌, ◌++◌, Option, Some, None, refl, sym, ap, ◌∙◌, inl, inr, if◌then◌else◌, append-nil}
+use Rattle.std.proofs.Common.{◌≡◌, ℕ, Bool, true, false, List, [], ◌∷◌, Option, Some, None, refl, sym, ◌∙◌, if◌then◌else◌, append-nil}
 use Rattle.nv_base.specs.declared.term.Mem.{Mem}
 use Rattle.nv_base.specs.declared.outcome.Write.{Write}
 use Rattle.nv_base.specs.declared.outcome.Outcome.{Outcome}
@@ -8,7 +8,7 @@ use Rattle.nv_base.specs.Memories.{Memories, fetched, stored}
 use Rattle.nv_base.specs.Meanings.{FullOutcome, IsPrefix}
 use Rattle.nv_base.specs.Progress.{Before}
 use Rattle.nv_base.specs.World.{World, over, after_read, read_words, wrote, after_write, write_words}
-use Rattle.nv_base.proofs.Same.{prefix-refl, prefix-trans, before-equal, before-going}
+use Rattle.nv_base.proofs.Same.{prefix-trans, before-equal, before-going}
 
 pub record IsKept (R : World → FullOutcome → FullOutcome → Type 0) : Type 0 where
   pub same : (w : World) (r : FullOutcome) → r.writes ≡ w.writes → R w r r

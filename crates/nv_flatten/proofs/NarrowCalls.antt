@@ -1,5 +1,5 @@
 -- How wide calls, exceptions and handlers are, and what unpacks and packs.
-use Rattle.std.proofs.Common.{◌≡◌, ℕ, ◌+◌, ◌≤◌, max, true, List, [], ◌∷◌, ◌++◌, refl, sym, ap, subst, ◌∙◌, length, Option, Some, None, option_map, slice_get, unwrap_or, arith}
+use Rattle.std.proofs.Common.{◌≡◌, ℕ, ◌+◌, ◌≤◌, max, true, List, [], ◌++◌, refl, sym, ap, subst, ◌∙◌, length, Option, Some, None, option_map, slice_get, unwrap_or, arith}
 use Rattle.std.proofs.lemmas.Option.{same_Some}
 use Rattle.nv_ast.specs.declared.token.Span.{Span}
 use Rattle.nv_ast.specs.Tree.{NamedLayout, Tree, CallTree, UnpackTree, PackTree, RaiseTree, TryTree, Trees, PatternTrees, FunTree}

@@ -1,5 +1,5 @@
 -- What an expression without faults says of its parts, for the form of its code.
-use Rattle.std.proofs.Common.{◌≡◌, ℕ, ◌+◌, true, false, not, nat_lt, ◌&&◌, [], ◌∷◌, ◌++◌, refl, sym, ap, subst, ◌∙◌, Option, Some, None, is_none, bytes_eq, arith}
+use Rattle.std.proofs.Common.{◌≡◌, ℕ, ◌+◌, true, false, not, nat_lt, ◌&&◌, [], ◌++◌, refl, sym, ap, subst, ◌∙◌, Option, Some, None, is_none, bytes_eq, arith}
 use Rattle.std.proofs.lemmas.Bool.{and_parts, not-false, ltb-false, le-leb, false≢true}
 use Rattle.nv_base.specs.declared.term.Mem.{Mem}
 use Rattle.nv_base.specs.declared.term.Mem.TheVariants.{Sram, Sdram, Scratch}

@@ -1,6 +1,5 @@
 -- Outlines in lists: what is said of a list as far as a loop has come.
-use Rattle.std.proofs.Common.{◌≡◌, ◌∙◌, refl, ap, sym, ℕ, suc, ◌+◌, ◌<◌, ◌≤◌, max, List, [], ◌∷◌, ◌++◌, take, drop, length, get_or, arith, append_assoc, add_assoc, add-zero, append-nil, add-one}
-use Rattle.std.proofs.Math.Seq.{split_at}
+use Rattle.std.proofs.Common.{◌≡◌, ◌∙◌, refl, ap, sym, ℕ, suc, ◌+◌, ◌<◌, ◌≤◌, max, List, [], ◌∷◌, ◌++◌, take, drop, length, get_or, arith, append_assoc, add_assoc, add-zero, append-nil}
 use Rattle.std.proofs.lemmas.List.{take_more}
 use Rattle.nv_layout.specs.declared.outline.Outline.{Outline}
 use Rattle.nv_ast.specs.Outline.{OutlineTree, BitsOutline, GapOutline, PartsOutline, OverlayOutline, JoinedOutline, OutlineTrees, no_outlines, outline_and, NamedOutlines, no_named_outlines, named_outline_and, size, total_named_size, longest, total_size, bit_fields, part_fields, alternative_fields, joined_fields, outline_height, highest_outline, highest_named_outline, named_list, record_of, records_of}

@@ -1,17 +1,12 @@
 -- The walk over a layout text, as far as a loop has come.
-use Rattle.std.proofs.Common.{◌≡◌, ◌∙◌, refl, ap, sym, subst, ℕ, ◌+◌, ◌<◌, ◌≤◌, max, Bool, true, false, ◌&&◌, ◌||◌, List, [], ◌∷◌, ◌++◌, take, drop, length, get_or, arith, append_assoc, append-nil, bytes_eq, Result, Ok, Err, Vec, Global}
+use Rattle.std.proofs.Common.{◌≡◌, ◌∙◌, refl, ap, sym, subst, ℕ, ◌+◌, ◌<◌, Bool, true, false, ◌&&◌, ◌||◌, List, [], ◌∷◌, ◌++◌, take, drop, length, get_or, append-nil, bytes_eq, Result, Ok, Err, Vec, Global}
 use Rattle.std.specs.Prelude.{◌==◌}
 use Rattle.std.specs.List.{list_all}
 use Rattle.std.specs.Cmp.Lexicographic.{nat_list_eq_equiv}
 use Rattle.std.proofs.lemmas.Bool.{or_parts}
-use Rattle.nv_ast.specs.declared.tree.LayoutText
 use Rattle.nv_ast.specs.declared.tree.LayoutText.{LayoutText}
-use Rattle.nv_ast.specs.declared.tree.FieldText
-use Rattle.nv_ast.specs.declared.tree.FieldText.{FieldText}
 use Rattle.nv_ast.specs.Tree.{PartsLayout, JoinedLayout, OverlayField, FieldTrees, no_fields, field_and}
-use Rattle.nv_ast.specs.Height.{layout_height, highest_layout, field_height, highest_field}
 use Rattle.nv_ast.specs.LayoutView.{layout_tree, field_tree, list_fields, list_layouts}
-use Rattle.nv_ast.proofs.Rows.{fields_items, layouts_items}
 use Rattle.nv_ast.specs.Outline.{OutlineTree, PartsOutline, OverlayOutline, JoinedOutline, outline_and, NamedOutlines, named_outline_and, Layouts, outline, outlines, field_outline, field_outlines, size, record_of, records_of, named_list, sizes_of}
 use Rattle.nv_ast.specs.Tests.{is_among, value_at, names_of}
 use Rattle.nv_ast.specs.LayoutFaults.{layout_faults, layouts_faults, field_faults, fields_faults, field_names, field_sizes, same_field, different_sizes}

@@ -1,8 +1,7 @@
 -- Writes are only added: those before a part of the text is evaluated are the first ones of those after it, and memories change by
 -- the further ones alone.
-use Rattle.std.proofs.Common.{◌≡◌, ℕ, zero, suc, ◌==◌, Bool, true, false, List, [], ◌∷◌, ◌++◌, map, refl, sym, ap, ◌∙◌, append_assoc, append-nil, if◌then◌else◌, Option, Some, None, unwrap_or, length}
+use Rattle.std.proofs.Common.{◌≡◌, ℕ, zero, suc, ◌==◌, Bool, true, false, List, [], ◌∷◌, ◌++◌, refl, sym, ap, ◌∙◌, append_assoc, append-nil, if◌then◌else◌, Option, Some, None, unwrap_or, length}
 use Rattle.std.proofs.lemmas.List.{map-append}
-use Rattle.nv_base.specs.declared.outcome.Write.{Write}
 use Rattle.nv_base.specs.declared.term.Mem.{Mem}
 use Rattle.nv_base.specs.Memories.{Memories, fetched, stored}
 use Rattle.nv_base.specs.Meanings.{left_by}

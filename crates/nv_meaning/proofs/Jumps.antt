@@ -11,12 +11,11 @@ use Rattle.nv_values.specs.Values.{Values}
 use Rattle.nv_values.specs.Running.{Chain, Made, plain, Running, Result, Gives, Raises, Halts, taken, called, calling, back_to}
 use Rattle.nv_meaning.specs.Meaning.{Declared, Calls, enter, function_in, group_in, calls_within}
 use Rattle.nv_values.specs.declared.value.Value as code
-use Rattle.nv_meaning.specs.declared.step.Step.{Step}
-use Rattle.nv_meaning.specs.declared.step.Step.TheVariants.{Done, Again}
+use Rattle.nv_meaning.specs.declared.step.Step.TheVariants.{Again}
 use Rattle.nv_values.specs.declared.stop.Interruption.{Interruption}
 use Rattle.nv_values.specs.declared.stop.Interruption.TheVariants.{NoMemory, Raised, Fault, Going}
-use Rattle.nv_values.specs.inner.View.{view, list_values}
-use Rattle.nv_meaning.specs.inner.Ran.{At, at, running, Wrote, Came, Grown, IsValue, RanStep, RanValue, RanCall, Reached}
+use Rattle.nv_values.specs.inner.View.{list_values}
+use Rattle.nv_meaning.specs.inner.Ran.{At, at, running, Wrote, IsValue, RanStep, RanValue, RanCall}
 use Rattle.nv_meaning.proofs.Grows.{back-grows, enter-grows, calls-grow}
 use Rattle.nv_meaning.proofs.Moments.{wrote-nothing, wrote-then, ran-here}
 use Rattle.nv_meaning.proofs.Arms.{value-as}

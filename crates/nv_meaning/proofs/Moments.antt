@@ -1,16 +1,15 @@
 -- From one moment of the interpreter's work to a later one.
-use Rattle.std.proofs.Common.{◌≡◌, ◌≤◌, List, [], ◌++◌, map, refl, sym, ap, ◌∙◌, subst, append_assoc, append-nil, arith}
-use Rattle.std.proofs.lemmas.List.{map-append}
+use Rattle.std.proofs.Common.{◌≡◌, ◌≤◌, List, [], ◌++◌, refl, sym, ap, ◌∙◌, subst, append_assoc, append-nil, arith}
 use Rattle.std.proofs.lemmas.List.Elements.{filter-append}
 use Rattle.nv_base.specs.Log.{noted_all}
 use Rattle.nv_base.specs.Meanings.{source_writes, is_source_write, left_by}
 use Rattle.nv_base.proofs.LogLemmas.{noted-append}
 use Rattle.nv_base.proofs.MemoryLemmas.{left-append}
-use Rattle.call_trace.specs.Notes.{Knows, traced_all, source_made}
+use Rattle.call_trace.specs.Notes.{traced_all, source_made}
 use Rattle.call_trace.proofs.Trails.{traced-append}
-use Rattle.nv_values.specs.Running.{Chain, Made, plain, Running}
+use Rattle.nv_values.specs.Running.{Made, plain, Running}
 use Rattle.nv_meaning.specs.Meaning.{Declared, Calls, calls_within}
-use Rattle.nv_meaning.specs.inner.Ran.{At, running, Wrote, Came, Ran}
+use Rattle.nv_meaning.specs.inner.Ran.{At, running, Wrote, Ran}
 use Rattle.nv_meaning.proofs.Grows.{Growing, calls-grow, plain-append}
 
 pub wrote-nothing : (a : At) → Wrote a a []

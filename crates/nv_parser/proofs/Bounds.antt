@@ -1,6 +1,6 @@
 -- Heights within bounds.
-use Rattle.std.proofs.Common.{◌≡◌, ℕ, ◌+◌, ◌-◌, ◌≤◌, max, arith, Bool, true, false}
-use Rattle.nv_parser.specs.inner.Failing.{Bound, NoBound, AtMost, Within, HasRoom, Part, Same, Inside, Alone, part_of, bound_of}
+use Rattle.std.proofs.Common.{ℕ, ◌+◌, ◌≤◌, max, arith, Bool, true, false}
+use Rattle.nv_parser.specs.inner.Failing.{Bound, NoBound, AtMost, Within, HasRoom, Inside, part_of, bound_of}
 
 pub within_one : (b : Bound) → HasRoom b → Within b 1
 within_one NoBound h = tt

@@ -1,21 +1,20 @@
 -- The rules of declarations, and what they are read by.
-use Rattle.std.proofs.Common.{◌≡◌, refl, sym, ◌∙◌, ap, subst, ℕ, zero, suc, ◌+◌, ◌<◌, ◌≤◌, max, List, [], ◌∷◌, ◌++◌, arith, Bool, true, false, length}
+use Rattle.std.proofs.Common.{◌≡◌, refl, sym, ◌∙◌, ap, subst, ℕ, zero, suc, ◌≤◌, max, List, [], ◌∷◌, arith, Bool, true, false, length}
 use Rattle.std.specs.Prelude.{◌==◌}
 use Rattle.nv_ast.specs.declared.token.Span.{Span}
 use Rattle.nv_ast.specs.declared.token.Token.{Token}
-use Rattle.nv_ast.specs.declared.token.Sort.TheVariants.{Word, Number, Key, Sign}
-use Rattle.nv_ast.specs.Tokens.{at, to, a_name, a_number, key_layout, key_exception, key_fun, key_and, key_bool, sign_is, sign_colon, sign_semicolon, sign_open_brace, sign_close_brace, sign_open_bracket, sign_close_bracket}
-use Rattle.nv_ast.specs.Tree.{Tree, NumberTree, TypeTree, BoolType, TypeTrees, no_types, NamedTypes, no_named_types, LayoutTree, NamedLayout, FunTree, DeclTree, LayoutDecl, ExceptionDecl, GroupDecl}
-use Rattle.nv_ast.specs.Height.{height, pattern_inside, type_height, highest_named_type, highest_type, layout_height, fun_height, highest_fun, decl_height, highest_decl}
-use Rattle.nv_ast.specs.Grammar.{IsLayout, one_layout, named_layout, IsTypes, empty_types, IsType, bool_type, IsParams, empty_params, IsExpr, tail_alone, operators, una, chain, no_operator, post, no_dot, number, IsLevel, IsFun, function, IsMoreFuns, no_fun, next_fun, IsDecl, layout_decl, exception_decl, group, IsDecls, no_decl, next_decl}
-use Rattle.nv_parser.specs.declared.cursor.Failure.{Failure}
-use Rattle.nv_parser.specs.inner.Cursor.{Front, NotSign, NotKey, NotName, IsSyntax}
-use Rattle.nv_parser.specs.inner.Failing.{Bound, NoBound, AtMost, Within, HasRoom, Same, Alone, part_of, bound_of, Phrases, Follow, Anything, Ahead, Phrase, One, ASign, AKey, AName, Then, Many, none, next, HasRead, SameFront, Completes, Starts, StartsNone, Reads, FailsAs}
+use Rattle.nv_ast.specs.declared.token.Sort.TheVariants.{Key}
+use Rattle.nv_ast.specs.Tokens.{to, a_name, a_number, key_layout, key_exception, key_fun, key_and, sign_is, sign_colon, sign_semicolon, sign_open_brace, sign_close_brace, sign_open_bracket, sign_close_bracket}
+use Rattle.nv_ast.specs.Tree.{NumberTree, no_types, FunTree, DeclTree, LayoutDecl, ExceptionDecl, GroupDecl}
+use Rattle.nv_ast.specs.Height.{height, pattern_inside, type_height, highest_named_type, fun_height, highest_fun, decl_height, highest_decl}
+use Rattle.nv_ast.specs.Grammar.{IsLayout, IsTypes, empty_types, IsType, IsParams, IsExpr, tail_alone, operators, una, chain, no_operator, post, no_dot, number, IsLevel, IsFun, function, IsMoreFuns, no_fun, next_fun, IsDecl, layout_decl, exception_decl, group, IsDecls, no_decl, next_decl}
+use Rattle.nv_parser.specs.inner.Cursor.{NotKey}
+use Rattle.nv_parser.specs.inner.Failing.{Bound, NoBound, AtMost, Within, Same, Alone, part_of, bound_of, Phrases, Anything, Ahead, ASign, AName, Then, Many, none, next, SameFront, Completes, StartsNone}
 use Rattle.nv_parser.specs.inner.Phrases.{AType, SomeTypes, SomeParams, ALayout, AFun, ADecl, NextFun, AtEnd}
 use Rattle.nv_parser.specs.inner.ExprPhrases.{AnExpr, IsLow}
 use Rattle.nv_parser.proofs.Bounds.{within_max, max_left, max_right, within_zero}
-use Rattle.nv_parser.proofs.Follow.{Above, rank, decl_front}
-use Rattle.nv_parser.proofs.Sequence.{front_same, same_first, same_front, Fills, Carries, Rule, Listed, one_none, one_fills, one_carries, then_fills, many_fills, then_carries, carries_anything, sign_ahead, not_sort}
+use Rattle.nv_parser.proofs.Follow.{Above, decl_front}
+use Rattle.nv_parser.proofs.Sequence.{front_same, same_first, Fills, Carries, Rule, Listed, one_none, one_fills, one_carries, then_fills, then_carries, carries_anything, sign_ahead, not_sort}
 use Rattle.nv_parser.proofs.LayoutRules.{layout_fills}
 use Rattle.nv_parser.proofs.TypeRules.{type_fills, types_fills, params_fills}
 

@@ -1,5 +1,5 @@
 -- Declarations made of their parts.
-use Rattle.std.proofs.Common.{◌≡◌, refl, sym, ◌∙◌, ap, subst, ℕ, suc, zero, ◌+◌, ◌*◌, ◌≤◌, ◌<◌, max, List, [], ◌∷◌, ◌++◌, length, arith, drop, length-drop, ◌⊎◌, inl, inr}
+use Rattle.std.proofs.Common.{◌≡◌, refl, ◌∙◌, ap, subst, ℕ, ◌+◌, ◌≤◌, List, [], ◌∷◌, ◌++◌, arith}
 use Rattle.std.specs.Prelude.{map}
 use Rattle.nv_ast.specs.declared.token.Span.{Span}
 use Rattle.nv_ast.specs.declared.token.Token.{Token}
@@ -7,11 +7,11 @@ use Rattle.nv_ast.specs.declared.tree.Fun.{Fun}
 use Rattle.nv_ast.specs.declared.tree.Decl.{Decl}
 use Rattle.nv_ast.specs.declared.tree.Decl.TheVariants.{Layout, Exception, Group}
 use Rattle.nv_ast.specs.Tokens.{to, a_name, key_layout, key_exception, key_fun, key_and, sign_is, sign_colon, sign_semicolon, sign_open_brace, sign_close_brace, sign_open_bracket, sign_close_bracket}
-use Rattle.nv_ast.specs.Tree.{Tree, TypeTree, TypeTrees, NamedTypes, LayoutTree, FunTree, DeclTree, LayoutDecl, ExceptionDecl, GroupDecl, ProgramTree}
+use Rattle.nv_ast.specs.Tree.{Tree, TypeTree, TypeTrees, NamedTypes, LayoutTree, FunTree, DeclTree, LayoutDecl, ExceptionDecl, GroupDecl}
 use Rattle.nv_ast.specs.Height.{fun_height, highest_fun, decl_height, highest_decl}
 use Rattle.nv_ast.specs.ProgramView.{fun_tree, decl_tree}
 use Rattle.nv_ast.specs.Exceptions.{exceptions}
-use Rattle.nv_ast.specs.Grammar.{IsParams, IsType, IsTypes, IsExpr, IsLayout, IsFun, function, IsMoreFuns, no_fun, next_fun, IsDecl, layout_decl, exception_decl, group, IsDecls, no_decl, next_decl, IsProgram}
+use Rattle.nv_ast.specs.Grammar.{IsParams, IsType, IsTypes, IsExpr, IsLayout, IsFun, function, IsMoreFuns, no_fun, next_fun, IsDecl, layout_decl, exception_decl, group, IsDecls, no_decl, next_decl}
 use Rattle.nv_parser.specs.inner.Lists.{FunsAfter}
 
 pub function_of : {x : List ℕ} {ps : NamedTypes} {r : TypeTree} {e : Tree} (s t u v w y : Span) {t0 t1 t2 t3 t4 t5 t6 t7 t8 k : List Token} → t0 ≡ a_name s x ∷ t1 → t1 ≡ sign_open_bracket t ∷ t2 → IsParams ps t2 t3 → t3 ≡ sign_close_bracket u ∷ t4 → t4 ≡ sign_colon v ∷ t5 → IsType r t5 t6 → t6 ≡ sign_open_brace w ∷ t7 → IsExpr e t7 t8 → t8 ≡ sign_close_brace y ∷ k → IsFun (record { name = x; params = ps; result = r; body = e; span = to s y }) t0 k

@@ -1,25 +1,23 @@
 -- Statements and tails: a memory's keyword begins both, and the token after it tells which.
-use Rattle.std.proofs.Common.{◌≡◌, ◌≢◌, refl, sym, ◌∙◌, ap, subst, ℕ, zero, suc, ◌+◌, ◌-◌, ◌<◌, ◌≤◌, max, List, [], ◌∷◌, ◌++◌, append_assoc, arith, Bool, true, false}
+use Rattle.std.proofs.Common.{◌≡◌, refl, sym, ◌∙◌, ap, subst, ℕ, ◌-◌, ◌<◌, ◌≤◌, List, [], ◌∷◌, ◌++◌, append_assoc, arith, Bool, true, false}
 use Rattle.std.proofs.lemmas.Bool.{false≢true}
 use Rattle.nv_base.specs.declared.term.Mem.{Mem}
 use Rattle.nv_base.specs.declared.term.Mem.TheVariants.{Sram, Sdram, Scratch}
 use Rattle.nv_ast.specs.declared.token.Span.{Span}
 use Rattle.nv_ast.specs.declared.token.Token.{Token}
-use Rattle.nv_ast.specs.declared.token.Sort.{Sort}
-use Rattle.nv_ast.specs.declared.token.Sort.TheVariants.{Word, Number, Key, Sign}
-use Rattle.nv_ast.specs.Tokens.{at, to, a_number, mem_key, key_let, key_sram, key_sdram, key_scratch, sign_open, sign_close, sign_open_bracket, sign_close_bracket, sign_arrow, sign_semicolon}
+use Rattle.nv_ast.specs.declared.token.Sort.TheVariants.{Key}
+use Rattle.nv_ast.specs.Tokens.{at, to, a_number, mem_key, key_let, sign_open, sign_close, sign_open_bracket, sign_close_bracket, sign_arrow, sign_semicolon}
 use Rattle.nv_ast.specs.Tree.{Tree, NumberTree, FetchTree, BlockTree, StatementTree, StoreStatement, StatementTrees, no_statements, statement_and, span_of, statement_span}
-use Rattle.nv_ast.specs.Height.{height, pattern_inside, statement_height, pattern_inside_statement, highest_statement, pattern_inside_statements}
-use Rattle.nv_ast.specs.Grammar.{IsExpr, IsStatements, IsStatement, IsTail, IsLevel, IsUna, IsAtom, tail_alone, block, no_statement, next_statement, let_statement, store_sram, store_sdram, store_scratch, operators, una, chain, invert, negate, post, number, if_else, raise, try_handle, fetch_sram, fetch_sdram, fetch_scratch}
+use Rattle.nv_ast.specs.Height.{height, statement_height}
+use Rattle.nv_ast.specs.Grammar.{IsExpr, IsStatements, IsStatement, IsTail, IsLevel, IsUna, IsAtom, tail_alone, block, no_statement, next_statement, let_statement, store_sram, store_sdram, store_scratch, operators, una, chain, post, number, fetch_sram, fetch_sdram, fetch_scratch}
 use Rattle.nv_parser.specs.declared.cursor.Failure.{Failure}
-use Rattle.nv_parser.specs.inner.Cursor.{Front, NotSign}
+use Rattle.nv_parser.specs.inner.Cursor.{NotSign}
 use Rattle.nv_parser.specs.inner.Follow.{Above}
-use Rattle.nv_parser.specs.inner.Failing.{Bound, NoBound, AtMost, bound_of, Phrases, Follow, Anything, Phrase, Then, Many, none, next, HasRead, SameFront, Completes, Starts, Reads, Fails, FailsAs, no_memory, syntax, deep}
-use Rattle.nv_parser.specs.inner.ExprPhrases.{IsLow, LowExpr, LowStatement, LowStatements, AnExpr, ATail, AStatement, ABody, StartsStatement, starts_let, starts_store, NoStatement, NotMem, Onward}
+use Rattle.nv_parser.specs.inner.Failing.{Bound, NoBound, AtMost, bound_of, Phrases, Anything, Many, none, next, SameFront, Completes, Reads, Fails, FailsAs, no_memory, syntax, deep}
+use Rattle.nv_parser.specs.inner.ExprPhrases.{LowExpr, LowStatements, AnExpr, ATail, AStatement, ABody, StartsStatement, starts_let, starts_store, NoStatement, NotMem}
 use Rattle.nv_parser.proofs.Follow.{level_first, tail_no_statement}
-use Rattle.nv_parser.proofs.Sequence.{same_front}
 use Rattle.nv_parser.proofs.ExprLow.{low_of, free_low, low_one, low_max, low_left, low_right, low_node, low_child, low_none, height_pos, statement_two, rest_tall, dots_tall}
-use Rattle.nv_parser.proofs.Steps.{Stands, Step, step_fails, step_reads}
+use Rattle.nv_parser.proofs.Steps.{Stands, Step}
 use Rattle.nv_parser.proofs.ExprStarts.{nowhere, una_of, level_of_una, expr_of_una, tail_starts, let_ready, mem_ready, expr_fills}
 use Rattle.nv_parser.proofs.ExprRules.{store_rule, fetch_rule}
 

@@ -1,33 +1,32 @@
 -- What the parser answers at a token by itself.
-use Rattle.std.proofs.Common.{◌≡◌, ◌≢◌, refl, sym, ◌∙◌, ap, subst, ℕ, zero, suc, ◌+◌, ◌-◌, ◌<◌, ◌≤◌, max, List, [], ◌∷◌, ◌++◌, append_assoc, arith, Bool, true, false}
+use Rattle.std.proofs.Common.{◌≡◌, ◌≢◌, refl, sym, ◌∙◌, ap, subst, ℕ, suc, ◌+◌, ◌-◌, ◌<◌, ◌≤◌, max, List, [], ◌∷◌, ◌++◌, append_assoc, arith, Bool, true, false}
 use Rattle.std.proofs.lemmas.Bool.{false≢true}
 use Rattle.std.specs.Borrow.{Bor}
 use Rattle.nv_base.specs.declared.term.Mem.{Mem}
 use Rattle.nv_base.specs.declared.term.Mem.TheVariants.{Sram, Sdram, Scratch}
 use Rattle.nv_ast.specs.declared.token.Span.{Span}
 use Rattle.nv_ast.specs.declared.token.Token.{Token}
-use Rattle.nv_ast.specs.declared.token.Sort.{Sort}
 use Rattle.nv_ast.specs.declared.token.Sort.TheVariants.{Word, Number, Key, Sign}
 use Rattle.nv_ast.specs.declared.tree.Op.{Op}
 use Rattle.nv_ast.specs.declared.tree.ShiftOp.{ShiftOp}
 use Rattle.nv_ast.specs.Tokens.{at, to, a_name, a_number, sign_of, level_of, shift_sign_of, mem_key, key_let, key_if, key_try, key_unpack, key_pack, key_true, key_false, sign_tilde, sign_bang, sign_dot, sign_comma, sign_open, sign_close, sign_open_brace, sign_open_bracket, sign_close_bracket}
 use Rattle.nv_ast.specs.Tree.{Tree, NumberTree, TruthTree, VarTree, ParenTree, TupleTree, DotTree, BinaryTree, ShiftTree, Trees, no_trees, tree_and, StatementTree, span_of}
 use Rattle.nv_ast.specs.Height.{height, pattern_inside, highest}
-use Rattle.nv_ast.specs.Grammar.{IsExpr, IsStatement, IsTail, IsArgs, IsLevel, IsRest, IsUna, IsDots, IsAtom, let_statement, store_sram, store_sdram, store_scratch, empty_args, some_args, no_expr, no_operator, operator, comparison, shift, no_dot, dot, number, truth, falsehood, variable, call, unit, paren, tuple, fields, unpack, pack, fetch_sram, fetch_sdram, fetch_scratch}
+use Rattle.nv_ast.specs.Grammar.{IsStatement, IsArgs, IsLevel, IsRest, IsDots, IsAtom, let_statement, store_sram, store_sdram, store_scratch, empty_args, some_args, no_expr, no_operator, operator, comparison, shift, no_dot, dot, number, truth, falsehood, variable, call, unit, paren, tuple, fields, unpack, pack, fetch_sram, fetch_sdram, fetch_scratch}
 use Rattle.nv_parser.specs.declared.cursor.Failure.{Failure}
 use Rattle.nv_parser.specs.declared.cursor.Failure.TheVariants.{NoMemory, Syntax, Deep}
-use Rattle.nv_parser.specs.inner.Cursor.{Front, NotSign, NotKey, NotName, NotNumber, IsSyntax, IsSyntaxOrMemory}
+use Rattle.nv_parser.specs.inner.Cursor.{NotSign, NotKey, NotName, NotNumber, IsSyntax, IsSyntaxOrMemory}
 use Rattle.nv_parser.specs.inner.Operators.{StartsOperator, StartsShift, NoOperator, NoShift}
 use Rattle.nv_parser.specs.inner.Follow.{Above, rank, sign_rank}
 use Rattle.nv_parser.specs.inner.Starts.{sort_starts, starts_expr}
-use Rattle.nv_parser.specs.inner.Failing.{Bound, NoBound, AtMost, bound_of, Phrases, Follow, Anything, Ahead, Phrase, One, ASign, AKey, AName, ANumber, Then, Many, none, next, SameFront, Completes, Starts, Reads, Fails, FailsAs, no_memory, syntax, deep}
-use Rattle.nv_parser.specs.inner.ExprPhrases.{IsLow, LowExpr, LowExprs, AnExpr, ATail, AStatement, ALevel, ARest, AnUna, SomeDots, AnAtom, SomeArgs, NextExpr, NextMember, NotMem, NoPlainAtom, BeginsName, begins_name, LayoutInBrackets, Onward}
-use Rattle.nv_parser.proofs.Follow.{rank_of, shift_rank, same_op, same_shift, no_shift, level_not_one, close_starts_no_expr}
+use Rattle.nv_parser.specs.inner.Failing.{Bound, AtMost, bound_of, Phrases, Follow, Anything, Ahead, ASign, AKey, AName, ANumber, Then, Many, SameFront, Completes, Reads, FailsAs, no_memory}
+use Rattle.nv_parser.specs.inner.ExprPhrases.{LowExpr, LowExprs, AnExpr, ATail, AStatement, ALevel, ARest, AnUna, SomeDots, AnAtom, SomeArgs, NextExpr, NextMember, NotMem, NoPlainAtom, BeginsName, begins_name, LayoutInBrackets, Onward}
+use Rattle.nv_parser.proofs.Follow.{rank_of, shift_rank, level_not_one, close_starts_no_expr}
 use Rattle.nv_parser.proofs.Sequence.{front_same, Carries, carries_anything, then_carries, one_carries, Fills, then_fills, one_fills, first_fails, many_carries, then_reads, one_reads, one_then, sign_fails, key_fails, name_fails, number_fails, sign_listed, Listed, sign_ahead}
-use Rattle.nv_parser.proofs.ExprLow.{low_of, free_low, low_none, low_one, low_node, low_max, low_under, low_child, lows, no_room, height_pos, rest_tall, dots_tall}
+use Rattle.nv_parser.proofs.ExprLow.{low_of, free_low, low_none, low_one, lows, no_room, height_pos, rest_tall, dots_tall}
 use Rattle.nv_parser.proofs.Steps.{stops_at, deep_at, step_deep, step_completes, step_reads, step_fails, reads_here, bind_fails, bind_step, onward_start, onward_step}
 use Rattle.nv_parser.proofs.ExprSteps.{LevelRow, level_step, level_binds, operand_step, operand_binds, comparison_step, shift_step, dot_step, if_step, try_step, let_step, unpack_step, pack_step, fetch_step, record_step, invert_step, negate_step, bracket_parts, no_bracket}
-use Rattle.nv_parser.proofs.ExprStarts.{nowhere, una_of, level_of_una, expr_of_una, starts_none, starts_some, atom_fills, una_fills, tail_fills, args_fills, if_fills, try_fills, let_fills, layout_fills, fetch_fills, record_fills}
+use Rattle.nv_parser.proofs.ExprStarts.{nowhere, una_of, level_of_una, starts_none, starts_some, atom_fills, una_fills, tail_fills, args_fills, if_fills, try_fills, let_fills, layout_fills, fetch_fills, record_fills}
 
 -- ---- single tokens
 

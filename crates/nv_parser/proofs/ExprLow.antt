@@ -1,10 +1,10 @@
 -- How high expressions are beside their parts.
-use Rattle.std.proofs.Common.{◌≡◌, ◌≢◌, ◌∙◌, refl, sym, ap, subst, ℕ, ◌+◌, ◌-◌, ◌<◌, ◌≤◌, max, List, [], ◌∷◌, Bool, true, false, arith}
+use Rattle.std.proofs.Common.{◌≡◌, ◌≢◌, ◌∙◌, subst, ℕ, ◌+◌, ◌-◌, ◌≤◌, max, List, Bool, true, false, arith}
 use Rattle.nv_ast.specs.declared.token.Token.{Token}
 use Rattle.nv_ast.specs.Tree.{Tree, NumberTree, TruthTree, VarTree, ParenTree, TupleTree, FieldsTree, DotTree, InvertTree, NegateTree, BinaryTree, ShiftTree, CallTree, UnpackTree, PackTree, RaiseTree, IfTree, TryTree, FetchTree, BlockTree, StatementTree, LetStatement, StoreStatement}
-use Rattle.nv_ast.specs.Height.{height, pattern_inside, statement_height}
+use Rattle.nv_ast.specs.Height.{height, statement_height}
 use Rattle.nv_ast.specs.Grammar.{IsRest, no_operator, operator, comparison, shift, IsDots, no_dot, dot}
-use Rattle.nv_parser.specs.inner.Failing.{Bound, NoBound, AtMost, Within, Alone, part_of, bound_of, Phrase}
+use Rattle.nv_parser.specs.inner.Failing.{Bound, NoBound, AtMost, Within, bound_of, Phrase}
 use Rattle.nv_parser.specs.inner.ExprPhrases.{IsLow, LowExpr, rebound}
 
 pub free_low : (tall inside : ℕ) → IsLow NoBound tall inside

@@ -1,5 +1,5 @@
 -- Expressions made of what is read after a first part.
-use Rattle.std.proofs.Common.{◌≡◌, ◌≢◌, refl, sym, ◌∙◌, ap, subst, ℕ, suc, zero, List, [], ◌∷◌, arith, true, false, ◌-◌}
+use Rattle.std.proofs.Common.{◌≡◌, ◌≢◌, sym, ◌∙◌, ap, subst, ℕ, suc, List, ◌∷◌, arith, ◌-◌}
 use Rattle.nv_base.specs.declared.term.Mem.{Mem}
 use Rattle.nv_base.specs.declared.term.Mem.TheVariants.{Sram, Sdram, Scratch}
 use Rattle.nv_ast.specs.declared.token.Span.{Span}
@@ -8,8 +8,8 @@ use Rattle.nv_ast.specs.declared.token.Sort.TheVariants.{Key, Sign}
 use Rattle.nv_ast.specs.declared.tree.Op.{Op}
 use Rattle.nv_ast.specs.declared.tree.ShiftOp.{ShiftOp}
 use Rattle.nv_ast.specs.Tokens.{at, to, a_name, a_number, mem_key, key_let, key_if, key_else, key_raise, key_try, key_handle, key_unpack, key_pack, sign_is, sign_arrow, sign_semicolon, sign_comma, sign_open, sign_close, sign_open_brace, sign_close_brace, sign_open_bracket, sign_close_bracket}
-use Rattle.nv_ast.specs.Tree.{Tree, Trees, tree_and, NamedTrees, PatternTree, PatternTrees, ParenTree, TupleTree, FieldsTree, BinaryTree, ShiftTree, IfTree, RaiseTree, TryTree, FetchTree, BlockTree, UnpackTree, PackTree, CallTree, StatementTree, StatementTrees, LetStatement, StoreStatement, statement_and, span_of, statement_span}
-use Rattle.nv_ast.specs.Grammar.{IsExpr, block, IsStatements, IsStatement, let_statement, store_sram, store_sdram, store_scratch, IsTail, if_else, raise, try_handle, IsArgs, some_args, IsMoreExprs, no_expr, next_expr, IsLevel, chain, IsRest, no_operator, operator, comparison, shift, IsAtom, tuple, paren, fields, fetch_sram, fetch_sdram, fetch_scratch, IsMoreMembers, IsPattern, IsPatterns, next_statement, unpack, pack, call}
+use Rattle.nv_ast.specs.Tree.{Tree, Trees, tree_and, NamedTrees, PatternTree, PatternTrees, ParenTree, TupleTree, FieldsTree, BinaryTree, ShiftTree, IfTree, RaiseTree, TryTree, FetchTree, BlockTree, UnpackTree, PackTree, CallTree, StatementTree, StatementTrees, LetStatement, StoreStatement, span_of, statement_span}
+use Rattle.nv_ast.specs.Grammar.{IsExpr, block, IsStatement, let_statement, store_sram, store_sdram, store_scratch, IsTail, if_else, raise, try_handle, IsArgs, some_args, IsMoreExprs, no_expr, next_expr, IsLevel, chain, IsRest, operator, comparison, shift, IsAtom, tuple, paren, fields, fetch_sram, fetch_sdram, fetch_scratch, IsMoreMembers, IsPattern, IsPatterns, next_statement, unpack, pack, call}
 use Rattle.nv_parser.specs.inner.Lists.{ExprsAfter, MembersAfter, StatementsAfter}
 use Rattle.nv_parser.specs.inner.ExprPhrases.{EnclosedBy, NameInSquare}
 use Rattle.nv_parser.specs.inner.Operators.{StartsOperator, StartsShift}

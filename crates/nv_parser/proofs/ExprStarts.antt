@@ -1,5 +1,5 @@
 -- How expressions begin, and what completes them.
-use Rattle.std.proofs.Common.{◌≡◌, ◌≢◌, refl, sym, ◌∙◌, ap, subst, ℕ, zero, suc, ◌+◌, ◌-◌, ◌<◌, ◌≤◌, max, List, [], ◌∷◌, ◌++◌, append_assoc, arith, Bool, true, false, cond, eqb}
+use Rattle.std.proofs.Common.{◌≡◌, refl, sym, ◌∙◌, ap, subst, ℕ, zero, suc, ◌≤◌, List, [], ◌∷◌, ◌++◌, append_assoc, arith, Bool, true, false}
 use Rattle.std.specs.Prelude.{◌==◌, ◌||◌}
 use Rattle.std.specs.List.{list_any}
 use Rattle.std.proofs.lemmas.Bool.{eqb-true, false≢true}
@@ -9,20 +9,17 @@ use Rattle.nv_ast.specs.declared.token.Span.{Span}
 use Rattle.nv_ast.specs.declared.token.Token.{Token}
 use Rattle.nv_ast.specs.declared.token.Sort.{Sort}
 use Rattle.nv_ast.specs.declared.token.Sort.TheVariants.{Word, Number, Key, Sign}
-use Rattle.nv_ast.specs.Tokens.{at, to, a_name, a_number, mem_key, key_let, key_if, key_raise, key_try, key_unpack, key_pack, key_true, key_false, key_any, sign_tilde, sign_bang, sign_open, sign_close, sign_open_brace, sign_close_bracket}
-use Rattle.nv_ast.specs.Tree.{Tree, NumberTree, TruthTree, VarTree, TupleTree, BlockTree, Trees, no_trees, StatementTree, no_statements, statement_and, AnyPattern, no_patterns, span_of, statement_span}
-use Rattle.nv_ast.specs.Height.{height, pattern_inside}
-use Rattle.nv_ast.specs.Grammar.{IsExpr, IsStatements, IsStatement, IsTail, IsArgs, IsLevel, IsRest, IsUna, IsDots, IsAtom, IsPattern, IsPatterns, any_pattern, empty_patterns, tail_alone, block, no_statement, next_statement, let_statement, store_sram, store_sdram, store_scratch, if_else, raise, operators, try_handle, empty_args, some_args, una, chain, no_operator, invert, negate, post, no_dot, number, truth, falsehood, variable, call, unit, paren, tuple, fields, unpack, pack, fetch_sram, fetch_sdram, fetch_scratch}
-use Rattle.nv_parser.specs.inner.Cursor.{Front, NotSign, NotKey, NotName, NotNumber}
-use Rattle.nv_parser.specs.inner.Follow.{Above}
-use Rattle.nv_parser.specs.inner.Failing.{Bound, NoBound, AtMost, bound_of, Phrases, Follow, Anything, Ahead, Phrase, One, ASign, AKey, AName, ANumber, Then, Many, none, next, SameFront, Completes, Starts, StartsNone}
+use Rattle.nv_ast.specs.Tokens.{at, to, a_number, mem_key, key_let, key_if, key_raise, key_try, key_unpack, key_pack, key_any, sign_tilde, sign_bang, sign_open, sign_close, sign_open_brace}
+use Rattle.nv_ast.specs.Tree.{Tree, NumberTree, TruthTree, VarTree, TupleTree, BlockTree, no_trees, StatementTree, no_statements, statement_and, AnyPattern, no_patterns, statement_span}
+use Rattle.nv_ast.specs.Grammar.{IsExpr, IsStatement, IsTail, IsLevel, IsUna, IsAtom, any_pattern, empty_patterns, tail_alone, block, no_statement, next_statement, let_statement, store_sram, store_sdram, store_scratch, if_else, raise, operators, try_handle, empty_args, una, chain, no_operator, invert, negate, post, no_dot, number, truth, falsehood, variable, call, unit, paren, tuple, fields, unpack, pack, fetch_sram, fetch_sdram, fetch_scratch}
+use Rattle.nv_parser.specs.inner.Failing.{NoBound, bound_of, Phrases, Follow, ASign, AKey, AName, ANumber, SameFront, Completes, Starts}
 use Rattle.nv_parser.specs.inner.Phrases.{APattern, SomePatterns}
 use Rattle.nv_parser.specs.inner.Starts.{sort_starts, starts_expr}
-use Rattle.nv_parser.specs.inner.ExprPhrases.{IsLow, LowExpr, AnExpr, ATail, AStatement, ABody, ALevel, AnUna, AnAtom, SomeArgs, NextExpr, NextMember, Enclosed, LayoutInBrackets, At, rebound}
+use Rattle.nv_parser.specs.inner.ExprPhrases.{AnExpr, ATail, AStatement, ABody, ALevel, AnUna, AnAtom, SomeArgs, Enclosed, At}
 use Rattle.nv_parser.proofs.Sequence.{Fills, then_fills, one_fills, many_fills}
 use Rattle.nv_parser.proofs.ExprLow.{free_low, low_none, low_one}
 use Rattle.nv_parser.proofs.Steps.{Step, step_completes}
-use Rattle.nv_parser.proofs.ExprSteps.{IfRow, if_step, RaiseRow, raise_step, TryRow, try_step, LetRow, let_step, StoreRow, store_step, CallRow, RecordRow, record_step, LayoutRow, unpack_step, pack_step, FetchRow, fetch_step, invert_step, negate_step}
+use Rattle.nv_parser.proofs.ExprSteps.{IfRow, if_step, RaiseRow, raise_step, TryRow, try_step, LetRow, let_step, StoreRow, RecordRow, record_step, LayoutRow, unpack_step, pack_step, FetchRow, fetch_step, invert_step, negate_step}
 
 -- ---- the first token
 

@@ -1,28 +1,27 @@
 -- Each production of an expression as a step: what stands after its first tokens.
-use Rattle.std.proofs.Common.{◌≡◌, ◌≢◌, refl, sym, ◌∙◌, ap, subst, ℕ, zero, suc, ◌+◌, ◌-◌, ◌<◌, ◌≤◌, max, List, [], ◌∷◌, ◌++◌, append_assoc, arith, Bool, true, false}
+use Rattle.std.proofs.Common.{◌≡◌, ◌≢◌, refl, ap, subst, ℕ, suc, ◌+◌, ◌-◌, ◌<◌, ◌≤◌, List, [], ◌∷◌, arith, Bool}
 use Rattle.nv_base.specs.declared.term.Mem.{Mem}
 use Rattle.nv_base.specs.declared.term.Mem.TheVariants.{Sram, Sdram, Scratch}
 use Rattle.nv_ast.specs.declared.token.Span.{Span}
 use Rattle.nv_ast.specs.declared.token.Token.{Token}
-use Rattle.nv_ast.specs.declared.token.Sort.{Sort}
-use Rattle.nv_ast.specs.declared.token.Sort.TheVariants.{Word, Number, Key, Sign}
+use Rattle.nv_ast.specs.declared.token.Sort.TheVariants.{Key, Sign}
 use Rattle.nv_ast.specs.declared.tree.Op.{Op}
 use Rattle.nv_ast.specs.declared.tree.ShiftOp.{ShiftOp}
-use Rattle.nv_ast.specs.Tokens.{at, to, a_name, a_number, sign_of, level_of, shift_sign_of, mem_key, key_let, key_if, key_else, key_raise, key_try, key_handle, key_unpack, key_pack, key_sram, key_sdram, key_scratch, sign_tilde, sign_bang, sign_is, sign_arrow, sign_semicolon, sign_comma, sign_dot, sign_open, sign_close, sign_open_brace, sign_close_brace, sign_open_bracket}
-use Rattle.nv_ast.specs.Tree.{Tree, NumberTree, VarTree, ParenTree, TupleTree, FieldsTree, DotTree, InvertTree, NegateTree, BinaryTree, ShiftTree, CallTree, UnpackTree, PackTree, RaiseTree, IfTree, TryTree, FetchTree, BlockTree, Trees, no_trees, tree_and, NamedTrees, no_named_trees, named_tree_and, StatementTree, LetStatement, StoreStatement, StatementTrees, no_statements, statement_and, PatternTree, PatternTrees, span_of, statement_span}
-use Rattle.nv_ast.specs.Height.{height, pattern_inside, highest, pattern_inside_all, highest_named, pattern_inside_named, statement_height, pattern_inside_statement, highest_statement, pattern_inside_statements, pattern_height, highest_pattern}
-use Rattle.nv_ast.specs.Grammar.{IsExpr, IsStatements, IsStatement, IsTail, IsArgs, IsMoreExprs, IsLevel, IsRest, IsUna, IsDots, IsAtom, IsMoreMembers, IsPattern, IsPatterns, tail_alone, block, no_statement, next_statement, let_statement, store_sram, store_sdram, store_scratch, if_else, raise, operators, try_handle, empty_args, some_args, no_expr, next_expr, una, chain, no_operator, operator, comparison, shift, invert, negate, post, no_dot, dot, number, truth, falsehood, variable, call, unit, paren, tuple, fields, unpack, pack, fetch_sram, fetch_sdram, fetch_scratch, no_member, next_member}
-use Rattle.nv_parser.specs.inner.Cursor.{Front, NotSign, NotKey, NotName, NotNumber}
-use Rattle.nv_parser.specs.inner.Follow.{Above, rank, sign_rank}
-use Rattle.nv_parser.specs.inner.Failing.{Bound, NoBound, AtMost, bound_of, Phrases, Follow, Anything, Ahead, Phrase, One, ASign, AKey, AName, ANumber, Then, Many, none, next, SameFront}
+use Rattle.nv_ast.specs.Tokens.{at, to, a_name, a_number, sign_of, level_of, shift_sign_of, mem_key, key_let, key_if, key_raise, key_try, key_unpack, key_pack, sign_tilde, sign_bang, sign_arrow, sign_semicolon, sign_dot, sign_open, sign_close, sign_open_brace, sign_open_bracket}
+use Rattle.nv_ast.specs.Tree.{Tree, ParenTree, TupleTree, FieldsTree, DotTree, InvertTree, NegateTree, BinaryTree, ShiftTree, CallTree, UnpackTree, PackTree, RaiseTree, IfTree, TryTree, FetchTree, Trees, no_trees, tree_and, NamedTrees, no_named_trees, named_tree_and, StatementTree, LetStatement, StoreStatement, span_of}
+use Rattle.nv_ast.specs.Height.{height, pattern_inside, pattern_height, highest_pattern}
+use Rattle.nv_ast.specs.Grammar.{IsExpr, IsStatement, IsTail, IsArgs, IsMoreExprs, IsLevel, IsRest, IsUna, IsDots, IsAtom, IsMoreMembers, let_statement, store_sram, store_sdram, store_scratch, if_else, raise, operators, try_handle, empty_args, some_args, no_expr, next_expr, una, chain, no_operator, operator, comparison, shift, invert, negate, post, no_dot, dot, variable, call, unit, paren, tuple, fields, unpack, pack, fetch_sram, fetch_sdram, fetch_scratch, no_member, next_member}
+use Rattle.nv_parser.specs.inner.Cursor.{NotSign, NotKey}
+use Rattle.nv_parser.specs.inner.Follow.{Above, rank}
+use Rattle.nv_parser.specs.inner.Failing.{Bound, AtMost, bound_of, Phrases, Anything, Ahead, Phrase, ASign, AKey, AName, ANumber, Then, Many, none, next}
 use Rattle.nv_parser.specs.inner.Phrases.{APattern, SomePatterns}
-use Rattle.nv_parser.specs.inner.ExprPhrases.{IsLow, LowExpr, LowExprs, LowMembers, LowStatement, AnExpr, ATail, AStatement, ABody, ALevel, ARest, AnUna, SomeDots, AnAtom, SomeArgs, NextExpr, NextMember, Enclosed, LayoutInBrackets, At, rebound, NotMem}
-use Rattle.nv_parser.proofs.Follow.{above_weaken, first_rank, rank_of, shift_rank, same_op, same_shift, no_shift, rest_above, front_rest, front_dots, level_first, expr_first, close_starts_no_expr, tilde_no_atom, bang_no_atom}
+use Rattle.nv_parser.specs.inner.ExprPhrases.{LowExpr, LowExprs, LowMembers, LowStatement, AnExpr, ATail, AStatement, ALevel, ARest, AnUna, SomeDots, AnAtom, SomeArgs, NextExpr, NextMember, Enclosed, LayoutInBrackets, At}
+use Rattle.nv_parser.proofs.Follow.{above_weaken, rank_of, shift_rank, same_op, same_shift, no_shift, rest_above, front_rest, front_dots, level_first, tilde_no_atom, bang_no_atom}
 use Rattle.nv_parser.proofs.Frames.{frame_level, frame_atom}
 use Rattle.nv_parser.proofs.OneExpression.{det_level, det_atom}
 use Rattle.nv_parser.proofs.Sequence.{front_same}
-use Rattle.nv_parser.proofs.ExprLow.{free_low, low_of, lows, low_none, low_one, low_node, low_child, low_max, low_left, low_right, low_under, low_try, try_body, try_patterns, try_handler, low_let, let_pattern, let_value, rest_low, dots_low}
-use Rattle.nv_parser.proofs.Steps.{Stands, Step, Bind, Binds}
+use Rattle.nv_parser.proofs.ExprLow.{free_low, lows, low_none, low_node, low_child, low_max, low_left, low_right, low_try, try_body, try_patterns, try_handler, low_let, let_pattern, let_value, rest_low, dots_low}
+use Rattle.nv_parser.proofs.Steps.{Step, Bind, Binds}
 use Rattle.nv_parser.proofs.ExprRules.{store_rule, fetch_rule}
 
 -- ---- rows

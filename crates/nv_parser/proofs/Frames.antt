@@ -1,7 +1,6 @@
 -- A phrase reads the same whatever follows it.
-use Rattle.std.proofs.Common.{◌≡◌, refl, sym, ◌∙◌, ap, subst, ℕ, zero, suc, List, [], ◌∷◌, ◌++◌, append_assoc, true, false}
+use Rattle.std.proofs.Common.{◌≡◌, refl, sym, ◌∙◌, ap, subst, ℕ, suc, List, [], ◌∷◌, ◌++◌, append_assoc}
 use Rattle.nv_base.specs.declared.term.Mem.TheVariants.{Sram, Sdram, Scratch}
-use Rattle.nv_ast.specs.declared.token.Span.{Span}
 use Rattle.nv_ast.specs.declared.token.Token.{Token}
 use Rattle.nv_ast.specs.Tokens.{to, a_name, a_number}
 use Rattle.nv_ast.specs.Tokens.{key_let, key_if, key_else, key_unpack, key_pack, key_raise, key_try, key_handle, key_sram, key_sdram, key_scratch, key_true, key_false, key_any}

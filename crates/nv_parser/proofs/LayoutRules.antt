@@ -1,21 +1,21 @@
 -- The rules of layouts, and what they are read by.
-use Rattle.std.proofs.Common.{◌≡◌, refl, sym, ◌∙◌, ap, subst, ℕ, ◌+◌, ◌-◌, ◌<◌, ◌≤◌, max, List, [], ◌∷◌, ◌++◌, arith, Bool, true, false, append_assoc, length, length-append}
+use Rattle.std.proofs.Common.{◌≡◌, refl, sym, ◌∙◌, ap, subst, ℕ, ◌+◌, ◌-◌, ◌≤◌, max, List, [], ◌∷◌, ◌++◌, arith, Bool, true, false}
 use Rattle.nv_ast.specs.declared.token.Span.{Span}
 use Rattle.nv_ast.specs.declared.token.Token.{Token}
-use Rattle.nv_ast.specs.declared.token.Sort.TheVariants.{Word, Number, Key, Sign}
+use Rattle.nv_ast.specs.declared.token.Sort.TheVariants.{Sign}
 use Rattle.nv_ast.specs.Tokens.{at, a_name, a_number, key_overlay, sign_bar, sign_comma, sign_colon, sign_join, sign_open_brace, sign_close_brace}
 use Rattle.nv_ast.specs.Tree.{LayoutTree, NamedLayout, GapLayout, PartsLayout, JoinedLayout, LayoutTrees, no_layouts, layout_and, FieldTree, BitsField, InnerField, OverlayField, FieldTrees, no_fields, field_and}
 use Rattle.nv_ast.specs.Height.{layout_height, highest_layout, field_height, highest_field}
 use Rattle.nv_ast.specs.Grammar.{IsLayout, one_layout, joined_layouts, IsMoreLayouts, no_layout, next_layout, IsLayoutAtom, named_layout, gap_layout, parts_layout, IsMoreFields, no_field, next_field, IsField, plain_field, overlay_field, IsAlternative, bits_field, inner_field, IsMoreAlternatives, no_alternative, next_alternative}
 use Rattle.nv_parser.specs.declared.cursor.Failure.{Failure}
-use Rattle.nv_parser.specs.inner.Cursor.{Front, NotSign, NotKey, NotName, NotNumber, IsSyntax}
-use Rattle.nv_parser.specs.inner.Failing.{Bound, NoBound, AtMost, Within, HasRoom, Same, Inside, part_of, bound_of, Phrases, Anything, Phrase, One, ASign, AKey, AName, ANumber, Then, Many, none, next, HasRead, SameFront, Completes, Starts, StartsNone, Reads, FailsAs}
+use Rattle.nv_parser.specs.inner.Cursor.{NotSign, NotKey, NotName, NotNumber, IsSyntax}
+use Rattle.nv_parser.specs.inner.Failing.{Bound, AtMost, Within, HasRoom, Same, Inside, part_of, bound_of, Phrases, Anything, Phrase, ASign, AName, ANumber, Then, Many, none, next, HasRead, SameFront, Completes, Starts, StartsNone, Reads, FailsAs}
 use Rattle.nv_parser.specs.inner.Phrases.{LowLayouts, LowFields, ALayout, ALayoutAtom, AField, AnAlternative, NextLayout, NamedField, NextField, NamedAlternative, NextAlternative}
 use Rattle.nv_parser.proofs.Bounds.{within_one, within_node, node_within, within_max, max_left, max_right, within_zero, room_here, within_more}
 use Rattle.nv_parser.proofs.Follow.{Above, overlay_no_alternative, number_no_layout}
 use Rattle.nv_parser.proofs.OneReading.{det_layout_atom}
 use Rattle.nv_parser.proofs.LayoutFrames.{frame_atom}
-use Rattle.nv_parser.proofs.Sequence.{front_same, same_first, Fills, Carries, RuleAt, Rule, Listed, sign_listed, one_none, one_fills, then_fills, many_fills, many_carries, then_carries, first_fails, then_fails, then_reads, some_fails, some_reads, sign_fails, one_carries, carries_anything, FirstPart}
+use Rattle.nv_parser.proofs.Sequence.{front_same, same_first, Fills, Carries, RuleAt, Rule, Listed, sign_listed, one_fills, then_fills, many_fills, many_carries, then_carries, first_fails, then_fails, then_reads, some_fails, some_reads, sign_fails, one_carries, carries_anything, FirstPart}
 
 no_span : Span
 no_span = record { first = 0; after = 0 }

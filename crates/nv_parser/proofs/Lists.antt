@@ -1,5 +1,5 @@
 -- Lists of which one more part is read.
-use Rattle.std.proofs.Common.{◌≡◌, refl, sym, ◌∙◌, ap, subst, ℕ, ◌+◌, ◌≤◌, max, List, [], ◌∷◌, ◌++◌, arith}
+use Rattle.std.proofs.Common.{◌≡◌, refl, ◌∙◌, ap, ℕ, ◌≤◌, max, List, [], ◌∷◌, ◌++◌, arith}
 use Rattle.nv_ast.specs.declared.tree.LayoutText.{LayoutText}
 use Rattle.nv_ast.specs.declared.tree.FieldText.{FieldText}
 use Rattle.nv_ast.specs.declared.tree.TyText.{TyText}
@@ -8,16 +8,16 @@ use Rattle.nv_ast.specs.declared.tree.Expr.{Expr}
 use Rattle.nv_ast.specs.declared.tree.Stmt.{Stmt}
 use Rattle.nv_ast.specs.declared.token.Token.{Token}
 use Rattle.nv_ast.specs.declared.token.Span.{Span}
-use Rattle.nv_ast.specs.Tokens.{a_name, sign_open, sign_close, sign_open_bracket, sign_close_bracket, sign_comma, sign_bar, sign_join, sign_colon, sign_is}
-use Rattle.nv_ast.specs.Tree.{LayoutTree, LayoutTrees, no_layouts, layout_and, FieldTree, FieldTrees, no_fields, field_and, TypeTree, TypeTrees, no_types, type_and, NamedTypes, no_named_types, named_type_and, PatternTree, PatternTrees, no_patterns, pattern_and, Tree, Trees, no_trees, tree_and, NamedTrees, no_named_trees, named_tree_and, StatementTree, StatementTrees, no_statements, statement_and, FunTree, DeclTree}
-use Rattle.nv_ast.specs.Grammar.{IsLayout, IsLayoutAtom, IsMoreLayouts, IsField, IsAlternative, IsMoreFields, IsMoreAlternatives, IsType, IsMoreTypes, IsMoreNamedTypes, IsPattern, IsMorePatterns, IsExpr, IsMoreExprs, IsMoreMembers, IsStatement, IsStatements, IsFun, IsMoreFuns, IsDecl, IsDecls}
-use Rattle.nv_ast.specs.Grammar.{no_layout, next_layout, no_field, next_field, no_alternative, next_alternative, no_type, next_type, no_named_type, next_named_type, no_pattern, next_pattern, no_expr, next_expr, no_member, next_member, no_statement, next_statement, no_fun, next_fun}
+use Rattle.nv_ast.specs.Tokens.{a_name, sign_comma, sign_bar, sign_join, sign_colon, sign_is}
+use Rattle.nv_ast.specs.Tree.{LayoutTree, LayoutTrees, no_layouts, layout_and, FieldTree, FieldTrees, no_fields, field_and, TypeTree, TypeTrees, no_types, type_and, NamedTypes, no_named_types, named_type_and, PatternTree, PatternTrees, no_patterns, pattern_and, Tree, Trees, no_trees, tree_and, NamedTrees, no_named_trees, named_tree_and, StatementTree, StatementTrees, no_statements, statement_and}
+use Rattle.nv_ast.specs.Grammar.{IsLayoutAtom, IsMoreLayouts, IsField, IsAlternative, IsMoreFields, IsMoreAlternatives, IsType, IsMoreTypes, IsMoreNamedTypes, IsPattern, IsMorePatterns, IsExpr, IsMoreExprs, IsMoreMembers, IsStatement, IsStatements}
+use Rattle.nv_ast.specs.Grammar.{no_layout, next_layout, no_field, next_field, no_alternative, next_alternative, no_type, next_type, no_named_type, next_named_type, no_pattern, next_pattern, no_expr, next_expr, no_member, next_member, no_statement, next_statement}
 use Rattle.nv_ast.specs.LayoutView.{layout_tree, field_tree, list_layouts, list_fields}
 use Rattle.nv_ast.specs.TypeView.{type_tree, list_types, list_named_types}
 use Rattle.nv_ast.specs.PatternView.{pattern_tree, list_patterns}
 use Rattle.nv_ast.specs.ExprView.{tree_of, statement_tree, list_statements, list_trees, list_named_trees}
 use Rattle.nv_ast.specs.Height.{layout_height, highest_layout, field_height, highest_field, type_height, highest_type, highest_named_type, pattern_height, highest_pattern, height, highest, highest_named, pattern_inside, pattern_inside_all, pattern_inside_named, statement_height, highest_statement, pattern_inside_statement, pattern_inside_statements}
-use Rattle.nv_parser.specs.inner.Lists.{LayoutsAfter, FieldsAfter, AlternativesAfter, TypesAfter, NamedTypesAfter, PatternsAfter, ExprsAfter, MembersAfter, StatementsAfter, FunsAfter}
+use Rattle.nv_parser.specs.inner.Lists.{LayoutsAfter, FieldsAfter, AlternativesAfter, TypesAfter, NamedTypesAfter, PatternsAfter, ExprsAfter, MembersAfter, StatementsAfter}
 
 -- ---- layouts
 abbrev pub snoc_layouttrees : LayoutTrees → LayoutTree → LayoutTrees

@@ -1,22 +1,13 @@
 -- The tokens determine the tree: layouts, types and patterns.
-use Rattle.std.proofs.Common.{◌≡◌, ◌≢◌, refl, sym, ◌∙◌, ap, subst, ℕ, zero, suc, ◌+◌, ◌<◌, ◌≤◌, List, [], ◌∷◌, arith, true, false}
-use Rattle.nv_base.specs.declared.term.Mem.TheVariants.{Sram, Sdram, Scratch}
-use Rattle.nv_ast.specs.declared.token.Span.{Span}
+use Rattle.std.proofs.Common.{◌≡◌, refl, sym, subst, List, ◌∷◌, arith}
 use Rattle.nv_ast.specs.declared.token.Token.{Token}
-use Rattle.nv_ast.specs.declared.token.Sort.TheVariants.{Sign}
-use Rattle.nv_ast.specs.declared.tree.Op.{Op}
-use Rattle.nv_ast.specs.declared.tree.ShiftOp.{ShiftOp}
-use Rattle.nv_ast.specs.Tokens.{to, a_name, a_number, sign_of, level_of, shift_sign_of}
-use Rattle.nv_ast.specs.Tokens.{key_layout, key_exception, key_fun, key_and, key_let, key_if, key_else, key_unpack, key_pack, key_raise, key_try, key_handle, key_sram, key_sdram, key_scratch, key_word, key_bool, key_packed, key_unpacked, key_overlay, key_true, key_false, key_any}
-use Rattle.nv_ast.specs.Tokens.{sign_bar, sign_tilde, sign_bang, sign_arrow, sign_is, sign_semicolon, sign_colon, sign_comma, sign_dot, sign_open, sign_close, sign_open_brace, sign_close_brace, sign_open_bracket, sign_close_bracket, sign_join}
-use Rattle.nv_ast.specs.Tree.{LayoutTree, NamedLayout, GapLayout, PartsLayout, JoinedLayout, LayoutTrees, no_layouts, layout_and, FieldTree, BitsField, InnerField, OverlayField, FieldTrees, no_fields, field_and}
-use Rattle.nv_ast.specs.Tree.{TypeTree, WordType, BoolType, PackedType, UnpackedType, TupleType, RecordType, TypeTrees, no_types, type_and, NamedTypes, no_named_types, named_type_and}
-use Rattle.nv_ast.specs.Tree.{PatternTree, NamePattern, AnyPattern, TuplePattern, PatternTrees, no_patterns, pattern_and}
-use Rattle.nv_ast.specs.Tree.{Tree, NumberTree, TruthTree, VarTree, ParenTree, TupleTree, FieldsTree, DotTree, InvertTree, NegateTree, BinaryTree, ShiftTree, CallTree, UnpackTree, PackTree, RaiseTree, IfTree, TryTree, FetchTree, BlockTree, Trees, no_trees, tree_and, NamedTrees, no_named_trees, named_tree_and, StatementTree, LetStatement, StoreStatement, StatementTrees, no_statements, statement_and, span_of, statement_span}
-use Rattle.nv_ast.specs.Tree.{FunTree, DeclTree, LayoutDecl, ExceptionDecl, GroupDecl, ProgramTree}
-use Rattle.nv_ast.specs.Grammar.{IsLayout, IsMoreLayouts, IsLayoutAtom, IsMoreFields, IsField, IsAlternative, IsMoreAlternatives, IsType, IsMoreTypes, IsMoreNamedTypes, IsTypes, IsParams, IsPattern, IsMorePatterns, IsPatterns, IsExpr, IsStatements, IsStatement, IsTail, IsArgs, IsMoreExprs, IsLevel, IsRest, IsUna, IsDots, IsAtom, IsMoreMembers, IsFun, IsMoreFuns, IsDecl, IsDecls}
-use Rattle.nv_ast.specs.Grammar.{one_layout, joined_layouts, no_layout, next_layout, named_layout, gap_layout, parts_layout, no_field, next_field, plain_field, overlay_field, bits_field, inner_field, no_alternative, next_alternative, word_type, words_type, bool_type, packed_type, unpacked_type, unit_type, tuple_type, record_type, no_type, next_type, no_named_type, next_named_type, empty_types, some_types, empty_params, some_params, name_pattern, any_pattern, unit_pattern, tuple_pattern, no_pattern, next_pattern, empty_patterns, some_patterns, tail_alone, block, no_statement, next_statement, let_statement, store_sram, store_sdram, store_scratch, if_else, raise, operators, try_handle, empty_args, some_args, no_expr, next_expr, una, chain, no_operator, operator, comparison, shift, invert, negate, post, no_dot, dot, number, truth, falsehood, variable, call, unit, paren, tuple, fields, unpack, pack, fetch_sram, fetch_sdram, fetch_scratch, no_member, next_member, function, no_fun, next_fun, layout_decl, exception_decl, group, no_decl, next_decl}
-use Rattle.nv_parser.proofs.Follow.{span_at, name_at, Above, above_weaken, no_start, rank_of, shift_rank, same_op, same_shift, no_shift, zero_one, rest_above, front_rest, joins, number_no_layout, overlay_no_alternative, close_starts_no_type, close_starts_no_pattern, close_starts_no_expr, tilde_no_atom, bang_no_atom, level_first, tail_no_statement, type_first, pattern_first, expr_first, close_no_comma, front_more_fields, front_more_alternatives, front_more_types, front_more_named_types, front_more_patterns, front_more_exprs, front_more_members, front_dots, decl_some, front_decls}
+use Rattle.nv_ast.specs.Tokens.{sign_close, sign_close_brace}
+use Rattle.nv_ast.specs.Tree.{LayoutTree, LayoutTrees, layout_and, FieldTree, FieldTrees, field_and}
+use Rattle.nv_ast.specs.Tree.{TypeTree, TypeTrees, type_and, NamedTypes}
+use Rattle.nv_ast.specs.Tree.{PatternTree, PatternTrees, pattern_and}
+use Rattle.nv_ast.specs.Grammar.{IsLayout, IsMoreLayouts, IsLayoutAtom, IsMoreFields, IsField, IsAlternative, IsMoreAlternatives, IsType, IsMoreTypes, IsMoreNamedTypes, IsTypes, IsParams, IsPattern, IsMorePatterns, IsPatterns}
+use Rattle.nv_ast.specs.Grammar.{one_layout, joined_layouts, no_layout, next_layout, named_layout, gap_layout, parts_layout, no_field, next_field, plain_field, overlay_field, bits_field, inner_field, no_alternative, next_alternative, word_type, words_type, bool_type, packed_type, unpacked_type, unit_type, tuple_type, record_type, no_type, next_type, no_named_type, next_named_type, empty_types, some_types, empty_params, some_params, name_pattern, any_pattern, unit_pattern, tuple_pattern, no_pattern, next_pattern, empty_patterns, some_patterns}
+use Rattle.nv_parser.proofs.Follow.{Above, above_weaken, no_start, joins, number_no_layout, overlay_no_alternative, close_starts_no_type, close_starts_no_pattern, type_first, pattern_first, front_more_fields, front_more_alternatives, front_more_types, front_more_named_types}
 
 -- ---- layouts
 mutual

@@ -1,18 +1,18 @@
 -- The rules of patterns, and what they are read by.
-use Rattle.std.proofs.Common.{◌≡◌, refl, sym, ◌∙◌, ap, subst, ℕ, ◌+◌, ◌<◌, ◌≤◌, max, List, [], ◌∷◌, arith, Bool, true, false}
+use Rattle.std.proofs.Common.{◌≡◌, refl, sym, ◌∙◌, ap, subst, ℕ, ◌≤◌, max, List, [], ◌∷◌, arith}
 use Rattle.nv_ast.specs.declared.token.Span.{Span}
 use Rattle.nv_ast.specs.declared.token.Token.{Token}
-use Rattle.nv_ast.specs.declared.token.Sort.TheVariants.{Word, Number, Key, Sign}
-use Rattle.nv_ast.specs.Tokens.{a_name, key_any, sign_open, sign_close, sign_close_bracket, sign_comma}
+use Rattle.nv_ast.specs.declared.token.Sort.TheVariants.{Word}
+use Rattle.nv_ast.specs.Tokens.{a_name, key_any, sign_open, sign_close, sign_close_bracket}
 use Rattle.nv_ast.specs.Tree.{PatternTree, NamePattern, AnyPattern, TuplePattern, PatternTrees, no_patterns, pattern_and}
 use Rattle.nv_ast.specs.Height.{pattern_height, highest_pattern}
 use Rattle.nv_ast.specs.Grammar.{IsPattern, name_pattern, any_pattern, unit_pattern, tuple_pattern, IsMorePatterns, no_pattern, next_pattern, IsPatterns, empty_patterns, some_patterns}
 use Rattle.nv_parser.specs.declared.cursor.Failure.{Failure}
-use Rattle.nv_parser.specs.inner.Cursor.{Front, NotSign, NotKey, NotName, IsSyntax}
-use Rattle.nv_parser.specs.inner.Failing.{Bound, NoBound, AtMost, Within, HasRoom, Same, Inside, part_of, bound_of, Phrases, Anything, Ahead, Phrase, One, ASign, AKey, AName, Then, Many, none, next, HasRead, SameFront, Completes, Starts, StartsNone, Reads, FailsAs}
+use Rattle.nv_parser.specs.inner.Cursor.{NotSign, NotKey, NotName, IsSyntax}
+use Rattle.nv_parser.specs.inner.Failing.{Bound, NoBound, AtMost, Within, HasRoom, Same, Inside, part_of, bound_of, Phrases, Anything, Ahead, Phrase, ASign, AKey, AName, Then, Many, none, next, HasRead, Completes, Starts, StartsNone, Reads, FailsAs}
 use Rattle.nv_parser.specs.inner.Phrases.{LowPatterns, APattern, SomePatterns, NextPattern}
 use Rattle.nv_parser.proofs.Bounds.{within_one, within_node, node_within, within_max, max_left, max_right, within_zero, room_here}
-use Rattle.nv_parser.proofs.Follow.{Above, close_starts_no_pattern, pattern_first, first_rank}
+use Rattle.nv_parser.proofs.Follow.{Above, close_starts_no_pattern, pattern_first}
 use Rattle.nv_parser.proofs.Sequence.{front_same, same_first, Fills, Rule, Listed, sign_listed, ahead_above, not_ahead, one_none, one_fills, then_fills, many_fills, first_fails, then_fails, then_reads, some_fails, some_reads, sign_fails, one_carries, carries_anything}
 
 no_span : Span

@@ -1,14 +1,14 @@
 -- Sentences made of what is read after a first part.
-use Rattle.std.proofs.Common.{◌≡◌, refl, sym, ◌∙◌, ap, subst, ℕ, List, [], ◌∷◌, arith}
+use Rattle.std.proofs.Common.{◌≡◌, refl, ◌∙◌, ap, subst, ℕ, List, ◌∷◌, arith}
 use Rattle.nv_ast.specs.declared.token.Span.{Span}
 use Rattle.nv_ast.specs.declared.token.Token.{Token}
-use Rattle.nv_ast.specs.Tokens.{at, a_name, key_overlay, sign_join, sign_bar, sign_comma, sign_colon, sign_open, sign_close, sign_open_brace, sign_close_brace}
-use Rattle.nv_ast.specs.Tree.{LayoutTree, JoinedLayout, PartsLayout, LayoutTrees, no_layouts, layout_and, FieldTree, OverlayField, FieldTrees, field_and, TypeTree, TupleType, RecordType, TypeTrees, NamedTypes, PatternTree, TuplePattern, PatternTrees, pattern_and, type_and}
+use Rattle.nv_ast.specs.Tokens.{at, a_name, key_overlay, sign_bar, sign_comma, sign_colon, sign_open, sign_close, sign_open_brace, sign_close_brace}
+use Rattle.nv_ast.specs.Tree.{LayoutTree, JoinedLayout, PartsLayout, LayoutTrees, layout_and, FieldTree, OverlayField, FieldTrees, field_and, TypeTree, TupleType, RecordType, TypeTrees, NamedTypes, PatternTree, TuplePattern, PatternTrees, pattern_and, type_and}
 use Rattle.nv_ast.specs.Grammar.{IsLayout, joined_layouts, IsLayoutAtom, parts_layout, IsMoreLayouts, no_layout, next_layout, IsField, overlay_field, IsAlternative, IsMoreAlternatives, no_alternative, next_alternative, IsType, tuple_type, record_type, IsMoreTypes, no_type, next_type, IsTypes, some_types, IsParams, some_params, IsPattern, tuple_pattern, IsMorePatterns, no_pattern, next_pattern, IsPatterns, some_patterns, IsMoreNamedTypes, IsMoreFields}
 use Rattle.nv_ast.specs.declared.token.Sort.TheVariants.{Sign}
 use Rattle.nv_parser.specs.inner.Cursor.{NotSign}
 use Rattle.nv_parser.specs.inner.Lists.{LayoutsAfter, FieldsAfter, AlternativesAfter, TypesAfter, NamedTypesAfter, PatternsAfter}
-use Rattle.nv_parser.proofs.Follow.{Above, above_weaken, first_rank}
+use Rattle.nv_parser.proofs.Follow.{first_rank}
 
 patterns_two : {p : PatternTree} {new : PatternTrees} {s t u : Span} {us vs ws k : List Token} → IsPattern p us vs → IsMorePatterns new vs (sign_close t ∷ k) → vs ≡ sign_comma u ∷ ws → IsPattern (TuplePattern (pattern_and p new)) (sign_open s ∷ us) k
 patterns_two d no_pattern e = let h : ◌≡◌ {A = ℕ} 13 10 = ap first_rank e in absurd (omega arith)

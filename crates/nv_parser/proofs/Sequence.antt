@@ -1,5 +1,5 @@
 -- How phrases are read and fail that are made of others.
-use Rattle.std.proofs.Common.{◌≡◌, refl, sym, ◌∙◌, ap, subst, ℕ, ◌+◌, ◌-◌, ◌<◌, ◌≤◌, List, [], ◌∷◌, ◌++◌, append_assoc, append-nil, arith, Bool, true, false, length, length-append}
+use Rattle.std.proofs.Common.{◌≡◌, refl, sym, ◌∙◌, ap, subst, ℕ, ◌-◌, ◌<◌, ◌≤◌, List, [], ◌∷◌, ◌++◌, append_assoc, arith, Bool, true, false, length, length-append}
 use Rattle.std.specs.Prelude.{Result, Ok, Err, MatchResult}
 use Rattle.nv_ast.specs.declared.token.Span.{Span}
 use Rattle.nv_ast.specs.declared.token.Token.{Token}
@@ -9,7 +9,7 @@ use Rattle.nv_ast.specs.Tokens.{at}
 use Rattle.nv_parser.specs.declared.cursor.Failure.{Failure}
 use Rattle.nv_parser.specs.declared.cursor.Failure.TheVariants.{NoMemory, Syntax, Deep}
 use Rattle.nv_parser.specs.inner.Cursor.{Front, NotSign, NotKey, NotName, NotNumber, IsSyntax, IsSyntaxOrMemory}
-use Rattle.nv_parser.specs.inner.Failing.{Bound, NoBound, AtMost, HasRoom, Part, Same, Inside, Alone, room_of, part_of, bound_of, Phrases, Follow, Anything, Ahead, One, ASign, AKey, AName, ANumber, Then, Many, none, next, HasRead, SameFront, Completes, Starts, StartsNone, Reads, GoesOn, ReadMany, read_none, read_next, Fails, FailsAs, no_memory, syntax, deep}
+use Rattle.nv_parser.specs.inner.Failing.{Bound, NoBound, AtMost, HasRoom, Part, Same, Inside, Alone, room_of, part_of, bound_of, Phrases, Follow, Anything, Ahead, One, ASign, AKey, AName, ANumber, Then, Many, none, next, HasRead, SameFront, Completes, Starts, StartsNone, Reads, ReadMany, read_none, read_next, Fails, FailsAs, no_memory, syntax, deep}
 use Rattle.nv_parser.proofs.Follow.{Above, above_weaken, rank}
 use Rattle.nv_parser.proofs.Bounds.{room_here}
 

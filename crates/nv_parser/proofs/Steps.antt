@@ -1,12 +1,12 @@
 -- How a phrase is read and fails behind tokens that are read already.
-use Rattle.std.proofs.Common.{◌≡◌, refl, sym, ◌∙◌, ap, subst, ℕ, List, [], ◌∷◌, ◌++◌, append_assoc, append-nil, arith, Bool, true, false}
+use Rattle.std.proofs.Common.{◌≡◌, refl, sym, ◌∙◌, ap, subst, ℕ, List, [], ◌∷◌, ◌++◌, append_assoc, append-nil, Bool, true, false}
 use Rattle.std.proofs.lemmas.List.{append_cancel_right}
 use Rattle.nv_ast.specs.declared.token.Token.{Token}
 use Rattle.nv_parser.specs.declared.cursor.Failure.{Failure}
-use Rattle.nv_parser.specs.declared.cursor.Failure.TheVariants.{NoMemory, Syntax, Deep}
+use Rattle.nv_parser.specs.declared.cursor.Failure.TheVariants.{Syntax, Deep}
 use Rattle.std.specs.Borrow.{Bor}
-use Rattle.nv_parser.specs.inner.Failing.{Bound, NoBound, AtMost, bound_of, Phrases, Follow, Phrase, HasRead, SameFront, Completes, Starts, Reads, GoesOn, Fails, FailsAs, no_memory, syntax, deep}
-use Rattle.nv_parser.specs.inner.ExprPhrases.{rebound, At, Onward}
+use Rattle.nv_parser.specs.inner.Failing.{Bound, NoBound, AtMost, bound_of, Phrases, Follow, Phrase, HasRead, SameFront, Completes, Starts, Reads, Fails, FailsAs, no_memory, syntax, deep}
+use Rattle.nv_parser.specs.inner.ExprPhrases.{At, Onward}
 use Rattle.nv_parser.proofs.Sequence.{same_front, same_behind, Fills, past_split}
 use Rattle.nv_parser.proofs.Frames.{Frame}
 

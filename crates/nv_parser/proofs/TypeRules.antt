@@ -1,20 +1,18 @@
 -- The rules of types, and what they are read by.
-use Rattle.std.proofs.Common.{◌≡◌, refl, sym, ◌∙◌, ap, subst, ℕ, ◌+◌, ◌<◌, ◌≤◌, max, List, [], ◌∷◌, arith, Bool, true, false}
+use Rattle.std.proofs.Common.{◌≡◌, refl, sym, ◌∙◌, ap, subst, ℕ, ◌≤◌, max, List, [], ◌∷◌, arith, true}
 use Rattle.nv_ast.specs.declared.token.Span.{Span}
 use Rattle.nv_ast.specs.declared.token.Token.{Token}
-use Rattle.nv_ast.specs.declared.token.Sort.{Sort}
-use Rattle.nv_ast.specs.declared.token.Sort.TheVariants.{Word, Number, Key, Sign}
-use Rattle.nv_ast.specs.Tokens.{at, a_name, a_number, key_word, key_bool, key_packed, key_unpacked, sign_open, sign_close, sign_open_bracket, sign_close_bracket, sign_open_brace, sign_close_brace, sign_comma, sign_colon}
+use Rattle.nv_ast.specs.Tokens.{a_name, a_number, key_word, key_bool, key_packed, key_unpacked, sign_open, sign_close, sign_open_bracket, sign_close_bracket, sign_open_brace, sign_close_brace, sign_comma, sign_colon}
 use Rattle.nv_ast.specs.Tree.{TypeTree, WordType, BoolType, PackedType, UnpackedType, TupleType, RecordType, TypeTrees, no_types, type_and, NamedTypes, no_named_types, named_type_and}
 use Rattle.nv_ast.specs.Height.{type_height, highest_type, highest_named_type}
 use Rattle.nv_ast.specs.Grammar.{IsType, word_type, words_type, bool_type, packed_type, unpacked_type, unit_type, tuple_type, record_type, IsMoreTypes, no_type, next_type, IsMoreNamedTypes, no_named_type, next_named_type, IsTypes, empty_types, some_types, IsParams, empty_params, some_params}
 use Rattle.nv_parser.specs.declared.cursor.Failure.{Failure}
-use Rattle.nv_parser.specs.inner.Cursor.{Front, NotSign, NotKey, NotName, IsSyntax}
-use Rattle.nv_parser.specs.inner.Failing.{Bound, NoBound, AtMost, Within, HasRoom, Same, Inside, part_of, bound_of, Phrases, Anything, Ahead, Phrase, One, ASign, AKey, AName, ANumber, Then, Many, none, next, HasRead, SameFront, Completes, Starts, StartsNone, Reads, FailsAs}
+use Rattle.nv_parser.specs.inner.Cursor.{NotSign, NotKey, IsSyntax}
+use Rattle.nv_parser.specs.inner.Failing.{Bound, AtMost, Within, HasRoom, Same, Inside, part_of, bound_of, Phrases, Anything, Ahead, Phrase, ASign, AKey, ANumber, Then, Many, none, next, HasRead, SameFront, Completes, Starts, StartsNone, Reads, FailsAs}
 use Rattle.nv_parser.specs.inner.Phrases.{LowTypes, LowNamedTypes, AType, SomeTypes, SomeParams, NextType, NamedType, NextNamedType, NameInBrackets}
 use Rattle.nv_parser.proofs.Bounds.{within_one, within_node, node_within, within_max, max_left, max_right, within_zero, room_here}
-use Rattle.nv_parser.proofs.Follow.{Above, above_weaken, close_starts_no_type, type_first, first_rank}
-use Rattle.nv_parser.proofs.Sequence.{front_same, same_first, Fills, Carries, Rule, Listed, sign_listed, ahead_above, not_ahead, one_none, one_fills, then_fills, many_fills, many_carries, then_carries, first_fails, then_fails, then_reads, some_fails, some_reads, sign_fails, one_carries, carries_anything}
+use Rattle.nv_parser.proofs.Follow.{Above, close_starts_no_type, type_first}
+use Rattle.nv_parser.proofs.Sequence.{front_same, same_first, Fills, Carries, Rule, Listed, sign_listed, ahead_above, not_ahead, one_fills, then_fills, many_fills, many_carries, then_carries, first_fails, then_fails, then_reads, some_fails, some_reads, sign_fails, one_carries, carries_anything}
 
 no_span : Span
 no_span = record { first = 0; after = 0 }

@@ -1,5 +1,5 @@
 -- Where a text ceases to begin a program, and that it does so at one place.
-use Rattle.std.proofs.Common.{◌≡◌, refl, sym, ◌∙◌, ap, subst, ℕ, ◌+◌, ◌<◌, ◌≤◌, List, [], ◌∷◌, ◌++◌, append_assoc, append-nil, arith, length, true, false, ◌⊎◌, inl, inr}
+use Rattle.std.proofs.Common.{◌≡◌, refl, sym, ◌∙◌, ap, subst, ℕ, ◌<◌, ◌≤◌, List, [], ◌∷◌, ◌++◌, append_assoc, append-nil, arith, length, true, false, ◌⊎◌, inl, inr}
 use Rattle.nv_ast.specs.declared.token.Token.{Token}
 use Rattle.nv_ast.specs.Tree.{DeclTree, ProgramTree}
 use Rattle.nv_ast.specs.Height.{highest_decl}
@@ -9,9 +9,9 @@ use Rattle.nv_text.specs.declared.error.TextError.{TextError}
 use Rattle.nv_text.specs.declared.error.TextError.TheVariants.{NoMemory, Char, Number, Name, Syntax, Deep}
 use Rattle.nv_text.specs.Tokens.{IsTokens, TokenFault}
 use Rattle.nv_parser.specs.declared.cursor.Failure.{Failure}
-use Rattle.nv_text.specs.Program.{IsTextOf, SyntaxText, DeepText, FaultOf}
+use Rattle.nv_text.specs.Program.{IsTextOf, FaultOf}
 use Rattle.nv_text.specs.inner.Placing.{Says}
-use Rattle.nv_parser.specs.inner.Failing.{Bound, NoBound, AtMost, Many, HasRead, SameFront, Completes, Starts, Fails, FailsAs, no_memory, syntax, deep}
+use Rattle.nv_parser.specs.inner.Failing.{NoBound, AtMost, Many, HasRead, SameFront, Completes, Fails, FailsAs, no_memory, syntax, deep}
 use Rattle.nv_parser.specs.inner.Phrases.{ADecl, AtEnd}
 use Rattle.nv_text.proofs.Reading.{tokens_one, fault_no_tokens, fault_one}
 use Rattle.nv_parser.proofs.DeclPhrases.{to_decls, of_decls}

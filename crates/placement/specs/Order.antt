@@ -1,6 +1,6 @@
 -- The order of the lists of a placement that fits: homes by rising variable, accesses and passes by rising point, and operands by points
 -- that never fall.
-use Rattle.std.specs.Prelude.{ℕ, List, map}
+use Rattle.std.specs.Prelude.{map}
 use Rattle.std.specs.List.Sorted.{IsNonDecreasingBy}
 use Rattle.placement.specs.Fits.{Rises}
 use Rattle.placement.specs.Plan.{Plan}

@@ -1,5 +1,5 @@
 -- Numbers that were found by hints are those that a placement asks for.
-use Rattle.std.proofs.Common.{◌≡◌, ℕ, suc, nat_eq, Bool, true, Option, List, [], ◌∷◌, length, map, filter, refl, sym, ap, subst, ◌∙◌}
+use Rattle.std.proofs.Common.{◌≡◌, ℕ, suc, nat_eq, Bool, true, Option, List, [], ◌∷◌, length, map, filter, refl, ap, ◌∙◌}
 use Rattle.std.specs.Prelude.{All}
 use Rattle.std.specs.HashMap.{get}
 use Rattle.std.specs.List.{AllZip}

@@ -1,7 +1,6 @@
 -- A made source wants few words at once.
 use Rattle.std.proofs.Common.{◌≡◌, ℕ, zero, suc, ◌+◌, ◌-◌, ◌≤◌, ◌<◌, ◌^◌, max, ◌⊎◌, inl, inr, Bool, true, false, ◌||◌, List, [], ◌∷◌, ◌++◌, length, refl, ap, sym, ◌∙◌, subst, decimal, arith}
 use Rattle.std.specs.Prelude.{Some, if◌then◌else◌, bytes_eq, codes}
-use Rattle.std.specs.List.{list_any}
 use Rattle.std.proofs.lemmas.Fmt.{decimal_injective}
 use Rattle.std.proofs.lemmas.List.{append_cancel_left}
 use Rattle.std.proofs.lemmas.List.Folds.{list_any-append}
@@ -9,7 +8,7 @@ use Rattle.std.proofs.lemmas.Slice.Eq.{bytes_eq-Decides}
 use Rattle.std.proofs.lemmas.Bool.{false_from_ne_true, or_from}
 use Rattle.nv_ast.specs.declared.token.Span.{Span}
 use Rattle.nv_ast.specs.Scope.{Known, Vars}
-use Rattle.nv_ast.specs.Sizes.{Lets, variables, variables_statement, variables_statements, let_of, lets_behind, pending, need, need_statement, need_statements, room}
+use Rattle.nv_ast.specs.Sizes.{Lets, variables_statement, variables_statements, let_of, lets_behind, pending, need, need_statement, need_statements, room}
 use Rattle.nv_ast.specs.Tests.{look_up, is_among}
 use Rattle.nv_ast.specs.Tree.{BlockTree}
 use Rattle.nv_ast.specs.Types.{WordTy}

@@ -1,5 +1,5 @@
 -- The meaning of labels by how runs leave them, and laws of the entries of labels.
-use Rattle.std.proofs.Common.{◌≡◌, ℕ, zero, suc, ◌+◌, ◌≤◌, List, map, length, Option, Some, None, Bool, true, false, if◌then◌else◌, refl, arith}
+use Rattle.std.proofs.Common.{◌≡◌, ℕ, zero, suc, ◌≤◌, List, map, length, Option, Some, None, Bool, true, false, if◌then◌else◌, refl, arith}
 use Rattle.std.specs.Prelude.{slice_get}
 use Rattle.nv_base.specs.declared.outcome.Outcome.TheVariants as outcome
 use Rattle.nv_base.specs.Memories.{Memories, fetched, stored}

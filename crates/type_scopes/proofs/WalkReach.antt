@@ -1,5 +1,5 @@
 -- Scratch addresses that are numbers.
-use Rattle.std.proofs.Common.{◌≡◌, ◌∙◌, refl, ap, sym, ◌⊎◌, ⊎_elim, ℕ, ◌+◌, ◌<◌, ◌≤◌, min, nat_lt, nat_le, Bool, true, not, [], arith}
+use Rattle.std.proofs.Common.{◌≡◌, ◌∙◌, refl, ap, sym, ⊎_elim, ℕ, ◌+◌, ◌<◌, ◌≤◌, min, nat_lt, nat_le, Bool, true, not, [], arith}
 use Rattle.std.proofs.lemmas.Bool.{cases_lt, lt-ltb, le-ltb, le-leb, lt-leb}
 use Rattle.nv_base.specs.declared.term.Mem.{Mem}
 use Rattle.nv_base.specs.declared.term.Mem.TheVariants.{Sram, Sdram, Scratch}

@@ -3,7 +3,6 @@ use Rattle.std.proofs.Common.{◌≡◌, ◌∙◌, refl, ap, sym, subst, ℕ, �
 use Rattle.std.proofs.Math.Seq.{drop-cons}
 use Rattle.std.proofs.lemmas.Bool.{eq-eqb}
 use Rattle.std.proofs.lemmas.Option.{none-some, same_Some}
-use Rattle.nv_ast.specs.declared.tree.Pat
 use Rattle.nv_ast.specs.declared.tree.Pat.{Pat}
 use Rattle.nv_ast.specs.Tree.{no_patterns}
 use Rattle.nv_ast.specs.PatternView.{pattern_tree, list_patterns}

@@ -1,6 +1,6 @@
 -- How far a simulation has come.
 use Rattle.std.specs.Prelude.{Bool, true, false, cond}
-use Rattle.std.proofs.Common.{◌≡◌, ℕ, zero, suc, ◌+◌, ◌-◌, ◌≤◌, ◌<◌, List, [], ◌∷◌, ◌++◌, length, refl, ap, sym, subst, ◌∙◌, arith}
+use Rattle.std.proofs.Common.{◌≡◌, ℕ, suc, ◌+◌, ◌-◌, ◌≤◌, ◌<◌, List, [], ◌∷◌, ◌++◌, length, refl, ap, sym, subst, ◌∙◌, arith}
 use Rattle.std.proofs.lemmas.List.Elements.{filter-append}
 use Rattle.nv_base.specs.declared.outcome.Write.{Write as WriteEvent}
 use Rattle.nv_base.specs.declared.outcome.Outcome.{Outcome}

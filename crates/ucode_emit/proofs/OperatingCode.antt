@@ -2,8 +2,6 @@
 use Rattle.std.proofs.Common.{◌≡◌, ℕ, suc, ◌+◌, List, [], ◌∷◌, ◌++◌, map, length, Option, Some, None, refl, sym, ap, ◌∙◌, append_assoc}
 use Rattle.std.specs.List.{cons_option}
 use Rattle.uc_isa.specs.Registers.{failing}
-use Rattle.uc_isa.specs.declared.instruction.Instr.{Instr}
-use Rattle.uc_isa.specs.declared.instruction.Cond.TheVariants.{Always}
 use Rattle.nv_base.specs.declared.term.Bin.TheVariants.{Sub}
 use Rattle.nv_base.specs.declared.term.Cmp.{Cmp}
 use Rattle.ssu_ir.specs.Tree.{Step, Lit, Una, Bin, Clone, Read, Write, Last, Jump, Halt, Tree, Do, If, End, Label}
@@ -14,7 +12,7 @@ use Rattle.placement.specs.Plan.{Plan, pass}
 use Rattle.par_move.specs.Moves.{Move}
 use Rattle.ucode_emit.specs.Operations.{Operation, Immediate, Unary, Binary, Reading, Branching, instr_operation, code_operations, step_operations, last_operations, tree_operations, form_operations}
 use Rattle.ucode_emit.specs.inner.Machine.{IsReadable, IsDirect, read_slot, write_slot, copied}
-use Rattle.ucode_emit.specs.Pieces.{Item, Moved, Plain, Branch, move_instr, instr_of, moved, operands, words, to_slot, copies, all_copies, single_moves, defines, step_items, fork_items, last_items, Sequences, sequence_at, tree_items, label_items, items_from, items}
+use Rattle.ucode_emit.specs.Pieces.{Item, Moved, Plain, Branch, move_instr, instr_of, moved, operands, words, to_slot, copies, all_copies, single_moves, step_items, fork_items, last_items, Sequences, sequence_at, tree_items, label_items, items_from, items}
 use Rattle.ucode_emit.proofs.LawfulItems.{IsGood, AreGood}
 use Rattle.ucode_emit.proofs.OperatingItems.{plain_operations, unary_plain}
 

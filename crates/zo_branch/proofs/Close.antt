@@ -1,5 +1,5 @@
 -- leaves that close what is met and what is out of reach, and the unfixed column of an open node
-use Rattle.std.proofs.Common.{◌≡◌, ℕ, zero, suc, ◌+◌, ◌*◌, ◌<◌, ◌≤◌, ◌^◌, List, [], ◌∷◌, length, get_or, Bool, true, false, nat_eq, inl, inr, ◌⊎◌, Option, Some, None, slice_get, replicate, ℤ, pos, ◌+ℤ◌, ◌-ℤ◌, ◌*ℤ◌, ◌≤ℤ◌, ◌<ℤ◌, refl, sym, ◌∙◌, ap, subst, arith}
+use Rattle.std.proofs.Common.{◌≡◌, ℕ, zero, suc, ◌*◌, ◌<◌, ◌≤◌, ◌^◌, List, [], ◌∷◌, length, get_or, Bool, true, false, nat_eq, inl, inr, ◌⊎◌, Option, Some, None, slice_get, replicate, ℤ, pos, ◌+ℤ◌, ◌-ℤ◌, ◌*ℤ◌, ◌≤ℤ◌, ◌<ℤ◌, refl, sym, ◌∙◌, ap, subst, arith}
 use Rattle.std.specs.List.{All}
 use Rattle.std.specs.Prelude.{IfSome}
 use Rattle.std.proofs.lemmas.Int.{ints, clamps, by_lt_z}
@@ -10,7 +10,7 @@ use Rattle.zo_model.specs.declared.program.Row.{Row}
 use Rattle.zo_model.specs.declared.program.ZeroOne.{ZeroOne}
 use Rattle.zo_model.proofs.Rows.{rise_below}
 use Rattle.zo_model.proofs.Sums.{sum_below-same, sum_below-add, sum_below-le}
-use Rattle.zo_proof.specs.Certificate.{bound, column_part, least_part, least_sum, weight, coefficient, terms_of, least_of, ClosesLeaf, unfixed}
+use Rattle.zo_proof.specs.Certificate.{bound, column_part, least_part, least_sum, weight, coefficient, terms_of, least_of, ClosesLeaf}
 use Rattle.zo_proof.specs.Fixing.{is_one, ones}
 use Rattle.zo_proof.specs.Node.{IsNode, AreMultipliers}
 use Rattle.zo_proof.specs.Searched.{reach, reach_part, IsInReach, IsOpen}

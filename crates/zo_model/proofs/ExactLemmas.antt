@@ -1,5 +1,5 @@
 -- of a text's answers one is true
-use Rattle.std.proofs.Common.{◌≡◌, ◌≢◌, ℕ, zero, suc, ◌+◌, ◌*◌, ◌^◌, ◌<◌, ◌≤◌, List, [], ◌∷◌, ◌++◌, length, map, refl, sym, ap, ◌∙◌, subst, arith, append_assoc, codes, decimal, lit≤, Result, Ok, Err, IfOk, IfErr, Bool, true, false, eqb, ◌⊎◌, inl, inr, zero-add}
+use Rattle.std.proofs.Common.{◌≡◌, ◌≢◌, ℕ, ◌+◌, ◌^◌, ◌<◌, List, [], ◌∷◌, ◌++◌, length, map, refl, sym, ap, ◌∙◌, subst, arith, append_assoc, codes, decimal, lit≤, Result, Ok, Err, IfOk, IfErr, true, false, eqb, ◌⊎◌, inl, inr, zero-add}
 use Rattle.std.proofs.lemmas.Bool.Decides.{eqb_tells}
 use Rattle.std.specs.List.{All}
 use Rattle.std.specs.Fmt.{signed_decimal}
@@ -7,7 +7,7 @@ use Rattle.std.proofs.lemmas.List.{append-nil, length-append, length-map}
 use Rattle.std.proofs.lemmas.List.Elements.{All-nil, All-cons, All-head, All-tail}
 use Rattle.line_text.specs.Line.{Lacks, AllLack, text_of, parted}
 use Rattle.line_text.specs.Format.{Begins, IsText, FirstFault, wrong, short, IsFormat}
-use Rattle.line_text.proofs.SplitLaws.{lines_one, Lacks-parted, Lacks-test, AllLack-append, AllLack-front}
+use Rattle.line_text.proofs.SplitLaws.{lines_one, Lacks-parted, Lacks-test, AllLack-append}
 use Rattle.line_text.proofs.NumberLaws.{Lacks-decimal, Lacks-signed}
 use Rattle.line_text.proofs.FormatLaws.{no_text, one_fault, begins_format}
 use Rattle.zo_model.specs.Contents.{Contents, RowContents, contents, row_contents}

@@ -1,15 +1,15 @@
 -- where a reader of a program stops
-use Rattle.std.proofs.Common.{◌≡◌, ℕ, zero, suc, ◌+◌, ◌*◌, ◌^◌, ◌<◌, ◌≤◌, List, [], ◌∷◌, ◌++◌, length, map, refl, sym, ap, ◌∙◌, subst, arith, append_assoc, codes, decimal, Result, Ok, Err, IfOk, IfErr}
+use Rattle.std.proofs.Common.{◌≡◌, ℕ, ◌+◌, ◌^◌, ◌<◌, ◌≤◌, List, [], ◌∷◌, ◌++◌, length, map, refl, sym, ap, ◌∙◌, subst, arith, append_assoc, codes}
 use Rattle.std.specs.List.{All}
-use Rattle.std.proofs.lemmas.List.{append-nil, length-append, length-map, map-append}
+use Rattle.std.proofs.lemmas.List.{length-append, length-map, map-append}
 use Rattle.std.proofs.lemmas.List.Elements.{All-nil, All-push}
-use Rattle.line_text.specs.Line.{Lacks, text_of, parted}
-use Rattle.line_text.specs.Format.{Begins, IsText, FirstFault, wrong, short}
+use Rattle.line_text.specs.Line.{text_of}
+use Rattle.line_text.specs.Format.{Begins}
 use Rattle.line_text.proofs.SplitLaws.{text_of-append, text_of-cons}
-use Rattle.zo_model.specs.Contents.{Contents, RowContents}
+use Rattle.zo_model.specs.Contents.{RowContents}
 use Rattle.zo_model.specs.ProgramText.{columns_line, rows_line, cost_line, row_line, program_lines, IsRowText, IsValidContents, AreProgramLines}
-use Rattle.zo_model.specs.inner.LineFault.{IsCounted, IsCost, IsRowLine, NoLine, cut, other, IsLineFault}
-use Rattle.zo_model.specs.inner.ProgramFault.{HasFaultAfter, IsProgramFault, StopsAtCost, IsCostFault, StopsAtRow, IsRowFault}
+use Rattle.zo_model.specs.inner.LineFault.{IsCounted, IsCost, IsRowLine, IsLineFault}
+use Rattle.zo_model.specs.inner.ProgramFault.{IsProgramFault, IsCostFault, IsRowFault}
 use Rattle.zo_model.specs.declared.error.ZoError.{ZoError}
 use Rattle.zo_model.specs.declared.error.ZoError.TheVariants.{NoMemory, Bad}
 use Rattle.zo_model.proofs.LineLemmas.{no_line_weaker}

@@ -1,8 +1,8 @@
 -- lines of a name and a number
-use Rattle.std.proofs.Common.{◌≡◌, ℕ, zero, suc, ◌+◌, ◌*◌, ◌^◌, ◌<◌, ◌≤◌, List, [], ◌∷◌, ◌++◌, length, refl, sym, ap, ◌∙◌, subst, arith, append_assoc, codes, decimal, lit≤}
+use Rattle.std.proofs.Common.{◌≡◌, ℕ, ◌^◌, ◌<◌, List, [], ◌∷◌, ◌++◌, length, sym, ap, ◌∙◌, arith, decimal, lit≤}
 use Rattle.std.proofs.lemmas.List.{append_cancel_left, length-append}
-use Rattle.line_text.specs.Line.{Lacks, AllLack, parts, parted}
-use Rattle.line_text.proofs.SplitLaws.{parts-parted, parted-parts, split_one, lacks_not, Lacks-parted}
+use Rattle.line_text.specs.Line.{Lacks, parts, parted}
+use Rattle.line_text.proofs.SplitLaws.{parts-parted, parted-parts}
 use Rattle.line_text.proofs.NumberLaws.{Lacks-decimal}
 use Rattle.line_text.proofs.NumberLemmas.{decimal_one}
 use Rattle.zo_model.specs.inner.LineFault.{IsCounted, NoLine, cut, other}

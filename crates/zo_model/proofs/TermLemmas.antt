@@ -1,18 +1,18 @@
 -- the terms of a row's line
-use Rattle.std.proofs.Common.{◌≡◌, ◌≢◌, ℕ, zero, suc, ◌+◌, ◌*◌, ◌^◌, ◌<◌, ◌≤◌, List, [], ◌∷◌, ◌++◌, length, map, refl, sym, ap, ◌∙◌, subst, arith, append_assoc, ℤ, pos, negsuc, neg_ℤ, ◌≤ℤ◌, codes, decimal, lit≤, add-one}
+use Rattle.std.proofs.Common.{◌≡◌, ◌≢◌, ℕ, suc, ◌+◌, ◌^◌, ◌<◌, ◌≤◌, List, [], ◌∷◌, ◌++◌, map, refl, sym, ap, ◌∙◌, subst, arith, append_assoc, ℤ, pos, neg_ℤ, ◌≤ℤ◌, codes, decimal, lit≤, add-one}
 use Rattle.std.specs.List.{All}
 use Rattle.std.specs.Char.{digit_value}
 use Rattle.std.specs.Fmt.{signed_decimal}
 use Rattle.std.specs.Int.Signed.{mag}
 use Rattle.std.proofs.lemmas.Int.{ints}
 use Rattle.std.proofs.lemmas.List.{append-nil, map-append}
-use Rattle.std.proofs.lemmas.List.Elements.{All-push, All-nil, All-head, All-tail, All-append, All-get_or}
+use Rattle.std.proofs.lemmas.List.Elements.{All-push, All-nil, All-head, All-tail}
 use Rattle.line_text.specs.Line.{Lacks, AllLack, parts, parted}
 use Rattle.line_text.proofs.SplitLaws.{split_one, parts-parted, parted-parts, Lacks-append, Lacks-test}
 use Rattle.line_text.proofs.NumberLaws.{Lacks-decimal, Lacks-signed}
 use Rattle.line_text.proofs.NumberLemmas.{decimal_one, signed_one, mag_small}
 use Rattle.zo_model.specs.Contents.{RowContents}
-use Rattle.zo_model.specs.Program.{Rise, IsCoefficient, AreTerms, AtMost}
+use Rattle.zo_model.specs.Program.{Rise, IsCoefficient, AtMost}
 use Rattle.zo_model.specs.ProgramText.{term_text, row_line, IsRowText}
 use Rattle.zo_model.specs.inner.LineFault.{IsRowLine}
 use Rattle.zo_model.specs.inner.TermParts.{IsTerm, SpellTerms}

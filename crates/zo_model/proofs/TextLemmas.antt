@@ -1,13 +1,12 @@
 -- the lines of a program, up to some line
-use Rattle.std.proofs.Common.{◌≡◌, ℕ, zero, suc, ◌+◌, ◌-◌, ◌*◌, ◌^◌, ◌<◌, ◌≤◌, List, [], ◌∷◌, ◌++◌, length, map, replicate, refl, sym, ap, ◌∙◌, subst, arith, append_assoc, ℤ, pos, codes, decimal}
+use Rattle.std.proofs.Common.{◌≡◌, ℕ, ◌-◌, ◌^◌, ◌<◌, ◌≤◌, List, [], ◌∷◌, ◌++◌, length, map, replicate, sym, ap, ◌∙◌, subst, arith, append_assoc, pos, codes}
 use Rattle.std.specs.List.{All}
-use Rattle.std.proofs.lemmas.List.{append-nil, length-append, length-replicate, length-map, append_cancel_left, map-append}
-use Rattle.std.proofs.lemmas.List.Elements.{All-append, All-replicate, All-nil, All-cons, All-head, All-tail}
+use Rattle.std.proofs.lemmas.List.{append-nil, length-append, length-replicate, length-map, map-append}
+use Rattle.std.proofs.lemmas.List.Elements.{All-append, All-replicate, All-nil, All-head, All-tail}
 use Rattle.std.proofs.lemmas.Int.{ints}
-use Rattle.line_text.specs.Line.{Lacks, text_of, parted}
 use Rattle.line_text.specs.Format.{Begins}
 use Rattle.zo_model.specs.Contents.{Contents, RowContents}
-use Rattle.zo_model.specs.Program.{AreTerms, AtMost, IsCoefficient}
+use Rattle.zo_model.specs.Program.{IsCoefficient}
 use Rattle.zo_model.specs.ProgramText.{columns_line, rows_line, cost_line, row_line, program_lines, IsRowText, IsValidContents, AreProgramLines}
 use Rattle.zo_model.specs.inner.LineFault.{IsCost, IsRowLine, IsCounted}
 use Rattle.zo_model.proofs.LineLemmas.{counted_one}

@@ -1,5 +1,5 @@
 -- a leaf that closes a claim at the root proves it
-use Rattle.std.proofs.Common.{ℕ, List, Bool, Option}
+use Rattle.std.proofs.Common.{List, Bool, Option}
 use Rattle.zo_model.specs.declared.program.ZeroOne.{ZeroOne}
 use Rattle.zo_proof.specs.Certificate.{ClosesLeaf, IsLeaf, OfLeaf, Proves, leaf, unfixed}
 use Rattle.zo_proof.specs.declared.cert.CertNode.{CertNode}

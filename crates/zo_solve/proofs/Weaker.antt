@@ -1,5 +1,5 @@
 -- what is closed for a claim is closed for a weaker one, and what walks the rest still ends a walk of the whole
-use Rattle.std.proofs.Common.{◌≡◌, ℕ, ◌+◌, ◌≤◌, List, [], ◌∷◌, ◌++◌, Bool, Option, pos, ◌-ℤ◌, ◌≤ℤ◌, sym, subst, arith}
+use Rattle.std.proofs.Common.{◌≡◌, ℕ, ◌+◌, List, [], ◌∷◌, ◌++◌, Bool, Option, pos, ◌-ℤ◌, ◌≤ℤ◌, sym, subst, arith}
 use Rattle.std.proofs.lemmas.Int.{ints}
 use Rattle.zo_model.specs.declared.program.ZeroOne.{ZeroOne}
 use Rattle.zo_model.proofs.Scale.{scale-le}

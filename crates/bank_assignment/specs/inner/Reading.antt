@@ -12,7 +12,6 @@ use Rattle.placement.specs.Fits.{wants_home}
 use Rattle.placement.specs.Plan.{Home, home_view, plan_view}
 use Rattle.placement.specs.Uses.{Value, Use}
 use Rattle.zo_model.specs.Program.{vector}
-use Rattle.bank_form.specs.declared.column.Bank.{Bank}
 use Rattle.bank_form.specs.declared.column.Bank.TheVariants.{A, B, M, T, L, A15, W}
 use Rattle.bank_form.specs.declared.column.Column.{Column}
 use Rattle.bank_form.specs.declared.column.Column.TheVariants as column

@@ -1,7 +1,7 @@
 -- Labels that nothing leads to are left out, and the others are numbered anew, in their order.
 use Rattle.std.specs.Prelude.{◌≡◌, ◌<◌, ℕ, zero, suc, Bool, true, false, not, ◌&&◌, ◌||◌, ◌⊎◌, ◌++◌, if◌then◌else◌, List, [], ◌∷◌, All, length, slice_index_or}
 use Rattle.flow_ir.specs.Tree.{Tree, Let, Read, Write, If, Jump, Halt, Label}
-use Rattle.cps_close.specs.Led.{GoesTo, IsLedTo}
+use Rattle.cps_close.specs.Led.{IsLedTo}
 
 -- a label is left out
 abbrev pub is_out : List Bool → ℕ → Bool

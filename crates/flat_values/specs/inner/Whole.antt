@@ -1,5 +1,5 @@
 -- What a whole program declares, and what a body may rest on.
-use Rattle.std.specs.Prelude.{◌≡◌, ℕ, zero, suc, Bool, List, [], ◌∷◌, Option, Some, None, slice_get, map, option_map, unwrap_or, length, ◌++◌, replicate, if◌then◌else◌, nat_le, nat_lt, true}
+use Rattle.std.specs.Prelude.{◌≡◌, ℕ, zero, suc, Bool, List, [], ◌∷◌, Option, Some, None, slice_get, map, option_map, unwrap_or, if◌then◌else◌, nat_le, nat_lt, true}
 use Rattle.nv_ast.specs.Outline.{OutlineTree, outline, IsSound}
 use Rattle.nv_ast.specs.Tree.{NamedLayout, FunTree, DeclTree, LayoutDecl, ExceptionDecl, GroupDecl, ProgramTree, TypeTrees}
 use Rattle.nv_ast.specs.Types.{Ty, Tys, no_tys, type_of, types_of}

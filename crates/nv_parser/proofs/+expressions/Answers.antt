@@ -1,9 +1,9 @@
-use Rattle.std.proofs.Common.{◌≡◌, ◌∷◌, ◌++◌, ◌-◌, [], ap, ◌∙◌, sym, refl, arith, length, rules, max, List, ℕ, true, false}
+use Rattle.std.proofs.Common.{◌≡◌, ◌∷◌, ◌++◌, ◌-◌, [], ap, ◌∙◌, sym, refl, arith, length, rules, max, List, ℕ, true}
 use Rattle.nv_ast.specs.declared.tree.Expr.{Expr}
 use Rattle.nv_ast.specs.declared.tree.Stmt.{Stmt}
 use Rattle.nv_ast.specs.Height.{height}
 use Rattle.nv_ast.specs.Grammar.{tail_alone, operators, empty_args, una, no_operator, post, invert, negate, number, truth, falsehood, variable, unit}
-use Rattle.nv_parser.specs.inner.Failing.{no_memory, syntax, deep, read_none, read_next}
+use Rattle.nv_parser.specs.inner.Failing.{no_memory, deep, read_none, read_next}
 use Rattle.nv_parser.specs.inner.ExprPhrases.{begins_name}
 use Rattle.nv_parser.proofs.Lists.{exprs_start, exprs_step, highest_one, highest_push, pattern_inside_all_one, pattern_inside_all_push, members_start, members_step, highest_named_one, highest_named_push, pattern_inside_named_one, pattern_inside_named_push, statements_start, statements_step, highest_statement_one, highest_statement_push, pattern_inside_statements_one, pattern_inside_statements_push}
 use Rattle.nv_parser.proofs.ExprRules.{block_of, let_of, store_of, if_of, raise_of, try_of, args_of, level_of_rest, level_pred, chain_step, comparison_of, tuple_of, paren_of, fields_of, fetch_of, unpack_of, pack_of, call_of, enclosed_of}
@@ -12,9 +12,9 @@ use Rattle.nv_parser.proofs.Steps.{step_reads, step_fails, at_reads, at_fails, b
 use Rattle.nv_ast.specs.ExprView.{tree_of}
 use Rattle.nv_parser.proofs.ExprLow.{low_found, not_same, five_not_one, height_pos}
 use Rattle.nv_parser.proofs.ExprSteps.{if_step, raise_step, try_step, operators_step, args_step, let_step, store_step, una_step, invert_step, negate_step, post_step, post_binds, call_step, bracket_step, record_step, unpack_step, pack_step, fetch_step}
-use Rattle.nv_parser.proofs.ExprStarts.{sign_fills, key_fills, name_fills, number_fills, expr_fills, tail_fills, enclosed_fills, args_fills, patterns_fills, pattern_fills}
+use Rattle.nv_parser.proofs.ExprStarts.{sign_fills, key_fills, name_fills, number_fills, expr_fills, tail_fills, enclosed_fills, args_fills, patterns_fills}
 use Rattle.nv_parser.proofs.ExprBlocks.{mixed_reads, mixed_fails, expr_mixed, body_mixed, led_fails, led_step, expr_leads, body_leads}
-use Rattle.nv_parser.proofs.ExprExits.{read_sign, then_sign, then_key, then_name, then_number, past_sign, past_key, past_name, past_number, no_sign, no_key, no_name, no_number, before_sign, before_key, sign_above, has_before, exprs_listed, exprs_before, members_listed, members_before, comma_here, no_comma, args_empty, args_stops, args_deep, unit_reads, bracket_stops, bracket_deep, number_reads, true_reads, false_reads, variable_reads, named_fails, atom_stops, if_deep, try_deep, tilde_deep, bang_deep, unpack_deep, pack_deep, fetch_deep, record_deep, statement_stops, chain_deep, comparison_deep, chain_ends, level_first_fails, level_rest_fails, level_reads, operand_fails, operand_onward, comparison_fails, comparison_reads, call_split, layout_name_fills}
+use Rattle.nv_parser.proofs.ExprExits.{read_sign, then_sign, then_key, then_name, then_number, past_sign, past_key, past_name, past_number, no_sign, no_key, no_name, no_number, before_key, sign_above, has_before, exprs_listed, exprs_before, members_listed, members_before, comma_here, no_comma, args_empty, args_stops, args_deep, unit_reads, bracket_stops, bracket_deep, number_reads, true_reads, false_reads, variable_reads, named_fails, atom_stops, if_deep, try_deep, tilde_deep, bang_deep, unpack_deep, pack_deep, fetch_deep, record_deep, statement_stops, chain_deep, comparison_deep, chain_ends, level_first_fails, level_rest_fails, level_reads, operand_fails, operand_onward, comparison_fails, comparison_reads, call_split}
 use Rattle.nv_parser.proofs.+expressions.Goals as goal
 
 pub expressions::more_exprs-loop-after-init : goal.expressions::more_exprs-loop-after-init

@@ -9,7 +9,7 @@ use Rattle.nv_parser.specs.inner.Cursor.{Front, NotSign, NotKey, NotName, NotNum
 use Rattle.nv_ast.specs.declared.token.Sort.TheVariants.{Key, Sign}
 use Rattle.nv_ast.specs.Tree.{Tree, Trees, NamedTrees, StatementTree, StatementTrees}
 use Rattle.nv_ast.specs.Height.{height, highest, highest_named, highest_statement, statement_height, pattern_inside, pattern_inside_all, pattern_inside_named, pattern_inside_statement, pattern_inside_statements}
-use Rattle.nv_ast.specs.Grammar.{IsExpr, IsStatement, IsStatements, IsTail, IsArgs, IsMoreExprs, IsLevel, IsRest, IsUna, IsDots, IsAtom, IsMoreMembers}
+use Rattle.nv_ast.specs.Grammar.{IsExpr, IsStatement, IsStatements, IsTail, IsArgs, IsLevel, IsRest, IsUna, IsDots, IsAtom}
 use Rattle.nv_parser.specs.inner.Failing.{Bound, NoBound, AtMost, Within, Alone, part_of, Phrases, Follow, Phrase, Then, Many, ASign, AName, Reads, FailsAs}
 
 -- what is so high, with patterns so high in it, is within the bound

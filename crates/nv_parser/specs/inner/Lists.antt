@@ -1,10 +1,10 @@
 -- Lists of which the first part is read.
-use Rattle.std.specs.Prelude.{◌≡◌, ℕ, List, [], ◌∷◌}
+use Rattle.std.specs.Prelude.{◌≡◌, ℕ, List, ◌∷◌}
 use Rattle.nv_ast.specs.declared.token.Token.{Token}
 use Rattle.nv_ast.specs.declared.token.Span.{Span}
-use Rattle.nv_ast.specs.Tokens.{a_name, sign_open, sign_close, sign_open_bracket, sign_close_bracket, sign_comma, sign_bar, sign_join, sign_colon, sign_is}
-use Rattle.nv_ast.specs.Tree.{LayoutTree, LayoutTrees, no_layouts, layout_and, FieldTree, FieldTrees, no_fields, field_and, TypeTree, TypeTrees, no_types, type_and, NamedTypes, no_named_types, named_type_and, PatternTree, PatternTrees, no_patterns, pattern_and, Tree, Trees, no_trees, tree_and, NamedTrees, no_named_trees, named_tree_and, StatementTree, StatementTrees, no_statements, statement_and, FunTree, DeclTree}
-use Rattle.nv_ast.specs.Grammar.{IsLayout, IsLayoutAtom, IsMoreLayouts, IsField, IsAlternative, IsMoreFields, IsMoreAlternatives, IsType, IsMoreTypes, IsMoreNamedTypes, IsPattern, IsMorePatterns, IsExpr, IsMoreExprs, IsMoreMembers, IsStatement, IsStatements, IsFun, IsMoreFuns, IsDecl, IsDecls}
+use Rattle.nv_ast.specs.Tokens.{a_name, sign_open, sign_close, sign_open_bracket, sign_close_bracket}
+use Rattle.nv_ast.specs.Tree.{LayoutTree, LayoutTrees, layout_and, FieldTree, FieldTrees, field_and, TypeTree, TypeTrees, type_and, NamedTypes, named_type_and, PatternTree, PatternTrees, pattern_and, Tree, Trees, tree_and, NamedTrees, named_tree_and, StatementTree, StatementTrees, statement_and, FunTree}
+use Rattle.nv_ast.specs.Grammar.{IsMoreLayouts, IsMoreFields, IsMoreAlternatives, IsMoreTypes, IsMoreNamedTypes, IsMorePatterns, IsMoreExprs, IsMoreMembers, IsStatements, IsMoreFuns}
 
 -- layouts: the first, and those that follow it in the tokens
 pub record LayoutsAfter (first : LayoutTree) (all : LayoutTrees) (ts k : List Token) : Type 0 where

@@ -1,5 +1,5 @@
 -- The phrases of the language within a bound on their heights.
-use Rattle.std.specs.Prelude.{◌≡◌, ℕ, List, [], ◌∷◌}
+use Rattle.std.specs.Prelude.{◌≡◌, []}
 use Rattle.nv_ast.specs.Height.{pattern_height, highest_pattern, type_height, highest_type, highest_named_type, layout_height, highest_layout, field_height, highest_field, fun_height, decl_height}
 use Rattle.nv_ast.specs.Tree.{PatternTree, PatternTrees, TypeTree, TypeTrees, NamedTypes, LayoutTree, LayoutTrees, FieldTree, FieldTrees, FunTree, DeclTree}
 use Rattle.nv_ast.specs.Grammar.{IsPattern, IsPatterns, IsType, IsTypes, IsParams, IsLayout, IsLayoutAtom, IsField, IsAlternative, IsFun, IsDecl}

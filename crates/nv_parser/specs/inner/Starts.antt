@@ -1,5 +1,5 @@
 -- The tokens with which an expression may begin.
-use Rattle.std.specs.Prelude.{ℕ, Bool, true, false, List, [], ◌∷◌, ◌==◌}
+use Rattle.std.specs.Prelude.{Bool, true, false, List, [], ◌∷◌, ◌==◌}
 use Rattle.std.specs.List.{list_any}
 use Rattle.nv_ast.specs.declared.token.Token.{Token}
 use Rattle.nv_ast.specs.declared.token.Sort.{Sort}

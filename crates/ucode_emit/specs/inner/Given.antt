@@ -11,7 +11,7 @@ use Rattle.ssu_ir.specs.Tree.{Step, Lit, Una, Bin, Clone, Read, Write, Last, Jum
 use Rattle.placement.specs.declared.place.Place.{Place}
 use Rattle.placement.specs.declared.place.Place.TheVariants.{S, Slot}
 use Rattle.placement.specs.declared.place.Serve.{Serve}
-use Rattle.placement.specs.Plan.{Home, Plan, home}
+use Rattle.placement.specs.Plan.{Plan, home}
 use Rattle.placement.specs.Fits.{is_slot}
 use Rattle.par_move.specs.Moves.{Move}
 use Rattle.ucode_emit.specs.declared.emit_context.EmitContext.{EmitContext}

@@ -1,8 +1,8 @@
 -- where bytes stop to begin a program's text
-use Rattle.std.specs.Prelude.{◌≡◌, ℕ, ◌+◌, ◌<◌, ◌≤◌, ◌^◌, List, [], ◌∷◌, ◌++◌, All, length, map}
-use Rattle.line_text.specs.Line.{Lacks, text_of}
+use Rattle.std.specs.Prelude.{◌≡◌, ℕ, ◌+◌, ◌<◌, ◌^◌, List, [], ◌∷◌, ◌++◌, All, length, map}
+use Rattle.line_text.specs.Line.{text_of}
 use Rattle.line_text.specs.Format.{Begins}
-use Rattle.zo_model.specs.Contents.{Contents, RowContents}
+use Rattle.zo_model.specs.Contents.{RowContents}
 use Rattle.zo_model.specs.ProgramText.{AreProgramLines, cost_line, row_line, IsRowText}
 use Rattle.zo_model.specs.inner.LineFault.{NoLine, IsCost, IsRowLine}
 use Rattle.zo_model.specs.declared.error.ZoError.{ZoError}

@@ -1,6 +1,6 @@
 -- the parts of a row's line after its least
-use Rattle.std.specs.Prelude.{◌≡◌, ℕ, ◌<◌, ◌≤◌, List, map, All, ℤ}
-use Rattle.zo_model.specs.Program.{Rise, IsCoefficient, AreTerms}
+use Rattle.std.specs.Prelude.{◌≡◌, ℕ, ◌<◌, ◌≤◌, List, map, ℤ}
+use Rattle.zo_model.specs.Program.{IsCoefficient, AreTerms}
 use Rattle.zo_model.specs.ProgramText.{term_text}
 
 -- the part is a term whose column is lo at least and below n

@@ -1,4 +1,4 @@
-use Rattle.std.proofs.Common.{◌≡◌, ◌∙◌, ◌<◌, ap, sym, true, length, arith}
+use Rattle.std.proofs.Common.{◌≡◌, ◌∙◌, ◌<◌, ap, sym, true, length}
 use Rattle.nv_values.specs.Running.{innermost, is_own}
 use Rattle.call_trace.specs.Callers.{calls_of}
 use Rattle.call_trace.proofs.Above.{replaced, entered, own-there}

@@ -1,4 +1,4 @@
-use Rattle.std.proofs.Common.{◌≡◌, ◌∙◌, ◌<◌, ◌-◌, ap, sym, set, length, arith}
+use Rattle.std.proofs.Common.{◌≡◌, ◌∙◌, ◌-◌, ap, set, length, arith}
 use Rattle.std.proofs.lemmas.List.{length-take-le}
 use Rattle.call_trace.specs.Callers.{calls_of}
 use Rattle.call_trace.proofs.Above.{left-at, left-inside, left-none}

@@ -1,5 +1,4 @@
 use Rattle.flow_ir.specs.View.{tree_view}
-use Rattle.flow_ir.specs.declared.flow.Tree.{size-Tree}
 use Rattle.cps_close.specs.Led.{GoesTo}
 use Rattle.cps_close.specs.inner.Pruned.{Noted}
 use Rattle.cps_close.proofs.Noting.{Passing}

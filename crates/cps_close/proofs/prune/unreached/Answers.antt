@@ -3,7 +3,6 @@ use Rattle.std.proofs.lemmas.List.{length-map}
 use Rattle.std.proofs.lemmas.List.Elements.{All-nil, All-pop}
 use Rattle.flow_ir.specs.View.{label_view}
 use Rattle.cps_close.specs.Led.{IsLedTo}
-use Rattle.cps_close.specs.inner.Pruned.{AreLed}
 use Rattle.cps_close.proofs.Noting.{GoesFrom, led-begun, led-noted, led-first, led-from}
 use Rattle.cps_close.proofs.prune.unreached.Goals as goal
 use Rattle.cps_close.proofs.prune.unreached.Goals.{in-Some+in_ok-visit, in_default}

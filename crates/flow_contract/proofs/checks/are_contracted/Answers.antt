@@ -1,4 +1,4 @@
-use Rattle.std.proofs.Common.{◌≤◌, ◌<◌, ℕ, length, map, min, sym, ap, ◌∙◌, subst}
+use Rattle.std.proofs.Common.{◌<◌, map, ap, ◌∙◌, subst}
 use Rattle.std.proofs.lemmas.List.{length-map}
 use Rattle.flow_ir.specs.View.{label_view}
 use Rattle.flow_contract.specs.inner.Sizes.{all_fit}

@@ -1,4 +1,3 @@
-use Rattle.std.proofs.Common.{arith}
 use Rattle.flow_contract.proofs.Naming.{set_more}
 use Rattle.flow_contract.proofs.names.set_numbers.Goals as goal
 

@@ -1,4 +1,4 @@
-use Rattle.std.proofs.Common.{map, refl}
+use Rattle.std.proofs.Common.{map}
 use Rattle.flow_ir.specs.View.{label_view}
 use Rattle.flow_prune.specs.inner.Pruned.{gone_of}
 use Rattle.flow_prune.proofs.Whole.{pruned_at, same_params, flow_formed, flow_same, flow_wide, flow_bulk, most_same}

@@ -1,5 +1,5 @@
 use Rattle.std.proofs.Common.{◌≡◌, sym, ◌∙◌, arith}
-use Rattle.line_text.proofs.NumberLemmas.{no_negative, decimal_one, negative_digits}
+use Rattle.line_text.proofs.NumberLemmas.{no_negative, decimal_one}
 use Rattle.line_text.proofs.number.negative.Goals as goal
 
 pub returns-in_err-n-clause-none : goal.returns-in_err-n-clause-none

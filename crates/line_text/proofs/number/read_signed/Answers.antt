@@ -1,4 +1,4 @@
-use Rattle.std.proofs.Common.{◌≡◌, ℤ, sym, ◌∙◌, arith}
+use Rattle.std.proofs.Common.{◌≡◌, sym, ◌∙◌, arith}
 use Rattle.std.proofs.Common.{w32, rules}
 use mir.Val.{SFits}
 use Rattle.std.proofs.lemmas.Int.{ints}

@@ -1,6 +1,6 @@
 use Rattle.std.proofs.Common.{arith}
 use Rattle.std.proofs.lemmas.Int.Digits.{digits_value_more, digits_more}
-use Rattle.line_text.proofs.NumberLemmas.{word_front, no_word_byte, word_at_end}
+use Rattle.line_text.proofs.NumberLemmas.{word_front, no_word_byte}
 use Rattle.line_text.proofs.number.read_word.Goals as goal
 
 pub returns-in_err-digit-clause-none : goal.returns-in_err-digit-clause-none

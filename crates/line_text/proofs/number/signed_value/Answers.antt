@@ -1,4 +1,3 @@
-use Rattle.std.proofs.Common.{arith}
 use Rattle.line_text.proofs.NumberLemmas.{no_signed}
 use Rattle.line_text.proofs.number.signed_value.Goals as goal
 

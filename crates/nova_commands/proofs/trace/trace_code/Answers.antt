@@ -1,4 +1,4 @@
-use Rattle.std.proofs.Common.{◌≡◌, ◌∙◌, ℕ, List, sym, ap, subst, length, take}
+use Rattle.std.proofs.Common.{◌∙◌, ℕ, List, sym, ap, subst, length, take}
 use Rattle.std.proofs.lemmas.Result.{err_from_is_err_and}
 use Rattle.nv_base.specs.declared.outcome.Write.{Write}
 use Rattle.nv_ast.specs.TypedView.{typed_program}

@@ -1,4 +1,4 @@
-use Rattle.std.proofs.Common.{◌≡◌, ◌∙◌, ℕ, List, ap}
+use Rattle.std.proofs.Common.{◌∙◌, ℕ, List, ap}
 use Rattle.nv_ast.specs.TypedView.{typed_program}
 use Rattle.nv_values.specs.Running.{Made}
 use Rattle.call_trace.specs.Chains.{Kept, trail_of}

@@ -1,5 +1,3 @@
-use Rattle.nv_ast.specs.ProgramView.{program_of}
-use Rattle.nv_ast.specs.TypedView.{typed_program}
 use Rattle.nova_front.proofs.Programs.{source-of, the-program, good-cause, untyped-cause, large-cause, caused-program, caused-cause}
 use Rattle.nova_front.proofs.texts.typed.Goals as goal
 

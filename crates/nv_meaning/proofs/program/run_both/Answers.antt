@@ -1,4 +1,4 @@
-use Rattle.std.proofs.Common.{◌≡◌, ◌∙◌, ◌∷◌, [], ap, sym, map, get_or, Some}
+use Rattle.std.proofs.Common.{◌∙◌, ◌∷◌, [], ap, sym, map, get_or, Some}
 use Rattle.nv_ast.specs.ProgramView.{decl_tree, fun_tree}
 use Rattle.nv_ast.specs.TypedView.{typed_program}
 use Rattle.call_trace.specs.Chains.{trail_of}

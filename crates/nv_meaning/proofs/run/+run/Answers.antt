@@ -21,7 +21,7 @@ use Rattle.nv_meaning.proofs.Bindings.{extends-more}
 use Rattle.nv_meaning.proofs.Moments.{ran-here}
 use Rattle.nv_meaning.proofs.Arms.{Front, FrontNamed, in-scope, in-scope_value, of-tree, of-step, of-stop, settled-again, front-none, front-more, front-all, front-stop, front-short, named-none, named-more, named-all, named-stop, named-short, led-none, led-more, led-all, led-stop, let-stop, let-short, let-done, store-stop, store-stop_value, store-done, tuple-stop, tuple-done, again-stop, again-done, raise-stop, raise-done, record-stop, record-done}
 use Rattle.nv_meaning.proofs.Choices.{looked-up, restored, binary-stop, binary-decided, binary-stop_right, binary-done, choose-stop, choose-yes, choose-no, try-done, try-short, try-fault, try-going, try-other, try-handled, short-before, in-matched, block-stop, block-tail, store-scope, operand-stop, operand-made, entered-as}
-use Rattle.nv_meaning.proofs.Jumps.{Alike, turned, jump-none, jump-more, jump-end, jump-none_left, jump-no_function, jump-short, jump-short_inside, call-behind}
+use Rattle.nv_meaning.proofs.Jumps.{turned, jump-none, jump-more, jump-end, jump-none_left, jump-no_function, jump-short, jump-short_inside, call-behind}
 use Rattle.nv_ast.proofs.TreeKinds.{number-is, truth-is, variable-is, paren-is, binary-is, if-is, try-is, tuple-is, record-is, call-is, raise-is, block-is, let-is, store-is}
 use Rattle.nv_meaning.proofs.TreeKinds.{of-operand, OverOperand, over-operand}
 use Rattle.nv_meaning.specs.inner.Weight.{weight, weight_all, weight_named, weight_statement, weight_statements, span}

@@ -1,4 +1,4 @@
-use Rattle.std.proofs.Common.{◌≡◌, arith, ℕ}
+use Rattle.std.proofs.Common.{◌≡◌, arith}
 use Rattle.nv_parser.proofs.ExprBlocks.{too_high_one, too_high_let, too_high_two}
 use Rattle.nv_parser.proofs.expressions.too_high.Goals as goal
 

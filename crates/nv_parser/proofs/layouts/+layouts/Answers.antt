@@ -1,11 +1,11 @@
-use Rattle.std.proofs.Common.{◌≡◌, ◌∷◌, ◌++◌, [], ap, ◌∙◌, arith, length, rules, max, List, ℕ, refl, sym, true}
+use Rattle.std.proofs.Common.{◌≡◌, ◌∷◌, ◌++◌, [], ap, ◌∙◌, arith, length, rules, max, List, ℕ, refl, true}
 use Rattle.nv_ast.specs.declared.tree.LayoutText.{LayoutText}
 use Rattle.nv_ast.specs.declared.tree.FieldText.{FieldText}
 use Rattle.nv_ast.specs.LayoutView.{layout_tree}
 use Rattle.nv_ast.specs.Grammar.{one_layout, named_layout, gap_layout, plain_field, bits_field, inner_field}
 use Rattle.nv_parser.proofs.Lists.{layouts_start, layouts_step, highest_layout_one, highest_layout_push, fields_start, fields_step, highest_field_one, highest_field_push, alternatives_start, alternatives_step}
 use Rattle.nv_parser.proofs.Rules.{joined_of, not_ended, parts_of, overlay_of}
-use Rattle.nv_ast.specs.declared.token.Sort.TheVariants.{Word, Number, Key, Sign}
+use Rattle.nv_ast.specs.declared.token.Sort.TheVariants.{Word, Number, Sign}
 use Rattle.nv_parser.specs.inner.Failing.{read_none, read_next, no_memory, syntax, deep}
 use Rattle.nv_parser.proofs.Sequence.{carries_anything, one_carries, one_reads, one_then, one_fills, then_reads, then_fails, first_fails, some_fails, some_reads, sign_fails, name_fails, at_reads, at_fails, rule_reads, rule_fails, row_reads, row_fails, behind_reads, behind_fails, none_fails, high_fails, whole_fails, read_many_reads, read_many_fails, item_fails, many_ends, no_item, sign_goes_on, each_result}
 use Rattle.nv_parser.proofs.LayoutRules.{layout_high, field_fills, alternative_fills, name_rule, gap_rule, fields_listed, colon_fills, parts_rule, parts_carries, parts_fills, inside_completes, inside_starts_none, inside_starts, no_parts, bits_rule, inner_rule, plain_rule, alternatives_listed, alternative_colon_fills, overlay_rule, overlay_carries, overlay_fills, row_fills, bar_fails, alternatives_fail, close_fails, close_reads, starts_overlay, no_overlay, atom_whole, atom_first, atom_frame, atom_reads, layouts_listed, next_layout_fills, joined_rule, atom_completes, join_starts, join_dead}

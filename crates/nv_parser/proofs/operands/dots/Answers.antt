@@ -1,4 +1,4 @@
-use Rattle.std.proofs.Common.{◌≡◌, ◌∙◌, sym, refl, ap, arith, length, true}
+use Rattle.std.proofs.Common.{◌∙◌, sym, refl, ap, arith, length, true}
 use Rattle.nv_parser.specs.inner.Failing.{no_memory}
 use Rattle.nv_parser.proofs.Steps.{onward_start}
 use Rattle.nv_parser.proofs.ExprLow.{low_found, not_same}

@@ -1,4 +1,4 @@
-use Rattle.std.proofs.Common.{◌≡◌, ◌∷◌, ◌++◌, [], ap, ◌∙◌, arith, length, List}
+use Rattle.std.proofs.Common.{arith}
 use Rattle.nv_ast.specs.Grammar.{no_decl}
 use Rattle.nv_parser.proofs.DeclRules.{decls_step, highest_decl_push, exceptions_push}
 use Rattle.nv_parser.specs.inner.Failing.{read_none, read_next, no_memory}

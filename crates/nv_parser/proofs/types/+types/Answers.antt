@@ -4,10 +4,9 @@ use Rattle.nv_ast.specs.Grammar.{bool_type, packed_type, unpacked_type, unit_typ
 use Rattle.nv_parser.proofs.Lists.{types_start, types_step, highest_type_one, highest_type_push, named_types_start, named_types_step, highest_named_type_one, highest_named_type_push}
 use Rattle.nv_ast.specs.declared.token.Sort.TheVariants.{Word, Key, Sign}
 use Rattle.nv_parser.specs.inner.Failing.{read_none, read_next, no_memory, syntax, deep}
-use Rattle.nv_parser.specs.inner.Follow.{Above}
 use Rattle.nv_parser.proofs.Rules.{tuple_type_of, record_type_of, not_ended}
-use Rattle.nv_parser.proofs.Sequence.{carries_anything, one_reads, one_then, then_reads, then_fails, first_fails, sign_fails, name_fails, rule_reads, rule_fails, row_reads, row_fails, behind_reads, behind_fails, token_fails, high_fails, part_none_fails, part_deep_fails, read_many_reads, read_many_fails, item_fails, many_ends, no_item, sign_goes_on, each_result, one_carries, one_fills}
-use Rattle.nv_parser.proofs.TypeRules.{type_completes, types_listed, named_listed, bool_rule, packed_rule, unpacked_rule, unit_rule, tuple_rule, tuple_carries, none_low, open_completes, end_fills, comma_fails, parts_fail, close_fails, close_reads, type_fills, colon_fills, named_fills, record_rule, record_carries, record_fills, no_record, starts_record, starts_none}
+use Rattle.nv_parser.proofs.Sequence.{carries_anything, one_reads, one_then, then_reads, then_fails, first_fails, sign_fails, name_fails, rule_reads, rule_fails, row_reads, behind_reads, behind_fails, token_fails, high_fails, part_none_fails, part_deep_fails, read_many_reads, read_many_fails, item_fails, many_ends, no_item, sign_goes_on, each_result, one_carries, one_fills}
+use Rattle.nv_parser.proofs.TypeRules.{type_completes, types_listed, named_listed, bool_rule, packed_rule, unpacked_rule, unit_rule, tuple_rule, tuple_carries, none_low, open_completes, end_fills, comma_fails, parts_fail, close_fails, close_reads, type_fills, colon_fills, record_rule, record_carries, record_fills, no_record, starts_record, starts_none}
 use Rattle.nv_parser.proofs.types.+types.Goals as goal
 
 pub more_types-loop-after-init : goal.more_types-loop-after-init

@@ -1,7 +1,7 @@
 use Rattle.nv_ast.specs.Grammar.{empty_params}
 use Rattle.nv_parser.proofs.Rules.{params_of}
 use Rattle.nv_ast.specs.declared.token.Sort.TheVariants.{Word, Sign}
-use Rattle.nv_parser.proofs.Sequence.{row_reads, row_fails, first_fails, then_fails, then_reads, many_fills, many_carries, carries_anything, name_fails, sign_fails, one_reads, one_then, one_fills}
+use Rattle.nv_parser.proofs.Sequence.{row_reads, row_fails, first_fails, then_fails, then_reads, many_fills, many_carries, carries_anything, name_fails, sign_fails, one_reads, one_then}
 use Rattle.nv_parser.proofs.TypeRules.{params_rule, params_end, named_listed, type_fills, colon_fills}
 use Rattle.nv_parser.proofs.types.params.Goals as goal
 

@@ -1,6 +1,6 @@
 use Rattle.nv_ast.specs.Grammar.{empty_types}
 use Rattle.nv_parser.proofs.Rules.{types_of}
-use Rattle.nv_parser.proofs.Sequence.{row_reads, row_fails, first_fails, then_fails, then_reads, many_fills, many_carries, carries_anything}
+use Rattle.nv_parser.proofs.Sequence.{row_reads, row_fails, first_fails, then_fails, then_reads, many_fills, many_carries}
 use Rattle.nv_parser.proofs.TypeRules.{types_rule, types_end, types_listed}
 use Rattle.nv_parser.proofs.types.types.Goals as goal
 

@@ -1,4 +1,4 @@
-use Rattle.std.proofs.Common.{◌∙◌, ◌≡◌, sym, ap, ◌+◌, length, arith}
+use Rattle.std.proofs.Common.{◌∙◌, ◌≡◌, sym, ap, ◌+◌, length}
 use Rattle.ssu_ir.proofs.Sizes.{entries_more, entries_all}
 use Rattle.ssu_ir.proofs.measure.entries_size.Goals as goal
 

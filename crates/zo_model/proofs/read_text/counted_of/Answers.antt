@@ -1,6 +1,5 @@
-use Rattle.std.proofs.Common.{◌≡◌, sym, ◌∙◌, refl, [], ◌∷◌, decimal, arith}
+use Rattle.std.proofs.Common.{sym, ◌∙◌, refl, [], ◌∷◌, decimal, arith}
 use Rattle.std.proofs.lemmas.Bool.{false≢true}
-use Rattle.line_text.specs.Line.{parts}
 use Rattle.zo_model.proofs.LineLemmas.{counted_parts, counted_rest, counted_from_parts}
 use Rattle.zo_model.proofs.read_text.counted_of.Goals as goal
 

@@ -1,4 +1,4 @@
-use Rattle.std.proofs.Common.{◌≡◌, arith}
+use Rattle.std.proofs.Common.{arith}
 use Rattle.zo_model.proofs.LineLemmas.{no_line_other}
 use Rattle.zo_model.proofs.read_text.read_costs.Goals as goal
 

@@ -1,4 +1,3 @@
-use Rattle.std.proofs.Common.{◌≡◌}
 use Rattle.zo_model.proofs.LineLemmas.{no_line_other}
 use Rattle.zo_model.proofs.read_text.read_counted.Goals as goal
 

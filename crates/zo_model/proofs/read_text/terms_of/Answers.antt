@@ -1,4 +1,3 @@
-use Rattle.std.proofs.Common.{◌≡◌}
 use Rattle.zo_model.proofs.TermLemmas.{no_more_term, all_terms}
 use Rattle.zo_model.proofs.read_text.terms_of.Goals as goal
 

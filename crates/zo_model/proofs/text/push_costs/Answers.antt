@@ -1,4 +1,4 @@
-use Rattle.std.proofs.Common.{◌≡◌, ◌++◌, ◌∷◌, [], ap, ◌∙◌, refl, arith}
+use Rattle.std.proofs.Common.{◌++◌, ◌∷◌, [], ap, ◌∙◌, arith}
 use Rattle.zo_model.specs.ProgramText.{cost_line}
 use Rattle.zo_model.proofs.Pieces.{line_next}
 use Rattle.zo_model.proofs.text.push_costs.Goals as goal

@@ -1,4 +1,4 @@
-use Rattle.std.proofs.Common.{◌≡◌, ◌++◌, ◌∷◌, [], ap, ◌∙◌, refl, arith}
+use Rattle.std.proofs.Common.{◌++◌, ◌∷◌, [], ap, ◌∙◌, arith}
 use Rattle.zo_model.specs.Contents.{row_contents}
 use Rattle.zo_model.specs.ProgramText.{row_line}
 use Rattle.zo_model.proofs.Pieces.{line_more}

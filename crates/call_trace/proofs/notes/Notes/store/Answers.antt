@@ -1,10 +1,10 @@
-use Rattle.std.proofs.Common.{◌≡◌, ◌∙◌, ◌∷◌, [], ap, sym, subst, map, Some}
+use Rattle.std.proofs.Common.{◌≡◌, ◌∙◌, ◌∷◌, [], ap, sym, subst, map}
 use Rattle.nv_base.specs.Log.{noted_all}
 use Rattle.nv_base.specs.Memories.{stored}
 use Rattle.nv_base.specs.Meanings.{source_writes}
 use Rattle.nv_values.specs.Running.{Chain}
 use Rattle.call_trace.specs.Notes.{Knows, HasRoom, traced_all, source_made, made_of_write}
-use Rattle.call_trace.specs.Chains.{trail_of, kept_source}
+use Rattle.call_trace.specs.Chains.{trail_of}
 use Rattle.call_trace.specs.Callers.{calls_of}
 use Rattle.call_trace.proofs.Trails.{note-trail, room-before}
 use Rattle.call_trace.proofs.notes.Notes.store.Goals as goal

@@ -1,4 +1,4 @@
-use Rattle.std.proofs.Common.{◌≡◌, ◌∙◌, ◌<◌, ◌∷◌, [], ap, sym, subst, map, get_or, length, arith}
+use Rattle.std.proofs.Common.{◌∙◌, ◌<◌, ◌∷◌, [], ap, sym, subst, map, get_or}
 use Rattle.std.proofs.lemmas.List.{map-append, length-map}
 use Rattle.call_trace.specs.Chains.{made_in, trail_of}
 use Rattle.call_trace.proofs.Trails.{chains-more}

@@ -1,4 +1,4 @@
-use Rattle.std.proofs.Common.{◌≡◌, ◌∙◌, sym, ap}
+use Rattle.std.proofs.Common.{◌∙◌, sym, ap}
 use Rattle.line_text.specs.Line.{parts}
 use Rattle.line_text.proofs.LineLemmas.{parts_at, parts_whole}
 use Rattle.line_text.proofs.lines.Parts.next_part.Goals as goal
