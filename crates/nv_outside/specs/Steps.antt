@@ -60,8 +60,8 @@ IsTaken name _ = ⊥
 abbrev pub IsCreated : List ℕ → List ℕ → List Made → Type 0
 IsCreated name path made = (taken : List Made) × IsBeside name path × All (IsTaken name) taken × (made ≡ taken ++ Done (CreateNew path) ∷ [])
 
--- no new file was made, for this cause: so many calls in a row found a name taken, or the path of a file isn't valid, as one that is too
--- long, or the system refused a new file beside a file otherwise
+-- no new file was made, for this cause: so many calls in a row found a name taken, or the error is that of a name which isn't valid, or the
+-- system refused a new file beside a file otherwise
 abbrev pub IsNotCreated : ℕ → ErrorKind → List ℕ → List Made → Type 0
 IsNotCreated names kind name made =
     (All (IsTaken name) made × (((names ≤ length made) × (kind ≡ kinds.AlreadyExists)) ⊎ (kind ≡ kinds.InvalidFilename)))

@@ -27,7 +27,8 @@ use std::alloc::Global;
 
 /// The single-use form of a flow: its labels in order, and in each the nodes of its tree, in order, with literals before
 /// the node that uses them, and clones after the node that defines a value of several uses, those of parameters first in
-/// their label. A copy of an operand is an `Or` with the literal 0. It has no other nodes. Memory exhaustion is also the answer where 2^32 names or nodes would be needed.
+/// their label. A copy of an operand is an `Or` with the literal 0. It has no other nodes. Memory exhaustion is also the
+/// answer where 2^32 names or nodes would be needed.
 pub fn make(alloc: Global, f: &Flow) -> Result<Ssu, NoMemory>
     requires { all_lets_used (map label_view f.now.labels.items) ≡ true }
     ensures made { IfOk result (λ s. AllMade 0 (map label_view f.now.labels.items) (labels_view s)) }
