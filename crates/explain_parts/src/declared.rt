@@ -1,7 +1,7 @@
 //! What is declared, and the variables in sight.
 
-use crate::text::Message;
 use indexmap::IndexMap;
+use line_text::Message;
 use nv_ast::Name;
 use std::alloc::Global;
 

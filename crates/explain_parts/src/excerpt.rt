@@ -1,7 +1,6 @@
 //! The line of a source where a span begins, with carets under the span.
 
-use crate::text::{Message, part};
-use line_text::column_of;
+use line_text::{Message, column_of, part};
 use nv_ast::Span;
 
 // Before each line of a source.

@@ -1,7 +1,7 @@
 //! What is wanted of an expression.
 
-use crate::text::Message;
 use crate::types::TypeClass;
+use line_text::Message;
 use nv_ast::{Name, Op};
 
 /// What is wanted of an expression: nothing, or a value of a right type.

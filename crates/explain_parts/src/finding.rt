@@ -1,8 +1,7 @@
 //! What is found in a source, a fault or a warning, as a text or as an object of JSON.
 
 use crate::excerpt::{push_excerpt, push_excerpt_line};
-use crate::text::Message;
-use line_text::{column_of, line_of};
+use line_text::{Message, column_of, line_of};
 use nv_ast::Span;
 use std::alloc::Global;
 

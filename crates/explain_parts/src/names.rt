@@ -1,6 +1,6 @@
 //! Names in patterns, and names that stand twice.
 
-use crate::text::Message;
+use line_text::Message;
 use nv_ast::{Name, Pat};
 
 /// Adds the names in a pattern.

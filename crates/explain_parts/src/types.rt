@@ -1,6 +1,6 @@
 //! Types by number, as far as they are told: what is found here serves the text that is printed, and nothing rests on it.
 
-use crate::text::Message;
+use line_text::Message;
 use nv_ast::Name;
 use std::alloc::Global;
 

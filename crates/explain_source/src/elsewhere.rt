@@ -1,7 +1,6 @@
 //! Where else a name is declared.
 
-use explain_parts::text::{Message, part};
-use line_text::line_of;
+use line_text::{Message, line_of, part};
 use nv_ast::{Decl, Fun, Name, Program, Span};
 use std::alloc::Global;
 

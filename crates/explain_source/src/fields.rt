@@ -1,7 +1,7 @@
 //! Where the fields of layouts stand.
 
 use explain_parts::declared::Declared;
-use explain_parts::text::{Message, part};
+use line_text::{Message, part};
 use nv_ast::{FieldText, LayoutText, Name};
 use std::alloc::Global;
 

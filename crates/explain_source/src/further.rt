@@ -2,12 +2,11 @@
 
 use crate::refusal::{Fault, explain_kind};
 use explain_parts::finding::{Finding, Form, Severity, Source};
-use explain_parts::text::{Message, part};
+use line_text::{Message, part};
 use nv_ast::{Decl, Fun, Program, Span};
-use nv_base::NoMemory;
 use nv_text::{MOST_BYTES, parse};
 use nv_types::{TypeError, check};
-use std::alloc::Global;
+use std::alloc::{AllocError, Global};
 
 // What stands before a text whose faulty bodies are replaced.
 const FRONT: &str = "exception a_body_that_is_left_out[]; ";
@@ -160,7 +159,7 @@ fn patched(alloc: Global, out: &mut Message, bytes: &[u8], bodies: &[Span]) -> V
     text.bytes(part(bytes, from, bytes.len()));
     match text.into_bytes() {
         Ok(text) => text,
-        Err(NoMemory) => {
+        Err(AllocError) => {
             out.fail();
             Vec::new(alloc)
         }

@@ -1,7 +1,7 @@
 //! The part of a faulty expression, declaration or statement that is at fault.
 
-use explain_parts::text::{Message, part};
 use explain_syntax::place::Place;
+use line_text::{Message, part};
 use nv_ast::Span;
 use nv_text::{MOST_BYTES, Token, tokens};
 use std::alloc::Global;

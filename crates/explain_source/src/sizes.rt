@@ -1,8 +1,8 @@
 //! The sizes of a program without a fault.
 
 use crate::fields::FieldLister;
-use explain_parts::text::Message;
 use explain_walk::Walk;
+use line_text::Message;
 use nv_ast::{Decl, Fun, LayoutText, Name, Program, Span, Typed};
 use std::alloc::Global;
 use type_costs::cost::Cost;

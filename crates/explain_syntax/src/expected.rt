@@ -1,9 +1,8 @@
 //! Which tokens may stand at a place of a text.
 
-use explain_parts::text::{Message, part};
-use nv_base::NoMemory;
+use line_text::{Message, part};
 use nv_text::{MOST_BYTES, Sort, TextError, Token, parse};
-use std::alloc::Global;
+use std::alloc::{AllocError, Global};
 
 /// A token of each kind: a name, a number, and each keyword and sign.
 const TOKENS: [&str; 56] = [
@@ -255,7 +254,7 @@ fn begins_with(alloc: Global, out: &mut Message, front: &[u8], token: &str) -> b
     text.put(token);
     match text.into_bytes() {
         Ok(text) => begins(alloc, out, &text),
-        Err(NoMemory) => {
+        Err(AllocError) => {
             out.fail();
             false
         }

@@ -1,6 +1,6 @@
 //! A place among the tokens of a text, and what stands around it.
 
-use explain_parts::text::part;
+use line_text::part;
 use nv_ast::Span;
 use nv_text::{Sort, Token};
 

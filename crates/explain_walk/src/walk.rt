@@ -2,8 +2,8 @@
 //! What it finds goes into the text that is printed; where the fault lies, `check` has said before.
 
 use explain_parts::declared::{Declared, Scope};
-use explain_parts::text::Message;
 use explain_parts::types::{BOOL, Part, Types};
+use line_text::Message;
 use nv_ast::{Decl, Fun, Name, Program, Span, TyText};
 use std::alloc::Global;
 use type_costs::cost::Cost;

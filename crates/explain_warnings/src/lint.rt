@@ -2,7 +2,7 @@
 
 use crate::warning::{Call, Cause, Warning};
 use explain_parts::declared::{Declared, Scope};
-use explain_parts::text::Message;
+use line_text::Message;
 use nv_ast::{Decl, Fun, LayoutText, Name, Program, Span};
 use std::alloc::Global;
 

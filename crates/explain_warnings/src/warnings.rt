@@ -3,10 +3,10 @@
 use crate::lint::Lint;
 use crate::warning::{Call, Cause, Warning};
 use explain_parts::finding::{Finding, Form, Severity, Source};
-use explain_parts::text::Message;
 use explain_source::sizes::main_cost;
 use explain_syntax::place::Place;
 use explain_walk::Walk;
+use line_text::Message;
 use nv_ast::{Name, Program, Span};
 use nv_text::{MOST_BYTES, TextError, Token, parse, tokens};
 use std::alloc::Global;

@@ -12,8 +12,8 @@ use Rattle.nv_ast.specs.Tree.{DeclTree, LayoutDecl, ExceptionDecl, GroupDecl, Pr
 use Rattle.nv_ast.specs.Outline.{Layouts}
 use Rattle.nv_ast.specs.Types.{no_tys, types_of}
 use Rattle.nv_meaning.specs.Meaning.{Declared, declared}
-use Rattle.nv_meaning.specs.inner.Tables.{place_from, functions_in}
-use Rattle.nv_meaning.proofs.NameIndices.{declared-functions}
+use Rattle.nv_values.specs.inner.Tables.{place_from, functions_in}
+use Rattle.nv_values.proofs.NameIndices.{declared-functions}
 use Rattle.flat_values.specs.inner.Whole.{Whole, whole_of, groups_from, raised_in, raised_or_none, group_at, group_of}
 use Rattle.std.proofs.lemmas.List.{map-append, length-append, length-replicate, length-map, drop_all}
 use Rattle.nv_ast.proofs.Items.{next_item}

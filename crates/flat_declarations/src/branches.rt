@@ -1,8 +1,8 @@
 // Tests, and code that does one part or another by a test.
 
-ghost use Rattle.std.specs.Prelude.{◌≡◌, ◌<◌, ◌∷◌, [], ℕ, if◌then◌else◌, IfOk, not};
+ghost use Rattle.std.specs.Prelude.{◌≡◌, ◌<◌, ◌∷◌, [], if◌then◌else◌, IfOk};
 ghost use Rattle.nv_base.specs.declared.term.Atom.TheVariants.{Lit};
-ghost use Rattle.nv_base.specs.Words.{Env, compares};
+ghost use Rattle.nv_base.specs.Words.{Env};
 ghost use Rattle.flat_ir.specs.Meaning.{Calls, does};
 ghost use Rattle.nv_base.specs.Running.{Running};
 ghost use Rattle.flat_ir.specs.Running.{Gives};
@@ -35,18 +35,6 @@ pub struct Test {
     pub cmp: Cmp,
     pub left: Atom,
     pub right: Atom,
-}
-
-/// The comparison that holds where the other one doesn't.
-pub fn turned(cmp: Cmp) -> Cmp
-    ensures { (x y : ℕ) → compares result x y ≡ not (compares cmp x y) }
-{
-    match cmp {
-        Cmp::Eq => Cmp::Ne,
-        Cmp::Ne => Cmp::Eq,
-        Cmp::Lt => Cmp::Ge,
-        Cmp::Ge => Cmp::Lt,
-    }
 }
 
 /// Code that gives a truth.

@@ -8,7 +8,7 @@ ghost use Rattle.nv_ast.specs.Outline.{outline, size as bit_size, bit_fields, Is
 ghost use Rattle.nv_ast.specs.Tree.{NamedLayout};
 ghost use Rattle.nv_ast.specs.Types.{packed_words, unpacked_ty, packed_ty, can_pack, form_of};
 ghost use Rattle.nv_meaning.specs.Packing.{value_at, packed_value};
-ghost use Rattle.nv_meaning.specs.inner.TableView.{declared_in};
+ghost use Rattle.nv_values.specs.inner.TableView.{declared_in};
 ghost use Rattle.flat_values.specs.inner.Code.{Computes};
 ghost use Rattle.flat_values.specs.inner.Reads.{Unpacks, Packs};
 ghost use Rattle.flat_values.specs.inner.Soundness.{AreWords};
@@ -25,7 +25,7 @@ use flat_values::symbol::{Symbol, Valued, symbol_of_words};
 use flat_values::unpack::add_fields;
 use nv_ast::{LayoutText, Name};
 use nv_base::{Atom, NoMemory};
-use nv_meaning::Table;
+use nv_values::Table;
 use std::alloc::Global;
 
 // N words that no number holds their bits are more than memory holds.

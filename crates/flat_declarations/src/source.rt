@@ -11,7 +11,7 @@ use flat_values::forms::{of_type, of_types};
 use flat_values::symbol::Symbol;
 use nv_ast::{Decl, Fun, Name, Program, TyText};
 use nv_base::NoMemory;
-use nv_meaning::{Table, groups};
+use nv_values::{Table, groups};
 use std::alloc::Global;
 
 /// The declarations of a program by name, the number of the group of each function, and the types of

@@ -3,7 +3,7 @@ use Rattle.std.proofs.Common.{◌≡◌, refl, ap, ℕ, ◌+◌, ◌<◌, List, 
 use Rattle.nv_ast.specs.declared.tree.LayoutText.{LayoutText}
 use Rattle.nv_ast.specs.LayoutView.{layout_tree, field_tree}
 use Rattle.nv_ast.specs.Outline.{Layouts, OutlineTree, BitsOutline, GapOutline, PartsOutline, OverlayOutline, JoinedOutline, OutlineTrees, no_outlines, outline_and, NamedOutlines, no_named_outlines, named_outline_and, outline, field_outline, size, bit_fields, part_fields, alternative_fields, joined_fields}
-use Rattle.nv_meaning.proofs.Unpacking.{FieldItem, outlines_of, joined_of}
+use Rattle.nv_values.proofs.Unpacking.{FieldItem, outlines_of, joined_of}
 use Rattle.nv_ast.proofs.Items.{take_item}
 
 -- ---- wherever they begin

@@ -6,7 +6,7 @@ use Rattle.nv_ast.specs.Tests.{value_at as found_at}
 use Rattle.nv_ast.specs.Tree.{LayoutTree, NamedLayout, GapLayout, PartsLayout, JoinedLayout}
 use Rattle.nv_ast.specs.Outline.{Layouts, OutlineTree, PartsOutline, no_named_outlines, outline}
 use Rattle.nv_ast.specs.Types.{Ty, WordTy, TupleTy, Tys, no_tys, ty_and, NamedTys, no_named_tys, named_ty_and, words, total_named_words, word_parts, words_ty, Forms, no_forms, form_and, RecordForm, ◌+++◌, form_of, record_forms, unpacked, unpacked_all}
-use Rattle.nv_meaning.specs.inner.Tables.{laid}
+use Rattle.nv_values.specs.inner.Tables.{laid}
 use Rattle.flat_values.specs.declared.symbol.Symbol as code
 use Rattle.flat_values.specs.declared.symbol.Symbol.TheBlock.{hidden-the_row-Symbol-0, items_hidden-the_row-Symbol-0, hidden-the_row-Symbol-Record-0-2-1, items_hidden-the_row-Symbol-Record-0-2-1}
 use Rattle.flat_values.specs.inner.Symbols.{Tuple, Record, Symbols, no_symbols, symbol_and, NamedSymbols, no_named_symbols, named_symbol_and, SymbolScope, fresh, all_fresh, named_fresh, numbers_from, params_bound}

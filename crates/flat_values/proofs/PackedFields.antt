@@ -10,7 +10,7 @@ use Rattle.nv_ast.specs.Tests.{is_among, has_twice, names_of}
 use Rattle.nv_ast.specs.Outline.{Layouts, OutlineTree, BitsOutline, GapOutline, PartsOutline, OverlayOutline, JoinedOutline, OutlineTrees, no_outlines, outline_and, NamedOutlines, no_named_outlines, named_outline_and, outline, field_outline, size, named_list, record_of, records_of, bit_fields, part_fields, alternative_fields, joined_fields, IsSound, AllSound, AllNamedSound}
 use Rattle.nv_ast.specs.Types.{Forms, no_forms, form_and, ◌+++◌, form_of, forms_of, joined_forms, record_forms, can_pack, can_pack_all, can_pack_one}
 use Rattle.nv_meaning.proofs.Bindings.{if-true, if-false}
-use Rattle.nv_meaning.proofs.Unpacking.{FieldItem, outlines_of, joined_of}
+use Rattle.nv_values.proofs.Unpacking.{FieldItem, outlines_of, joined_of}
 use Rattle.flat_values.specs.inner.Symbols.{Symbol, Word, Truth, Tuple, Record, NamedSymbols, no_named_symbols, named_symbol_and, form, named_forms, operands, named_operands, fields_of, field_named}
 use Rattle.flat_values.specs.inner.Reads.{has_symbol}
 use Rattle.flat_values.specs.inner.Written.{packed_fields, packed_layout, packed_parts, packed_chosen, packed_joined}

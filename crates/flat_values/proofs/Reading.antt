@@ -12,7 +12,7 @@ use Rattle.nv_layout.proofs.BitLists.{length-packed}
 use Rattle.nv_meaning.specs.Values.{NamedValues, no_named_values, named_value_and, ◌++_fields◌, fields_of}
 use Rattle.nv_meaning.specs.Values as meaning
 use Rattle.nv_meaning.specs.Packing.{value_at, parts_at, alternatives_at, joined_at}
-use Rattle.nv_meaning.proofs.Unpacking.{FieldItem, outlines_of, joined_of, drop-at, parts_more, alternatives_more, joined_more, total_named_within, longest_within, total_within}
+use Rattle.nv_values.proofs.Unpacking.{FieldItem, outlines_of, joined_of, drop-at, parts_more, alternatives_more, joined_more, total_named_within, longest_within, total_within}
 use Rattle.flat_ir.specs.declared.spine.Step.{Step}
 use Rattle.flat_values.specs.inner.Code.{Computes}
 use Rattle.flat_values.specs.inner.Soundness.{AreWords}

@@ -4,7 +4,7 @@ use Rattle.nv_ast.specs.Tests.{value_at as found_at}
 use Rattle.nv_ast.specs.Tree.{LayoutTree, NamedLayout, GapLayout, PartsLayout, JoinedLayout}
 use Rattle.nv_ast.specs.Outline.{Layouts, OutlineTree, PartsOutline, no_named_outlines, outline}
 use Rattle.nv_ast.specs.Types.{RecordTy, form_of, record_forms, unpacked, unpacked_all}
-use Rattle.nv_meaning.specs.inner.Tables.{laid}
+use Rattle.nv_values.specs.inner.Tables.{laid}
 
 abbrev pub HasRecord : OutlineTree → Type 0
 HasRecord o = unpacked (form_of o) ≡ RecordTy (unpacked_all (record_forms o))

@@ -6,7 +6,7 @@ ghost use Rattle.nv_ast.specs.Outline.{outline, outlines, field_outline, field_o
 ghost use Rattle.nv_ast.specs.Tree.{NamedLayout};
 ghost use Rattle.nv_ast.specs.Types.{words, total_words, total_named_words, type_of, types_of, named_types_of, words_ty, word_parts, packed_ty, unpacked_ty, unpacked, unpacked_all, form_of, forms_of, joined_forms, record_forms};
 ghost use Rattle.nv_ast.specs.TypeView.{type_tree, list_types, list_named_types};
-ghost use Rattle.nv_meaning.specs.inner.TableView.{declared_in};
+ghost use Rattle.nv_values.specs.inner.TableView.{declared_in};
 ghost use Rattle.flat_values.specs.inner.Fields.{◌++_symbols◌};
 ghost use Rattle.flat_values.specs.inner.Symbols.{fresh, all_fresh, named_fresh, numbers_from};
 ghost use Rattle.flat_values.specs.inner.View.{view, list_symbols, list_named_symbols};
@@ -15,7 +15,7 @@ use crate::symbol::{Field, Symbol, add_variable};
 use crate::want::{made, put};
 use nv_ast::{FieldText, LayoutText, Name, TyText};
 use nv_base::{Atom, NoMemory};
-use nv_meaning::Table;
+use nv_values::Table;
 use std::alloc::Global;
 
 /// A symbolic value of a type, of new variables; they are added to a list.

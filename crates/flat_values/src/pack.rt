@@ -8,7 +8,7 @@ ghost use Rattle.nv_ast.specs.LayoutView.{layout_tree, field_tree, list_fields, 
 ghost use Rattle.nv_ast.specs.Outline.{outline, outlines, field_outline, field_outlines, size as bit_size, total_size, total_named_size, longest, IsSound, AllSound, AllNamedSound};
 ghost use Rattle.nv_meaning.specs.Values.{word_of, fields_of as value_fields, field_named as value_named};
 ghost use Rattle.nv_meaning.specs.Packing.{bits_of, parts_bits, chosen_bits, joined_bits};
-ghost use Rattle.nv_meaning.specs.inner.TableView.{declared_in};
+ghost use Rattle.nv_values.specs.inner.TableView.{declared_in};
 ghost use Rattle.flat_values.specs.inner.Reads.{Makes, Writes, has_symbol};
 ghost use Rattle.flat_values.specs.inner.Symbols.{Word, value_in, fields_of, field_named};
 ghost use Rattle.flat_values.specs.inner.View.{view, list_named_symbols};
@@ -21,7 +21,7 @@ use crate::unpack::between;
 use flat_ir::Step;
 use nv_ast::{FieldText, LayoutText, Name, ShiftOp};
 use nv_base::{Atom, Bin, NoMemory, Prim};
-use nv_meaning::Table;
+use nv_values::Table;
 
 /// Writes the bits of a layout from a place on, and answers the place after them. Gaps are zeros
 /// already.

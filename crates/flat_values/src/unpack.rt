@@ -5,7 +5,7 @@ ghost use Rattle.nv_base.specs.Words.{shifted_left, shifted_right};
 ghost use Rattle.nv_ast.specs.Bits.{number, slice, packed as packed_bits};
 ghost use Rattle.nv_ast.specs.LayoutView.{layout_tree, field_tree, list_fields, list_layouts};
 ghost use Rattle.nv_ast.specs.Outline.{outline, outlines, field_outline, field_outlines, size as bit_size, total_size, total_named_size, longest, bit_fields, part_fields, alternative_fields, joined_fields};
-ghost use Rattle.nv_meaning.specs.inner.TableView.{declared_in};
+ghost use Rattle.nv_values.specs.inner.TableView.{declared_in};
 ghost use Rattle.flat_values.specs.inner.Reads.{Makes, ReadsRecord, ReadsJoined, ReadsParts, ReadsAlternatives, ReadsField};
 ghost use Rattle.flat_values.specs.inner.View.{list_named_symbols};
 ghost use Rattle.flat_values.specs.inner.Adds.{AddsLets, AddsFields, AddsWord};
@@ -17,7 +17,7 @@ use crate::want::{made, put};
 use flat_ir::Step;
 use nv_ast::{FieldText, LayoutText, Name, ShiftOp};
 use nv_base::{Atom, Bin, NoMemory, Prim};
-use nv_meaning::Table;
+use nv_values::Table;
 use std::alloc::Global;
 
 /// Adds the fields of a layout's record, whose bits begin at a place, and answers the place behind

@@ -8,15 +8,15 @@ use Rattle.std.proofs.lemmas.Option.{none-some, same_Some}
 use Rattle.nv_base.specs.declared.term.Atom.{Atom}
 use Rattle.nv_base.specs.declared.term.Atom.TheVariants.{Var, Lit}
 use Rattle.nv_base.specs.declared.term.Cmp.{Cmp}
-use Rattle.nv_base.specs.declared.term.Cmp.TheVariants.{Eq, Ne, Lt, Ge}
 use Rattle.nv_base.specs.declared.term.Mem.{Mem}
 use Rattle.nv_base.specs.declared.outcome.Outcome.TheVariants as outcome
 use Rattle.nv_base.specs.Memories.{Memories, fetched, stored}
 use Rattle.nv_base.specs.Meanings.{FullOutcome}
-use Rattle.nv_base.specs.Words.{Env, word, assigned, assigned_all, atom_word, atom_words, prim_word, atom_vars, compares}
+use Rattle.nv_base.specs.Words.{Env, word, assigned, assigned_all, atom_word, atom_words, prim_word, atom_vars, compares, negated}
 use Rattle.nv_base.specs.World.{World, over, ended, after_read, read_words, wrote, after_write, write_words}
 use Rattle.nv_base.specs.Sets.{is_in, all_vars, Within}
 use Rattle.nv_base.proofs.Sets.{in-later}
+use Rattle.nv_base.proofs.WordLemmas.{negated_compares}
 use Rattle.flow_ir.specs.Tree.{Tree, Label}
 use Rattle.flow_ir.specs.Meaning.{Next, does, blank, enter, run}
 use Rattle.cps_rules.specs.Substitution.{Names, renamed, all_renamed, prim_renamed}
@@ -24,7 +24,7 @@ use Rattle.cps_rules.specs.inner.Way.{Fits, IsScopedLabel}
 use Rattle.cps_rules.proofs.Members.{in-first, in-left, in-right}
 use Rattle.cps_rules.proofs.Renaming.{Agrees, atom_agrees, atoms_agree, prim_agrees}
 use Rattle.flow_contract.proofs.Lookup.{in_other, not_equal, there}
-use Rattle.flow_contract.specs.inner.Copied.{named, all_named, numbered, folded, negated, Numbering, Copied, kept, read, write, choice, swapped, first, second, jump, halt, inside}
+use Rattle.flow_contract.specs.inner.Copied.{named, all_named, numbered, folded, Numbering, Copied, kept, read, write, choice, swapped, first, second, jump, halt, inside}
 use Rattle.flow_contract.proofs.Naming.{named_case, named_here, named_else}
 
 -- ---- what stands for known variables is below the numbers to come
@@ -122,16 +122,6 @@ agrees_operands (x ∷ xs) (a ∷ as') known σ env new h =
     agrees_in (λ y i. in-later (nat_eq y x) y xs x known refl i) (agrees_operands xs as' (x ∷ known) (named σ x a) (assigned env x (atom_word new a)) new (agrees_named x (atom_word new a) a refl h))
 
 -- ---- comparisons
-
-not-not : (b : Bool) → not (not b) ≡ b
-not-not true = refl
-not-not false = refl
-
-negated_compares : (c : Cmp) (x y : ℕ) → compares (negated c) x y ≡ not (compares c x y)
-negated_compares Eq x y = refl
-negated_compares Ne x y = sym (not-not (compares Eq x y))
-negated_compares Lt x y = refl
-negated_compares Ge x y = sym (not-not (compares Lt x y))
 
 folded_compares : (c : Cmp) (a b : Atom) (v : Bool) (env : Env) → folded c a b ≡ Some v → compares c (atom_word env a) (atom_word env b) ≡ v
 folded_compares c (Lit x) (Lit y) v env e = same_Some (compares c (word x) (word y)) v e

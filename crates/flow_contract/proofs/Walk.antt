@@ -11,6 +11,7 @@ use Rattle.nv_base.specs.declared.term.Atom.TheVariants.{Var}
 use Rattle.nv_base.specs.declared.term.Cmp.{Cmp}
 use Rattle.nv_base.specs.declared.term.Mem.{Mem}
 use Rattle.nv_base.specs.declared.term.Primitive.{Primitive}
+use Rattle.nv_base.specs.Words.{negated}
 use Rattle.flow_ir.proofs.Steps.{put_last}
 use Rattle.flow_ir.specs.Spine.{put, put_all}
 use Rattle.flow_ir.specs.Tree as pure
@@ -23,7 +24,7 @@ use Rattle.flow_ir.specs.declared.spine.Step.{Step}
 use Rattle.flow_ir.specs.declared.spine.Step.TheVariants as step
 use Rattle.cps_rules.specs.Substitution.{Names, renamed, all_renamed, prim_renamed, look}
 use Rattle.cps_rules.proofs.Mentions.{smaller}
-use Rattle.flow_contract.specs.inner.Copied.{named, all_named, numbered, undone, folded, negated, Numbering, Copied, kept, read, write, choice, swapped, first, second, jump, halt, inside}
+use Rattle.flow_contract.specs.inner.Copied.{named, all_named, numbered, undone, folded, Numbering, Copied, kept, read, write, choice, swapped, first, second, jump, halt, inside}
 
 -- ---- how far there is to go
 

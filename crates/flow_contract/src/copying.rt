@@ -24,18 +24,6 @@ fn folded(c: Cmp, a: Atom, b: Atom) -> Option<bool>
     }
 }
 
-// The comparison that holds where this one doesn't.
-fn negated(c: Cmp) -> Cmp
-    ensures { result ≡ inner.negated c }
-{
-    match c {
-        Cmp::Eq => Cmp::Ne,
-        Cmp::Ne => Cmp::Eq,
-        Cmp::Lt => Cmp::Ge,
-        Cmp::Ge => Cmp::Lt,
-    }
-}
-
 // The label that is to stand in the place of a jump, and its rank, where the jump stands in a label of this
 // rank.
 fn inside<'a>(labels: &'a [Label], plan: &Plan, rank: u32, l: u32) -> Option<(&'a Label, u32)>
@@ -112,7 +100,7 @@ fn copied(
                     None => {
                         if is_heavier(first, second, plan, rank) {
                             let u = copied(alloc, labels, plan, rank, second, names, fresh)?;
-                            steps.push(Step::If(negated(*c), x, y, u))?;
+                            steps.push(Step::If(c.negated(), x, y, u))?;
                             cur = first;
                         } else {
                             let u = copied(alloc, labels, plan, rank, first, names, fresh)?;

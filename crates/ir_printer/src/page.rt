@@ -1,38 +1,31 @@
 //! Lines of text, and what all forms share.
 
-use line_text::push_decimal;
-use nv_base::{Atom, Bin, Cmp, Mem, NoMemory, Prim, Una};
-use std::alloc::Global;
+use line_text::Message;
+use nv_base::{Atom, Bin, Cmp, Mem, Prim, Una};
+use std::alloc::{AllocError, Global};
 
 /// A text that grows line by line. Where memory runs out it stays as it is from then on, and `into_bytes` tells.
 #[derive(Drop)]
 pub struct Page {
-    text: Vec<u8>,
-    is_short: bool,
+    text: Message,
 }
 
 impl Page {
     /// No lines yet.
     pub fn new(alloc: Global) -> Page {
         Page {
-            text: Vec::new(alloc),
-            is_short: false,
+            text: Message::new(alloc),
         }
     }
 
     /// The text of all lines.
-    pub fn into_bytes(self) -> Result<Vec<u8>, NoMemory> {
-        if self.is_short {
-            return Err(NoMemory);
-        }
-        Ok(self.text)
+    pub fn into_bytes(self) -> Result<Vec<u8>, AllocError> {
+        self.text.into_bytes()
     }
 
     /// These words, as they are.
     pub fn put(&mut self, words: &str) {
-        if !self.is_short {
-            self.is_short = self.text.extend_from_slice(words.as_bytes()).is_err();
-        }
+        self.text.put(words)
     }
 
     /// A number in decimal digits.
@@ -42,9 +35,12 @@ impl Page {
 
     /// A count in decimal digits.
     pub fn count(&mut self, n: u64) {
-        if !self.is_short {
-            self.is_short = push_decimal(&mut self.text, n).is_err();
-        }
+        self.text.number(n)
+    }
+
+    /// The name of a memory.
+    pub fn memory(&mut self, m: Mem) {
+        self.text.bytes(m.name())
     }
 
     /// The beginning of a line, N steps to the right.
@@ -169,7 +165,7 @@ impl Page {
         self.line(depth);
         self.variables(xs);
         self.put(" = ");
-        self.put(memory_name(m));
+        self.memory(m);
         self.put("[");
         self.number(small(xs.len()));
         self.put("](");
@@ -180,7 +176,7 @@ impl Page {
     /// `sram(v3) <- v1, v2`.
     pub fn stored(&mut self, depth: u32, m: Mem, a: &Atom, xs: &[Atom]) {
         self.line(depth);
-        self.put(memory_name(m));
+        self.memory(m);
         self.put("(");
         self.atom(a);
         self.put(") <- ");
@@ -276,14 +272,5 @@ pub fn comparison_sign(c: &Cmp) -> &'static str {
         Cmp::Ne => " != ",
         Cmp::Lt => " < ",
         Cmp::Ge => " >= ",
-    }
-}
-
-/// The name of a memory.
-pub fn memory_name(m: Mem) -> &'static str {
-    match m {
-        Mem::Sram => "sram",
-        Mem::Sdram => "sdram",
-        Mem::Scratch => "scratch",
     }
 }

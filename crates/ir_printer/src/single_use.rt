@@ -4,7 +4,7 @@ ghost use Rattle.std.specs.Prelude.{◌≡◌, true};
 ghost use Rattle.ssu_ir.specs.Single.{single};
 ghost use Rattle.ssu_ir.specs.View.{labels_view};
 
-use crate::page::{Page, binary_sign, comparison_sign, memory_name, small};
+use crate::page::{Page, binary_sign, comparison_sign, small};
 use nv_base::{Mem, NoMemory, Una};
 use ssu_ir::{NodeId, Ssu, SsuNode, size};
 use ssu_liveness::{held, peak};
@@ -202,7 +202,7 @@ fn print_shift(page: &mut Page, y: u32, sign: &str, k: u8) {
 fn print_read(page: &mut Page, m: Mem, xs: &[u32], y: u32) {
     page.variables(xs);
     page.put(" = ");
-    page.put(memory_name(m));
+    page.memory(m);
     page.put("[");
     page.number(small(xs.len()));
     page.put("](");
@@ -211,7 +211,7 @@ fn print_read(page: &mut Page, m: Mem, xs: &[u32], y: u32) {
 }
 
 fn print_write(page: &mut Page, m: Mem, y: u32, xs: &[u32]) {
-    page.put(memory_name(m));
+    page.memory(m);
     page.put("(");
     page.variable(y);
     page.put(") <- ");

@@ -1,6 +1,6 @@
-//! Numbers, appended to a text.
+//! Numbers, and lines of a text and a number, appended to a text.
 
-ghost use Rattle.std.specs.Prelude.{◌≡◌, ◌++◌, ◌%◌, OnOk, OnErr, decimal};
+ghost use Rattle.std.specs.Prelude.{◌≡◌, ◌++◌, ◌∷◌, ◌%◌, [], OnOk, OnErr, decimal};
 ghost use Rattle.std.specs.Char.{digit_char};
 ghost use Rattle.std.specs.Fmt.{signed_decimal};
 ghost use Rattle.line_text.specs.Number.{hex_word};
@@ -24,6 +24,16 @@ pub fn push_signed(out: &mut Vec<u8>, z: i32) -> Result<(), AllocError>
 {
     let mut buffer = Buffer::new();
     out.extend_from_slice(buffer.format(z).as_bytes())
+}
+
+/// Appends a line of this text and a number.
+pub fn push_counted(out: &mut Vec<u8>, text: &[u8], n: u64) -> Result<(), AllocError>
+    ensures { OnOk result (out.new.items ≡ out.old.items ++ (text.now ++ (decimal n ++ 10 ∷ []))) }
+{
+    out.extend_from_slice(text)?;
+    push_decimal(out, n)?;
+    out.push(b'\n')?;
+    Ok(())
 }
 
 /// The last hexadecimal digit of a number.

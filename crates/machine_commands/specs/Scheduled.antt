@@ -1,8 +1,8 @@
 -- What the command for contexts does, and why it refuses.
 use Rattle.std.specs.Prelude.{◌≡◌, ◌⊎◌, ℕ, suc, List, [], ◌∷◌, ◌++◌, codes, decimal}
 use Rattle.line_text.specs.Line.{text_of, parted}
-use Rattle.nv_memtext.specs.Spelling.{name_of}
 use Rattle.nv_base.specs.Memories.{Memories}
+use Rattle.nv_base.specs.MemoryNames.{memory_name}
 use Rattle.nv_base.specs.declared.outcome.Outcome.{Outcome}
 use Rattle.nv_base.specs.declared.outcome.Outcome.TheVariants.{Ended}
 use Rattle.nv_base.specs.declared.term.Mem.{Mem}
@@ -39,7 +39,7 @@ abbrev pub disjoint_line : List ℕ
 disjoint_line = codes "disjoint"
 
 abbrev pub shared_line : Mem → ℕ → List ℕ
-shared_line m a = parted (codes "shared" ∷ name_of m ∷ decimal a ∷ [])
+shared_line m a = parted (codes "shared" ∷ memory_name m ∷ decimal a ∷ [])
 
 -- no address that one run writes is read or written by another, and the line says so; or it has the first such address
 abbrev pub TellsShared : CodeView → Memories → List Isolated → List ℕ → Type 0

@@ -20,7 +20,6 @@ use command_line::Refusal;
 use command_line::limits::SPILL_BASE;
 use line_text::push_decimal;
 use nv_base::{Mem, NoMemory, Words};
-use nv_memtext::memory_name;
 use std::alloc::Global;
 use uc_contexts::{Marks, footprint, shared};
 use uc_isa::Code;
@@ -126,7 +125,7 @@ fn shared_at(alloc: Global, mem: Mem, at: u32) -> Result<Vec<u8>, NoMemory>
 {
     let mut line = Vec::new(alloc);
     line.extend_from_slice(b"shared ")?;
-    line.extend_from_slice(memory_name(mem))?;
+    line.extend_from_slice(mem.name())?;
     line.push(b' ')?;
     push_decimal(&mut line, u64::from(at))?;
     Ok(line)

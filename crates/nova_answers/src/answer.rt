@@ -1,7 +1,7 @@
 //! What a command answers.
 
 use explain_parts::finding::{Finding, Form, Severity, Source};
-use explain_parts::text::Message;
+use line_text::Message;
 use std::alloc::Global;
 
 /// How a call of the program ended.

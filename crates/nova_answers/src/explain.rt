@@ -2,9 +2,8 @@
 
 use crate::answer::{Answer, Ending};
 use explain_pages::page_of;
-use explain_parts::text::Message;
-use nv_base::NoMemory;
-use std::alloc::Global;
+use line_text::Message;
+use std::alloc::{AllocError, Global};
 
 /// Tells what a refusal means, of which these words are the name.
 pub fn push_page_on(alloc: Global, words: &[String], answer: &mut Answer) {
@@ -12,7 +11,7 @@ pub fn push_page_on(alloc: Global, words: &[String], answer: &mut Answer) {
     push_joined(&mut name, words);
     match name.into_bytes() {
         Ok(name) => push_page(&name, answer),
-        Err(NoMemory) => answer.fail(),
+        Err(AllocError) => answer.fail(),
     }
 }
 

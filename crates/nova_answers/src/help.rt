@@ -1,6 +1,6 @@
 //! The texts of help.
 
-use explain_parts::text::Message;
+use line_text::Message;
 use nova_words::Verb;
 
 /// The version of the program.

@@ -1,6 +1,6 @@
 //! The labels of an object by where they start.
 
-use explain_parts::text::Message;
+use line_text::Message;
 use std::alloc::Global;
 use uc_object::{Object, Tagged};
 

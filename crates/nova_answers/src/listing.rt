@@ -7,7 +7,7 @@ use crate::refusal::push_refusal;
 use code_kinds::{Kind, kind_of};
 use command_line::Refusal;
 use command_line::limits::OBJECT_LIMIT;
-use explain_parts::text::{Message, part};
+use line_text::{Message, part};
 use std::alloc::Global;
 use uc_asm::push_words;
 use uc_isa::Instr;

@@ -5,7 +5,7 @@ use crate::answer::Answer;
 use crate::labels::{Label, labels_of};
 use crate::saving::{Saving, add_saving};
 use crate::visits::Visits;
-use explain_parts::text::Message;
+use line_text::Message;
 use nv_base::NoMemory;
 use std::alloc::Global;
 use std::cmp::Reverse;

@@ -6,7 +6,7 @@ use Rattle.nv_base.specs.declared.outcome.Write.{Write}
 use Rattle.nv_ast.specs.Sizes.{main_words}
 use Rattle.nv_ast.specs.Tree.{ProgramTree}
 use Rattle.nv_values.specs.Running.{Made, plain}
-use Rattle.call_trace.specs.Notes.{source_made}
+use Rattle.nv_values.specs.Notes.{source_made}
 use Rattle.nv_meaning.specs.Meaning.{source, traced}
 use Rattle.nv_memtext.specs.MemoryText.{Gives}
 use Rattle.nv_trace.specs.TraceText.{shown, trace_text}

@@ -1,6 +1,6 @@
 //! The command `trace`.
 ghost use Rattle.std.specs.Prelude.{◌≡◌, ◌≢◌, ◌≤◌, ◌⊎◌, ℕ, length, map, IfOk, IfErr, OnOk};
-ghost use Rattle.call_trace.specs.Chains.{trail_of};
+ghost use Rattle.nv_values.specs.Chains.{trail_of};
 ghost use Rattle.nv_ast.specs.TypedView.{typed_program};
 ghost use Rattle.nv_trace.specs.TraceText.{shown, trace_text as text_of_writes};
 ghost use Rattle.nv_trace.specs.Unlike.{AgreeAsFar, IsFirstUnlike};

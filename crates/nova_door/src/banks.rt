@@ -1,7 +1,7 @@
 //! The banks of each value, as the report of a compilation chooses them.
 
 use bank_prog::{Bank, BankTables, Column, bank_tables_of};
-use explain_parts::text::Message;
+use line_text::Message;
 use nv_base::NoMemory;
 use ssu_ir::{Ssu, single};
 use std::alloc::Global;

@@ -1,6 +1,6 @@
 //! Two outcome texts, compared.
 
-use explain_parts::text::{Message, part};
+use line_text::{Message, part};
 
 /// Appends an outcome text without the line that names an exception.
 pub fn push_plain(out: &mut Message, text: &[u8]) {

@@ -10,15 +10,14 @@ use crate::listing::form_of;
 use crate::simulation::run_object;
 use code_kinds::counts_of;
 use command_line::limits::{MEMORY_LIMIT, SOURCE_LIMIT};
-use explain_parts::text::Message;
 use explain_source::push_sizes;
+use line_text::Message;
 use nova_answers::{Answer, Ending, Saving, add_saving, list_object, load};
 use nova_commands::Compiled;
 use nova_page::{push_page_block, push_page_end, push_page_head};
 use nova_words::{Page, Run};
-use nv_base::NoMemory;
 use nv_outside::Files;
-use std::alloc::Global;
+use std::alloc::{AllocError, Global};
 
 /// Makes a page of HTML on a source: its text, sizes, labels, live values and code, and on a memory text how often each label was
 /// entered; and gives it as a file that is to be saved.
@@ -155,7 +154,7 @@ fn add_page(
             }
             add_saving(alloc, savings, name, bytes, answer)
         }
-        Err(NoMemory) => answer.fail(),
+        Err(AllocError) => answer.fail(),
     }
 }
 
@@ -243,6 +242,6 @@ fn push_run(
 fn push_text(page: &mut Message, id: &str, text: Message) {
     match text.into_bytes() {
         Ok(bytes) => push_page_block(page, id, &bytes),
-        Err(NoMemory) => page.fail(),
+        Err(AllocError) => page.fail(),
     }
 }

@@ -8,14 +8,13 @@ use crate::folders::Folders;
 use crate::found::{Folder, folder_at, split_path};
 use command_line::limits::{MEMORY_LIMIT, OBJECT_LIMIT, SOURCE_LIMIT};
 use command_line::{Refusal, Reply};
-use explain_parts::text::Message;
+use line_text::Message;
 use machine_commands::run_bytes;
 use nova_answers::{Answer, Ending, load, push_refusal};
 use nova_commands::exec_bytes;
 use nova_words::Test;
-use nv_base::NoMemory;
 use nv_outside::Files;
-use std::alloc::Global;
+use std::alloc::{AllocError, Global};
 
 // How many memory texts came to what they should, and how many did not.
 #[derive(Clone, Copy)]
@@ -273,7 +272,7 @@ fn outcomes_on(
     push_plain(&mut plain, &done);
     match plain.into_bytes() {
         Ok(done) => Some((meant, done)),
-        Err(NoMemory) => {
+        Err(AllocError) => {
             answer.fail();
             None
         }

@@ -9,7 +9,7 @@ use crate::listing::list;
 use crate::page::make_page;
 use crate::simulation::simulate_program;
 use crate::testing::test;
-use explain_parts::text::Message;
+use line_text::Message;
 use nova_answers::{
     Answer, Ending, Saving, VERSION, print, push_help, push_page_on, push_word_fault, save_all,
 };

@@ -1,7 +1,7 @@
 -- A name, by its bytes.
 use Rattle.std.proofs.Common.{inl, inr, refl, lit≤}
 use Rattle.std.specs.Prelude.{codes}
-use Rattle.nv_ast.specs.Name.{IsName, IsLetter}
+use Rattle.nv_base.specs.Name.{IsName, IsLetter}
 
 letter : IsLetter 116
 letter = inr (inl (lit≤ tt, lit≤ tt))

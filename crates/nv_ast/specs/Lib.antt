@@ -1,4 +1,3 @@
-pub mod Name
 pub mod Exceptions
 pub mod Tree
 pub mod Height

@@ -2,13 +2,12 @@
 #![tactic(auto)]
 
 pub mod laws;
-mod name;
 mod program;
 mod token;
 mod tree;
 mod typed;
 
-pub use name::Name;
+pub use nv_base::Name;
 pub use program::Program;
 pub use token::{Sort, Span, Token};
 pub use tree::{Decl, Expr, FieldText, Fun, Kind, LayoutText, Op, Pat, ShiftOp, Stmt, TyText};

@@ -1,6 +1,6 @@
 // Tokens.
 
-use crate::name::Name;
+use nv_base::Name;
 
 /// A stretch of the text: its first byte, and the byte after its last one.
 #[derive(Clone, Copy, Debug, PartialEq, Eq)]

@@ -1,8 +1,7 @@
 // The trees of a program's text.
 
-use crate::name::Name;
 use crate::token::Span;
-use nv_base::Mem;
+use nv_base::{Mem, Name};
 
 /// A declaration. The functions of a group know each other.
 #[derive(Drop)]

@@ -1,5 +1,5 @@
--- The operations give words.
-use Rattle.std.proofs.Common.{◌≡◌, ℕ, ◌+◌, ◌-◌, ◌*◌, ◌/◌, ◌^◌, ◌≤◌, List, [], ◌∷◌, ◌++◌, All, length, suc, refl, ap, ◌∙◌, subst, arith}
+-- The operations give words, and comparisons their opposite.
+use Rattle.std.proofs.Common.{◌≡◌, ℕ, Bool, true, false, not, ◌+◌, ◌-◌, ◌*◌, ◌/◌, ◌^◌, ◌≤◌, List, [], ◌∷◌, ◌++◌, All, length, suc, refl, sym, ap, ◌∙◌, subst, arith}
 use Rattle.std.proofs.lemmas.Nat.{or_lt, xor_lt}
 use Rattle.std.proofs.lemmas.List.Elements.{All-head, All-tail}
 use Rattle.std.proofs.Math.Nat.{div-le_self}
@@ -12,7 +12,9 @@ use Rattle.nv_base.specs.declared.term.Una.{Una}
 use Rattle.nv_base.specs.declared.term.Una.TheVariants.{Not, Shl, Shr, Rol}
 use Rattle.nv_base.specs.declared.term.Bin.{Bin}
 use Rattle.nv_base.specs.declared.term.Bin.TheVariants.{Add, Sub, And, Or, Xor}
-use Rattle.nv_base.specs.Words.{IsWord, word, shifted_right, rotated_left, una_word, bin_word, HasCount, Env, atom_word, atom_words, atom_vars, prim_word, prim_vars}
+use Rattle.nv_base.specs.declared.term.Cmp.{Cmp}
+use Rattle.nv_base.specs.declared.term.Cmp.TheVariants.{Eq, Ne, Lt, Ge}
+use Rattle.nv_base.specs.Words.{IsWord, word, shifted_right, rotated_left, una_word, bin_word, compares, negated, HasCount, Env, atom_word, atom_words, atom_vars, prim_word, prim_vars}
 use Rattle.nv_base.proofs.Rotation.{joined}
 
 pub word-fits : (n : ℕ) → IsWord (word n)
@@ -59,3 +61,15 @@ prim-agrees env env' (BinOf op a b) h =
 pub length-words : (env : Env) (as' : List Atom) → length (atom_words env as') ≡ length as'
 length-words env [] = refl
 length-words env (a ∷ as') = ap suc (length-words env as')
+
+-- ---- comparisons
+
+not-not : (b : Bool) → not (not b) ≡ b
+not-not true = refl
+not-not false = refl
+
+pub negated_compares : (c : Cmp) (x y : ℕ) → compares (negated c) x y ≡ not (compares c x y)
+negated_compares Eq x y = refl
+negated_compares Ne x y = sym (not-not (compares Eq x y))
+negated_compares Lt x y = refl
+negated_compares Ge x y = sym (not-not (compares Lt x y))

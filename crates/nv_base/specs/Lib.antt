@@ -8,3 +8,5 @@ pub mod Sets
 pub mod Access
 pub mod Measures
 pub mod Running
+pub mod Name
+pub mod MemoryNames

@@ -65,6 +65,13 @@ compares Ne x y = not (nat_eq x y)
 compares Lt x y = nat_lt x y
 compares Ge x y = not (nat_lt x y)
 
+-- the comparison that holds where this one doesn't
+abbrev pub negated : Cmp → Cmp
+negated Eq = Ne
+negated Ne = Eq
+negated Lt = Ge
+negated Ge = Lt
+
 -- which word each variable has
 abbrev pub Env : Type 0
 Env = ℕ → ℕ

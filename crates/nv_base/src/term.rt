@@ -1,6 +1,6 @@
 // Memories, operands, operations and comparisons.
 ghost use Rattle.std.specs.Prelude.{◌≡◌, ◌≤◌};
-ghost use Rattle.nv_base.specs.Words.{una_word, bin_word, compares, HasCount};
+ghost use Rattle.nv_base.specs.Words.{una_word, bin_word, compares, negated as negation, HasCount};
 
 use crate::word;
 use smallvec::SmallVec;
@@ -12,6 +12,35 @@ pub enum Mem {
     Sram,
     Sdram,
     Scratch,
+}
+
+impl Mem {
+    ghost use Rattle.std.specs.Prelude.{◌≡◌, ◌≢◌, MatchOption};
+    ghost use Rattle.nv_base.specs.declared.term.Mem.{Mem};
+    ghost use Rattle.nv_base.specs.MemoryNames.{memory_name};
+
+    /// The name of the memory in texts.
+    pub fn name(self) -> &'static [u8]
+        ensures { result.now ≡ memory_name self }
+    {
+        match self {
+            Mem::Sram => b"sram",
+            Mem::Sdram => b"sdram",
+            Mem::Scratch => b"scratch",
+        }
+    }
+
+    /// The memory of a name.
+    pub fn of_name(name: &[u8]) -> Option<Mem>
+        ensures { MatchOption result ((m : Mem) → name.now ≢ memory_name m) (λ m. name.now ≡ memory_name m) }
+    {
+        match name {
+            b"sram" => Some(Mem::Sram),
+            b"sdram" => Some(Mem::Sdram),
+            b"scratch" => Some(Mem::Scratch),
+            _ => None,
+        }
+    }
 }
 
 /// Whether an access was within its memory.
@@ -121,6 +150,18 @@ impl Cmp {
             Cmp::Ne => x != y,
             Cmp::Lt => x < y,
             Cmp::Ge => x >= y,
+        }
+    }
+
+    /// The comparison that holds where this one doesn't.
+    pub fn negated(self) -> Cmp
+        ensures { result ≡ negation self }
+    {
+        match self {
+            Cmp::Eq => Cmp::Ne,
+            Cmp::Ne => Cmp::Eq,
+            Cmp::Lt => Cmp::Ge,
+            Cmp::Ge => Cmp::Lt,
         }
     }
 }

@@ -18,7 +18,7 @@ use crate::made_code::{
 };
 use crate::values::{each, statements, value};
 use crate::want::made;
-use flat_declarations::branches::{Test, turned};
+use flat_declarations::branches::Test;
 use flat_declarations::source::Source;
 use flat_values::arms::{EndArm, TestArm, end_arm, test_arm};
 use flat_values::names::Names;
@@ -50,7 +50,7 @@ fn condition<'a>(
         TestArm::Negate(a) => {
             let test = made!(condition(alloc, t, a, scope, names, next));
             Ok(Test {
-                cmp: turned(test.cmp),
+                cmp: test.cmp.negated(),
                 ..test
             })
         }

@@ -7,7 +7,7 @@ use Rattle.nv_base.specs.Memories.{Memories, stored}
 use Rattle.nv_base.specs.Meanings.{source_writes}
 use Rattle.nv_ast.specs.declared.token.Span.{Span}
 use Rattle.nv_ast.specs.Faults.{can_move}
-use Rattle.call_trace.specs.Notes.{Notes, Stores, traced_all, source_made, made_of_write}
+use Rattle.nv_values.specs.Notes.{Notes, Stores, traced_all, source_made, made_of_write}
 use Rattle.nv_values.specs.Values.{Scope}
 use Rattle.nv_values.specs.Running.{made_by, GoesOn, store, after_store}
 use Rattle.nv_meaning.specs.Meaning.{Declared}

@@ -3,10 +3,10 @@ use Rattle.std.proofs.Common.{◌≡◌, ℕ, zero, suc, ◌-◌, ◌<◌, ◌�
 use Rattle.nv_base.specs.declared.outcome.Outcome.TheVariants as outcome
 use Rattle.nv_base.specs.Log.{noted_all}
 use Rattle.nv_base.specs.Meanings.{source_writes}
-use Rattle.call_trace.specs.Notes.{Notes, Knows, HasRoom, traced_all, source_made}
-use Rattle.call_trace.specs.Callers.{IsAbove}
-use Rattle.call_trace.proofs.Trails.{room-before}
-use Rattle.call_trace.proofs.Above.{above-itself, above-called}
+use Rattle.nv_values.specs.Notes.{Notes, Knows, HasRoom, traced_all, source_made}
+use Rattle.nv_values.specs.Callers.{IsAbove}
+use Rattle.nv_values.proofs.Trails.{room-before}
+use Rattle.nv_values.proofs.Above.{above-itself, above-called}
 use Rattle.nv_values.specs.Values.{Values}
 use Rattle.nv_values.specs.Running.{Chain, Made, plain, Running, Result, Gives, Raises, Halts, taken, called, calling, back_to}
 use Rattle.nv_meaning.specs.Meaning.{Declared, Calls, enter, function_in, group_in, calls_within}

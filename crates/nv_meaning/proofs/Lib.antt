@@ -10,9 +10,6 @@ pub mod Kept
 pub mod TreeKinds
 pub mod Operands
 pub mod Access
-pub mod NameIndices
-pub mod Sizing
-pub mod Unpacking
 pub mod Whole
 pub mod Bindings
 pub mod Filling
@@ -21,4 +18,3 @@ pub mod Writing
 pub mod Parameters
 pub mod Records
 pub mod Follows
-pub mod Grouped

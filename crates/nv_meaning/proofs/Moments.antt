@@ -5,8 +5,8 @@ use Rattle.nv_base.specs.Log.{noted_all}
 use Rattle.nv_base.specs.Meanings.{source_writes, is_source_write, left_by}
 use Rattle.nv_base.proofs.LogLemmas.{noted-append}
 use Rattle.nv_base.proofs.MemoryLemmas.{left-append}
-use Rattle.call_trace.specs.Notes.{traced_all, source_made}
-use Rattle.call_trace.proofs.Trails.{traced-append}
+use Rattle.nv_values.specs.Notes.{traced_all, source_made}
+use Rattle.nv_values.proofs.Trails.{traced-append}
 use Rattle.nv_values.specs.Running.{Made, plain, Running}
 use Rattle.nv_meaning.specs.Meaning.{Declared, Calls, calls_within}
 use Rattle.nv_meaning.specs.inner.Ran.{At, running, Wrote, Ran}

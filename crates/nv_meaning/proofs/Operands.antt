@@ -13,7 +13,7 @@ use Rattle.nv_ast.specs.ExprView.{tree_of}
 use Rattle.nv_ast.specs.Outline.{outline}
 use Rattle.nv_ast.specs.Tree.{NamedLayout}
 use Rattle.nv_values.specs.Values.{Value, Word, Truth, word_of, truth_of, fields_of, field_named}
-use Rattle.nv_meaning.specs.Packing.{unpacked_value, packed_value}
+use Rattle.nv_values.specs.Packing.{unpacked_value, packed_value}
 use Rattle.nv_values.specs.Running.{Running, Gives, fetch}
 use Rattle.nv_meaning.specs.Meaning.{Declared, shifted}
 use Rattle.nv_meaning.specs.inner.Operand.{made_of}

@@ -14,7 +14,7 @@ use Rattle.nv_meaning.specs.inner.Blanks.{blank, blanks, named_blanks, filled, a
 use Rattle.nv_values.specs.inner.View.{Named, view, list_values, list_named_values, scope_of}
 use Rattle.nv_meaning.proofs.Bindings.{scope-append}
 use Rattle.nv_meaning.proofs.Filling.{blank-words, blank-filled}
-use Rattle.nv_meaning.proofs.Unpacking.{drop-capped}
+use Rattle.nv_values.proofs.Unpacking.{drop-capped}
 use Rattle.nv_ast.proofs.Items.{take_item, next_item}
 
 -- ---- blank values of types one after another

@@ -8,9 +8,9 @@ use Rattle.nv_base.specs.declared.error.NoMemory.{NoMemory}
 use Rattle.nv_base.specs.Log.{Log, noted_all}
 use Rattle.nv_base.specs.Memories.{Memories}
 use Rattle.nv_base.specs.Meanings.{source_writes, left_by, IsPrefix}
-use Rattle.call_trace.specs.Notes.{Notes, Knows, traced_all, source_made}
-use Rattle.call_trace.specs.Chains.{Kept, trail_of}
-use Rattle.nv_ast.specs.Name.{IsName}
+use Rattle.nv_values.specs.Notes.{Notes, Knows, traced_all, source_made}
+use Rattle.nv_values.specs.Chains.{Kept, trail_of}
+use Rattle.nv_base.specs.Name.{IsName}
 use Rattle.nv_ast.specs.Tree.{ProgramTree, FunTree}
 use Rattle.nv_values.specs.Values.{Scope, words_of, all_words}
 use Rattle.nv_values.specs.Running.{InCall, Chain, Made, plain, Running, Result, Gives, Raises, Halts, TracedOutcome, closed, over}

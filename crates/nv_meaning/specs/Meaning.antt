@@ -1,6 +1,6 @@
 -- What a program means: by recursion on its text and on the number of calls, over words, truths, tuples and records.
 -- Evaluation is strict and from left to right. Where a program is not typed, what it asks for has a harmless answer.
-use Rattle.std.specs.Prelude.{ℕ, zero, suc, true, false, not, if◌then◌else◌, List, [], ◌∷◌, ◌++◌, length, replicate, Option, Some, None, bytes_eq, codes}
+use Rattle.std.specs.Prelude.{ℕ, zero, suc, true, false, not, if◌then◌else◌, List, [], ◌∷◌, Option, Some, None, codes}
 use Rattle.nv_base.specs.declared.outcome.Outcome.TheVariants as outcome
 use Rattle.nv_base.specs.Words.{word, word_not}
 use Rattle.nv_base.specs.Memories.{Memories}
@@ -8,12 +8,13 @@ use Rattle.nv_base.specs.Meanings.{Meaning}
 use Rattle.nv_ast.specs.declared.tree.Op.{Op}
 use Rattle.nv_ast.specs.declared.tree.Op.TheVariants.{Both, Either}
 use Rattle.nv_ast.specs.Tree.{Tree, NumberTree, TruthTree, VarTree, ParenTree, TupleTree, FieldsTree, DotTree, InvertTree, NegateTree, BinaryTree, ShiftTree, CallTree, UnpackTree, PackTree, RaiseTree, IfTree, TryTree, FetchTree, BlockTree, Trees, no_trees, tree_and, NamedTrees, no_named_trees, named_tree_and, StatementTree, LetStatement, StoreStatement, StatementTrees, no_statements, statement_and}
-use Rattle.nv_ast.specs.Tree.{NamedLayout, NamedTypes, named_type_and, FunTree, DeclTree, LayoutDecl, ExceptionDecl, GroupDecl, ProgramTree}
-use Rattle.nv_ast.specs.Outline.{Layouts, outline}
+use Rattle.nv_ast.specs.Tree.{NamedLayout, NamedTypes, named_type_and, FunTree, ProgramTree}
+use Rattle.nv_ast.specs.Outline.{outline}
 use Rattle.nv_ast.specs.Types.{named_types_of}
 use Rattle.nv_values.specs.Values.{Word, Truth, Tuple, Record, Values, no_values, value_and, NamedValues, no_named_values, named_value_and, named_values_from, Scope, variable_in, word_of, truth_of, fields_of, field_named, words_of, all_matched, matched}
 pub use Rattle.nv_values.specs.Operators.{combined, shifted}
-use Rattle.nv_meaning.specs.Packing.{unpacked_value, packed_value}
+pub use Rattle.nv_values.specs.Declarations.{Declared, with_decl, with_decls, declared, function_in, groups_from, group_in}
+use Rattle.nv_values.specs.Packing.{unpacked_value, packed_value}
 use Rattle.nv_values.specs.Running.{Chain, Running, Result, Gives, Raises, Halts, Results, GiveAll, NamedResults, GiveNamed, Stated, GoesOn, and_then, and_all, and_named, and_stated, and_further, then_more, then_named, then_stated, before_rest, before_named, handled, exception_number, fetch, store, taken, calling, back_to, TracedOutcome, closed, untraced}
 
 -- ---- operators: the left operand first; && and || evaluate the right one only where it decides
@@ -21,30 +22,6 @@ abbrev pub binary : Op → Result → (Running → Result) → Result
 binary Both left right = and_then left (λ v now. if truth_of v then right now else Gives (Truth false) now)
 binary Either left right = and_then left (λ v now. if truth_of v then Gives (Truth true) now else right now)
 binary op left right = and_then left (λ v now. and_then (right now) (λ w last. Gives (combined op (word_of v) (word_of w)) last))
-
--- ---- what a program declares
-
--- the layouts and the names of the exceptions, in order, and all functions
-pub record Declared : Type 0 where
-  pub layouts : Layouts
-  pub exceptions : List (List ℕ)
-  pub functions : List FunTree
-
-abbrev pub with_decl : Declared → DeclTree → Declared
-with_decl d (LayoutDecl x l s) = record d { layouts = d.layouts ++ (x, outline d.layouts l) ∷ [] }
-with_decl d (ExceptionDecl x ts s) = record d { exceptions = d.exceptions ++ x ∷ [] }
-with_decl d (GroupDecl fs) = record d { functions = d.functions ++ fs }
-
-abbrev pub with_decls : Declared → List DeclTree → Declared
-with_decls d [] = d
-with_decls d (decl ∷ decls) = with_decls (with_decl d decl) decls
-
-abbrev pub declared : ProgramTree → Declared
-declared t = with_decls (record { layouts = []; exceptions = []; functions = [] }) t.decls
-
-abbrev pub function_in : List FunTree → List ℕ → Option FunTree
-function_in [] x = None
-function_in (f ∷ fs) x = if bytes_eq x f.name then Some f else function_in fs x
 
 -- ---- expressions
 
@@ -104,17 +81,6 @@ entered _ _ scope = scope
 abbrev pub enter : Declared → Calls → Option FunTree → Values → Running → Result
 enter d call (Some f) vs now = eval d call f.body (entered f.params vs []) now
 enter d call None vs now = Halts outcome.Going now
-
--- the number of a function's group, where groups are numbered in order and each function has its group's number
-abbrev pub groups_from : ℕ → List DeclTree → List ℕ
-groups_from n [] = []
-groups_from n (LayoutDecl x l s ∷ ds) = groups_from n ds
-groups_from n (ExceptionDecl x ts s ∷ ds) = groups_from n ds
-groups_from n (GroupDecl fs ∷ ds) = replicate (length fs) n ++ groups_from (suc n) ds
-
-abbrev pub group_in : List FunTree → List ℕ → List ℕ → ℕ
-group_in (g ∷ gs) (n ∷ ns) f = if bytes_eq f g.name then n else group_in gs ns f
-group_in _ _ f = 0
 
 -- calls that lie at most so deep in one another. The n calls of a run are counted in the run itself, wherever they stand,
 -- and n calls never lie deeper than n. While a body runs, its function is among the calls in progress.

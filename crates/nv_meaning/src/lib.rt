@@ -2,7 +2,6 @@
 #![tactic(auto)]
 
 mod arguments;
-mod grouping;
 pub mod laws;
 mod memory;
 mod pack;
@@ -10,11 +9,7 @@ mod parts;
 mod program;
 mod run;
 mod scope;
-mod sizes;
 mod step;
-mod table;
 mod unpack;
 
-pub use grouping::groups;
 pub use program::{exec, traced};
-pub use table::Table;

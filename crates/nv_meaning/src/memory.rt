@@ -9,10 +9,9 @@ ghost use Rattle.nv_meaning.specs.Meaning.{Declared};
 ghost use Rattle.nv_meaning.specs.inner.Ran.{at as moment, RanScope};
 
 use crate::parts::words_in;
-use call_trace::Notes;
 use nv_ast::Span;
 use nv_base::{Access, Mem, Packet, Words, Write};
-use nv_values::{Interruption, Value, can_move};
+use nv_values::{Interruption, Notes, Value, can_move};
 use std::alloc::Global;
 
 /// Stores the words of a value from an address on, and notes the write.

@@ -6,17 +6,16 @@ ghost use Rattle.nv_ast.specs.Outline.{outline, outlines, field_outline, field_o
 ghost use Rattle.nv_ast.specs.Tree.{NamedLayout};
 ghost use Rattle.nv_ast.specs.Types.{packed_words as size_words};
 ghost use Rattle.nv_values.specs.Values.{word_of, fields_of, field_named};
-ghost use Rattle.nv_meaning.specs.Packing.{packed_value, bits_of, parts_bits, chosen_bits, joined_bits, words_of_bits};
+ghost use Rattle.nv_values.specs.Packing.{packed_value, bits_of, parts_bits, chosen_bits, joined_bits, words_of_bits};
 ghost use Rattle.nv_meaning.specs.inner.Blanks.{IsBlankFrom};
-ghost use Rattle.nv_meaning.specs.inner.TableView.{declared_in};
+ghost use Rattle.nv_values.specs.inner.TableView.{declared_in};
 ghost use Rattle.nv_values.specs.inner.View.{view, list_named_values};
 
 use crate::parts::find;
-use crate::table::Table;
 use nv_ast::{FieldText, LayoutText, Name};
 use nv_base::NoMemory;
 use nv_layout::{Field as BitField, insert};
-use nv_values::{Field, Value, value_of_words};
+use nv_values::{Field, Table, Value, value_of_words};
 use std::alloc::Global;
 
 // A layout of more bits has more words than memory holds.

@@ -8,7 +8,7 @@ ghost use Rattle.nv_values.specs.Running.{Running, Gives, Raises, and_then, and_
 ghost use Rattle.nv_meaning.specs.Meaning.{Calls, eval as evaluated, eval_all, eval_named, run_one, run_all, binary as binary_of};
 ghost use Rattle.nv_meaning.specs.inner.Operand.{made_of as made, decided_by, joined_by};
 ghost use Rattle.nv_values.specs.inner.View.{view, list_values, scope_of, Extends};
-ghost use Rattle.nv_meaning.specs.inner.TableView.{declared_in};
+ghost use Rattle.nv_values.specs.inner.TableView.{declared_in};
 ghost use Rattle.nv_meaning.specs.inner.Ran.{at, RanStep, RanValue, RanValues, RanFields, RanScope, RanCall, IsStep, IsValue};
 
 use crate::memory::stored;
@@ -16,13 +16,12 @@ use crate::pack::packed;
 use crate::parts::field_in;
 use crate::scope::{Scope, bind, bind_all, enter, variable};
 use crate::step::Step;
-use crate::table::Table;
 use crate::unpack::unpacked;
-use call_trace::Notes;
 use nv_ast::{Expr, Kind, Name, Op, Pat, Span, Stmt};
 use nv_base::{Mem, Packet, word};
 use nv_values::{
-    Field, Interruption, Value, combined, fetched, is_true, shifted, truth_in, word_in,
+    Field, Interruption, Notes, Table, Value, combined, fetched, is_true, shifted, truth_in,
+    word_in,
 };
 use std::alloc::Global;
 

@@ -6,11 +6,11 @@ use Rattle.line_text.specs.Format.{IsText, IsFormat}
 use Rattle.line_text.proofs.SplitLaws.{lines_one, split_one, text_of-cons}
 use Rattle.line_text.proofs.FormatLaws.{no_text, one_fault}
 use Rattle.nv_base.specs.Memories.{Memories, blank, first_too_large}
+use Rattle.nv_base.specs.MemoryNames.{memory_name}
 use Rattle.nv_memtext.specs.declared.line.Stretch.{Stretch}
 use Rattle.nv_memtext.specs.declared.read.Job.{Job}
 use Rattle.nv_memtext.specs.declared.read.MemError.{MemError}
 use Rattle.nv_memtext.specs.declared.read.MemError.TheVariants.{NoMemory, Bad, TooLarge}
-use Rattle.nv_memtext.specs.Spelling.{name_of}
 use Rattle.nv_memtext.specs.MemoryText.{SpellsSizes, SpellsArgs, SpellsStretch, SpellStretches, stretched, IsMemoryText, IsWhole, IsFront, nothing, one_line, lines, IsTooLarge, IsBad, Gives}
 use Rattle.nv_memtext.specs.Answer.{IsTrueError, AnswersJob, AnswersBad, AnswersTooLarge}
 use Rattle.nv_memtext.specs.inner.Reading.{HasFirst}
@@ -23,7 +23,7 @@ stretch_ext s t h = λ j. record { mem = h.mem_is j; at = h.at_is j; words = h.w
 
 stretch_one : (sram sdram : ℕ) (line : List ℕ) (s t : Stretch) → sram ≤ 65536 → sdram ≤ 65536 → SpellsStretch sram sdram line s → SpellsStretch sram sdram line t → s ≡ t
 stretch_one sram sdram line s t a b h k =
-    stretch_ext s t (stretch_is line (name_of t.mem) (decimal t.at ∷ k.parts) k.parts t.mem t.at t.words sram sdram a b (stretch_parts line sram sdram t a b k) refl (at_small t.mem t.at (length t.words) sram sdram a b k.inside) refl k.words s h)
+    stretch_ext s t (stretch_is line (memory_name t.mem) (decimal t.at ∷ k.parts) k.parts t.mem t.at t.words sram sdram a b (stretch_parts line sram sdram t a b k) refl (at_small t.mem t.at (length t.words) sram sdram a b k.inside) refl k.words s h)
 
 stretches_one : (sram sdram : ℕ) (ls : List (List ℕ)) (ss ts : List Stretch) → sram ≤ 65536 → sdram ≤ 65536 → SpellStretches sram sdram ls ss → SpellStretches sram sdram ls ts → ss ≡ ts
 stretches_one sram sdram [] [] [] a b h k = refl

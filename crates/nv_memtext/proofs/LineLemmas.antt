@@ -8,7 +8,8 @@ use Rattle.line_text.proofs.NumberLemmas.{decimal_one}
 use Rattle.nv_base.specs.declared.term.Mem.{Mem}
 use Rattle.nv_base.specs.declared.term.Mem.TheVariants.{Sram, Sdram, Scratch}
 use Rattle.nv_base.specs.Memories.{IsAccess, first_word}
-use Rattle.nv_memtext.specs.Spelling.{name_of, SpellWords}
+use Rattle.nv_base.specs.MemoryNames.{memory_name}
+use Rattle.nv_memtext.specs.Spelling.{SpellWords}
 use Rattle.nv_memtext.specs.Places.{room}
 use Rattle.nv_memtext.specs.MemoryText.{SpellsSizes, SpellsArgs, SpellsStretch}
 use Rattle.nv_memtext.specs.declared.line.Stretch.{Stretch}
@@ -38,13 +39,13 @@ sdram_access n some few even = (n / 2, omega arith, omega arith, omega arith)
 pub sdram_even : (n : ℕ) → IsAccess Sdram n → n % 2 ≡ 0
 sdram_even n h = omega (arith, h.1)
 
-pub name_lacks : (m : Mem) → Lacks 32 (name_of m)
+pub name_lacks : (m : Mem) → Lacks 32 (memory_name m)
 name_lacks Sram = Lacks-test 32 (codes "sram") refl
 name_lacks Sdram = Lacks-test 32 (codes "sdram") refl
 name_lacks Scratch = Lacks-test 32 (codes "scratch") refl
 
 -- a name is that of one memory
-pub name_one : (m n : Mem) → name_of m ≡ name_of n → m ≡ n
+pub name_one : (m n : Mem) → memory_name m ≡ memory_name n → m ≡ n
 name_one Sram Sram e = refl
 name_one Sram Sdram e = absurd (omega (arith, ap length e))
 name_one Sram Scratch e = absurd (omega (arith, ap length e))
@@ -60,10 +61,10 @@ at_small Sram at n sram sdram a b h = omega arith
 at_small Sdram at n sram sdram a b h = omega arith
 at_small Scratch at n sram sdram a b h = omega arith
 
-pub stretch_parts : (line : List ℕ) (sram sdram : ℕ) (s : Stretch) → sram ≤ 65536 → sdram ≤ 65536 → (h : SpellsStretch sram sdram line s) → parts line ≡ name_of s.mem ∷ decimal s.at ∷ h.parts
+pub stretch_parts : (line : List ℕ) (sram sdram : ℕ) (s : Stretch) → sram ≤ 65536 → sdram ≤ 65536 → (h : SpellsStretch sram sdram line s) → parts line ≡ memory_name s.mem ∷ decimal s.at ∷ h.parts
 stretch_parts line sram sdram s a b h =
     let small = at_small s.mem s.at (length s.words) sram sdram a b h.inside in
-    ap parts h.spelled ∙ parts-parted (name_of s.mem) (decimal s.at ∷ h.parts)
+    ap parts h.spelled ∙ parts-parted (memory_name s.mem) (decimal s.at ∷ h.parts)
     (name_lacks s.mem, (Lacks-decimal 32 s.at (lit≤ tt) (omega arith), SpellWords-lack 32 h.parts s.words (lit≤ tt) h.words))
 
 -- no number after the name
@@ -85,10 +86,10 @@ pub record IsOne (s : Stretch) (mem : Mem) (at : ℕ) (words : List ℕ) : Type 
   pub at_is : s.at ≡ at
   pub words_is : s.words ≡ words
 
-pub stretch_is : (line name : List ℕ) (new new' : List (List ℕ)) (mem : Mem) (at : ℕ) (words : List ℕ) (sram sdram : ℕ) → sram ≤ 65536 → sdram ≤ 65536 → parts line ≡ name ∷ new → name ≡ name_of mem → at ≤ 9999999999 → new ≡ decimal at ∷ new' → SpellWords new' words → (s : Stretch) → SpellsStretch sram sdram line s → IsOne s mem at words
+pub stretch_is : (line name : List ℕ) (new new' : List (List ℕ)) (mem : Mem) (at : ℕ) (words : List ℕ) (sram sdram : ℕ) → sram ≤ 65536 → sdram ≤ 65536 → parts line ≡ name ∷ new → name ≡ memory_name mem → at ≤ 9999999999 → new ≡ decimal at ∷ new' → SpellWords new' words → (s : Stretch) → SpellsStretch sram sdram line s → IsOne s mem at words
 stretch_is line name new new' mem at words sram sdram a b e named small e' spell s h =
     let f = stretch_parts line sram sdram s a b h in
-    let name_same : name_of s.mem ≡ name_of mem = cc (e, f, named) in
+    let name_same : memory_name s.mem ≡ memory_name mem = cc (e, f, named) in
     let at_same : decimal s.at ≡ decimal at = cc (e, e', f) in
     let parts_same : h.parts ≡ new' = cc (e, e', f) in
     record {
@@ -125,9 +126,9 @@ pub if_none : {X : Type 0} (r : Option X) {P Q : Type 0} → (P → Q) → IfNon
 if_none None f h = f h
 if_none (Some x) f h = tt
 
-pub stretch_from_parts : (line name : List ℕ) (new new' : List (List ℕ)) (mem : Mem) (at : ℕ) (words : List ℕ) (sram sdram : ℕ) → parts line ≡ name ∷ new → name ≡ name_of mem → new ≡ decimal at ∷ new' → SpellWords new' words → IsAccess mem (length words) → first_word mem at + length words ≤ room sram sdram mem → SpellsStretch sram sdram line (record { mem = mem; at = at; words = words })
+pub stretch_from_parts : (line name : List ℕ) (new new' : List (List ℕ)) (mem : Mem) (at : ℕ) (words : List ℕ) (sram sdram : ℕ) → parts line ≡ name ∷ new → name ≡ memory_name mem → new ≡ decimal at ∷ new' → SpellWords new' words → IsAccess mem (length words) → first_word mem at + length words ≤ room sram sdram mem → SpellsStretch sram sdram line (record { mem = mem; at = at; words = words })
 stretch_from_parts line name new new' mem at words sram sdram e named e' spell access inside =
-    let all : parts line ≡ name_of mem ∷ decimal at ∷ new' = cc (e, e', named) in
+    let all : parts line ≡ memory_name mem ∷ decimal at ∷ new' = cc (e, e', named) in
     record { parts = new'; spelled = sym (parted-parts line) ∙ ap parted all; words = spell; number = access; inside = inside }
 
 pub args_one : (line vs ws : List ℕ) → SpellsArgs line vs → SpellsArgs line ws → vs ≡ ws

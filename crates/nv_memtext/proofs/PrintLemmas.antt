@@ -10,7 +10,7 @@ use Rattle.line_text.specs.Line.{text_of, parted}
 use Rattle.line_text.specs.Number.{hex_word}
 use Rattle.line_text.proofs.SplitLaws.{parted-cons, text_of-append}
 use Rattle.nv_base.specs.declared.term.Mem.{Mem}
-use Rattle.nv_memtext.specs.Spelling.{name_of}
+use Rattle.nv_base.specs.MemoryNames.{memory_name}
 use Rattle.nv_memtext.specs.Places.{stretch_start}
 use Rattle.nv_memtext.specs.OutcomeText.{stretch_line, stretch_lines, stretch_words, numbers_below}
 
@@ -40,10 +40,10 @@ pub join5 : (i j k l m n a b c d e : List ℕ) → j ≡ i ++ a → k ≡ j ++ b
 join5 i j k l m n a b c d e p q r s t = join2 i j n a (b ++ (c ++ (d ++ e))) p (join4 j k l m n b c d e q r s t)
 
 -- the pieces of a stretch's line
-pub stretch_pieces : (m : Mem) (at : ℕ) (ws : List ℕ) → name_of m ++ (32 ∷ (decimal at ++ (flat_map (λ w. 32 ∷ hex_word w) ws ++ 10 ∷ []))) ≡ stretch_line m at ws ++ 10 ∷ []
+pub stretch_pieces : (m : Mem) (at : ℕ) (ws : List ℕ) → memory_name m ++ (32 ∷ (decimal at ++ (flat_map (λ w. 32 ∷ hex_word w) ws ++ 10 ∷ []))) ≡ stretch_line m at ws ++ 10 ∷ []
 stretch_pieces m at ws =
-    ap (λ t. name_of m ++ (32 ∷ t)) (sym (append_assoc (decimal at) (flat_map (λ w. 32 ∷ hex_word w) ws) (10 ∷ [])) ∙ ap (λ t. t ++ 10 ∷ []) (sym (words_line (decimal at) ws)))
-    ∙ sym (append_assoc (name_of m) (32 ∷ parted (decimal at ∷ map hex_word ws)) (10 ∷ []))
+    ap (λ t. memory_name m ++ (32 ∷ t)) (sym (append_assoc (decimal at) (flat_map (λ w. 32 ∷ hex_word w) ws) (10 ∷ [])) ∙ ap (λ t. t ++ 10 ∷ []) (sym (words_line (decimal at) ws)))
+    ∙ sym (append_assoc (memory_name m) (32 ∷ parted (decimal at ∷ map hex_word ws)) (10 ∷ []))
 
 pub listed_pieces : (p : List ℕ) (ws : List ℕ) → p ++ (flat_map (λ w. 32 ∷ hex_word w) ws ++ 10 ∷ []) ≡ parted (p ∷ map hex_word ws) ++ 10 ∷ []
 listed_pieces p ws = sym (append_assoc p (flat_map (λ w. 32 ∷ hex_word w) ws) (10 ∷ [])) ∙ ap (λ t. t ++ 10 ∷ []) (sym (words_line p ws))

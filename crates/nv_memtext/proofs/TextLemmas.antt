@@ -9,10 +9,10 @@ use Rattle.line_text.proofs.SplitLaws.{split_one, text_of-push, text_of-cons, La
 use Rattle.line_text.proofs.NumberLaws.{Lacks-decimal}
 use Rattle.line_text.proofs.NumberLemmas.{decimal_one}
 use Rattle.nv_base.specs.Memories.{Memories, blank, first_too_large, stored, words_at}
+use Rattle.nv_base.specs.MemoryNames.{memory_name}
 use Rattle.nv_base.specs.declared.term.Mem.{Mem}
 use Rattle.nv_base.specs.declared.term.Mem.TheVariants.{Sram, Sdram, Scratch}
 use Rattle.nv_memtext.specs.declared.line.Stretch.{Stretch}
-use Rattle.nv_memtext.specs.Spelling.{name_of}
 use Rattle.nv_memtext.specs.Places.{room}
 use Rattle.nv_memtext.specs.MemoryText.{SpellsSizes, SpellsArgs, SpellsStretch, SpellStretches, stretched, IsMemoryText, IsTooLarge, Gives}
 use Rattle.nv_memtext.specs.inner.Reading.{HasFirst, HasLines, HasLengths}
@@ -40,7 +40,7 @@ args_lack line args h =
     subst (Lacks 10) (sym h.spelled)
     (Lacks-parted 10 (codes "args" ∷ h.parts) (λ e. omega (arith, e)) (Lacks-test 10 (codes "args") refl, SpellWords-lack 10 h.parts args (lit≤ tt) h.words))
 
-name_lacks_feed : (m : Mem) → Lacks 10 (name_of m)
+name_lacks_feed : (m : Mem) → Lacks 10 (memory_name m)
 name_lacks_feed Sram = Lacks-test 10 (codes "sram") refl
 name_lacks_feed Sdram = Lacks-test 10 (codes "sdram") refl
 name_lacks_feed Scratch = Lacks-test 10 (codes "scratch") refl
@@ -49,7 +49,7 @@ pub stretch_lack : (sram sdram : ℕ) (line : List ℕ) (s : Stretch) → sram �
 stretch_lack sram sdram line s a b h =
     let small = at_small s.mem s.at (length s.words) sram sdram a b h.inside in
     subst (Lacks 10) (sym h.spelled)
-    (Lacks-parted 10 (name_of s.mem ∷ decimal s.at ∷ h.parts) (λ e. omega (arith, e))
+    (Lacks-parted 10 (memory_name s.mem ∷ decimal s.at ∷ h.parts) (λ e. omega (arith, e))
     (name_lacks_feed s.mem, (Lacks-decimal 10 s.at (lit≤ tt) (omega arith), SpellWords-lack 10 h.parts s.words (lit≤ tt) h.words)))
 
 pub stretches_lack : (sram sdram : ℕ) (ls : List (List ℕ)) (ss : List Stretch) → sram ≤ 65536 → sdram ≤ 65536 → SpellStretches sram sdram ls ss → AllLack 10 ls

@@ -3,9 +3,10 @@ use Rattle.std.specs.Prelude.{◌≡◌, ℕ, ◌+◌, ◌^◌, ◌<◌, ◌≤�
 use Rattle.line_text.specs.Line.{text_of, parted}
 use Rattle.line_text.specs.Format.{FirstFault}
 use Rattle.nv_base.specs.Memories.{Memories, IsAccess, blank, first_too_large, first_word, stored}
+use Rattle.nv_base.specs.MemoryNames.{memory_name}
 use Rattle.nv_memtext.specs.declared.line.Stretch.{Stretch}
 use Rattle.nv_memtext.specs.Places.{room}
-use Rattle.nv_memtext.specs.Spelling.{name_of, SpellWords}
+use Rattle.nv_memtext.specs.Spelling.{SpellWords}
 
 -- line 1: `memory`, the words of SRAM and the quadwords of SDRAM, each of at most ten digits
 pub record SpellsSizes (line : List ℕ) (sram sdram : ℕ) : Type 0 where
@@ -23,7 +24,7 @@ pub record SpellsArgs (line : List ℕ) (args : List ℕ) : Type 0 where
 -- each further line: the memory's name, the address, and 1 to 8 words, at SDRAM an even number, inside the memory
 pub record SpellsStretch (sram sdram : ℕ) (line : List ℕ) (s : Stretch) : Type 0 where
   pub parts : List (List ℕ)
-  pub spelled : line ≡ parted (name_of s.mem ∷ decimal s.at ∷ parts)
+  pub spelled : line ≡ parted (memory_name s.mem ∷ decimal s.at ∷ parts)
   pub words : SpellWords parts s.words
   pub number : IsAccess s.mem (length s.words)
   pub inside : first_word s.mem s.at + length s.words ≤ room sram sdram s.mem

@@ -5,28 +5,28 @@ use Rattle.line_text.specs.Line.{text_of, parted}
 use Rattle.line_text.specs.Number.{hex_word}
 use Rattle.nv_base.specs.Log.{Log}
 use Rattle.nv_base.specs.Memories.{Memories, source_scratch}
+use Rattle.nv_base.specs.MemoryNames.{memory_name}
 use Rattle.nv_base.specs.declared.outcome.Outcome.{Outcome}
 use Rattle.nv_base.specs.declared.outcome.Outcome.TheVariants.{Ended, Raised, Fault, Going}
 use Rattle.nv_base.specs.declared.outcome.Write.{Write}
 use Rattle.nv_base.specs.declared.term.Mem.{Mem}
 use Rattle.nv_base.specs.declared.term.Mem.TheVariants.{Sram, Sdram, Scratch}
 use Rattle.nv_memtext.specs.Places.{stretch_start}
-use Rattle.nv_memtext.specs.Spelling.{name_of}
 
 -- how the run stands
 abbrev pub outcome_line : Outcome → List ℕ
 outcome_line (Ended ws) = parted (codes "ended" ∷ map hex_word ws)
 outcome_line (Raised k ws) = parted (codes "raised" ∷ decimal k ∷ map hex_word ws)
-outcome_line (Fault m at) = parted (codes "fault" ∷ name_of m ∷ decimal at ∷ [])
+outcome_line (Fault m at) = parted (codes "fault" ∷ memory_name m ∷ decimal at ∷ [])
 outcome_line Going = codes "going"
 
 -- a write: its memory, its first address and its words
 abbrev pub write_line : Write → List ℕ
-write_line w = parted (codes "write" ∷ name_of w.mem ∷ decimal w.at ∷ map hex_word w.words)
+write_line w = parted (codes "write" ∷ memory_name w.mem ∷ decimal w.at ∷ map hex_word w.words)
 
 -- words from an address of a memory on
 abbrev pub stretch_line : Mem → ℕ → List ℕ → List ℕ
-stretch_line m at ws = parted (name_of m ∷ decimal at ∷ map hex_word ws)
+stretch_line m at ws = parted (memory_name m ∷ decimal at ∷ map hex_word ws)
 
 -- the numbers below n, rising
 abbrev pub numbers_below : ℕ → List ℕ

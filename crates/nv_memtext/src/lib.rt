@@ -12,7 +12,7 @@ mod stretch;
 mod words;
 
 pub use access::{is_access, is_inside};
-pub use print::{memory_name, print_named, print_outcome, push_packet, push_run, push_words};
+pub use print::{print_named, print_outcome, push_packet, push_run, push_words};
 pub use read::{Job, MemError, read_memory};
 pub use size::{Sizes, too_large};
 pub use stretch::start;

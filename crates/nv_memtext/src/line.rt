@@ -1,9 +1,7 @@
 //! The lines of a memory text, each by itself.
 
-ghost use Rattle.std.specs.Prelude.{◌≡◌, ◌≢◌, ◌<◌, ◌≤◌, ℕ, List, IfSome, IfNone, MatchOption};
+ghost use Rattle.std.specs.Prelude.{◌≤◌, ℕ, List, IfSome, IfNone};
 ghost use Rattle.nv_base.specs.Memories.{size_limit};
-ghost use Rattle.nv_base.specs.declared.term.Mem.{Mem};
-ghost use Rattle.nv_memtext.specs.Spelling.{name_of};
 ghost use Rattle.nv_memtext.specs.MemoryText.{SpellsSizes, SpellsArgs, SpellsStretch};
 ghost use Rattle.nv_memtext.specs.declared.line.Stretch.{Stretch};
 
@@ -53,18 +51,6 @@ pub fn args_of(line: &[u8]) -> Option<Words>
     words_of(parts)
 }
 
-/// The memory of this name.
-fn memory_of(name: &[u8]) -> Option<Mem>
-    ensures { MatchOption result ((m : Mem) → name.now ≢ name_of m) (λ m. name.now ≡ name_of m) }
-{
-    match name {
-        b"sram" => Some(Mem::Sram),
-        b"sdram" => Some(Mem::Sdram),
-        b"scratch" => Some(Mem::Scratch),
-        _ => None,
-    }
-}
-
 /// The stretch of a further line.
 pub fn stretch_of(line: &[u8], sizes: &Sizes) -> Option<Stretch>
     requires sram { sizes.now.sram ≤ size_limit }
@@ -73,7 +59,7 @@ pub fn stretch_of(line: &[u8], sizes: &Sizes) -> Option<Stretch>
     ensures none { IfNone result ((s : Stretch) → ¬ SpellsStretch sizes.now.sram sizes.now.sdram line.now s) }
 {
     let mut parts = Parts::of(line);
-    let mem = memory_of(parts.next_part()?)?;
+    let mem = Mem::of_name(parts.next_part()?)?;
     let at = parts.next_decimal(TEN_DIGITS)?;
     let words = words_of(parts)?;
     let count = words.list().len();

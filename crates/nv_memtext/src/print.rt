@@ -4,27 +4,16 @@ ghost use Rattle.std.specs.Prelude.{◌≡◌, ◌+◌, ◌*◌, ◌/◌, ◌<�
 ghost use Rattle.std.specs.List.{flat_map, list_all};
 ghost use Rattle.line_text.specs.Line.{text_of};
 ghost use Rattle.line_text.specs.Number.{hex_word};
-ghost use Rattle.nv_memtext.specs.Spelling.{name_of};
+ghost use Rattle.nv_base.specs.MemoryNames.{memory_name};
 ghost use Rattle.nv_memtext.specs.OutcomeText.{outcome_line, write_line, stretch_line, stretch_lines, memory_lines, sizes_line, log_lines, packet_lines, state_lines, run_lines, name_lines, outcome_text, named_text};
 
 use crate::stretch::start;
-use line_text::{push_decimal, push_word};
+use line_text::{push_counted, push_decimal, push_word};
 use nv_base::{Mem, NoMemory, Outcome, Packet, SOURCE_SCRATCH, Write, WriteLog};
 use std::alloc::{AllocError, Global};
 
 /// How many writes an outcome text shows.
 const SHOWN: usize = 64;
-
-/// The name of a memory.
-pub fn memory_name(mem: Mem) -> &'static [u8]
-    ensures { result.now ≡ name_of mem }
-{
-    match mem {
-        Mem::Sram => b"sram",
-        Mem::Sdram => b"sdram",
-        Mem::Scratch => b"scratch",
-    }
-}
 
 /// Writes words, each after a space.
 pub fn push_words(out: &mut Vec<u8>, words: &[u32]) -> Result<(), AllocError>
@@ -41,20 +30,10 @@ pub fn push_words(out: &mut Vec<u8>, words: &[u32]) -> Result<(), AllocError>
 fn push_stretch(out: &mut Vec<u8>, mem: Mem, at: u64, words: &[u32]) -> Result<(), AllocError>
     ensures { OnOk result (out.new.items ≡ out.old.items ++ (stretch_line mem at words.now ++ 10 ∷ [])) }
 {
-    out.extend_from_slice(memory_name(mem))?;
+    out.extend_from_slice(mem.name())?;
     out.push(b' ')?;
     push_decimal(out, at)?;
     push_words(out, words)?;
-    out.push(b'\n')?;
-    Ok(())
-}
-
-/// Writes a line of this text and a number.
-fn push_counted(out: &mut Vec<u8>, text: &[u8], n: u64) -> Result<(), AllocError>
-    ensures { OnOk result (out.new.items ≡ out.old.items ++ (text.now ++ (decimal n ++ 10 ∷ []))) }
-{
-    out.extend_from_slice(text)?;
-    push_decimal(out, n)?;
     out.push(b'\n')?;
     Ok(())
 }
@@ -82,10 +61,10 @@ fn push_raised(out: &mut Vec<u8>, number: u16, words: &[u32]) -> Result<(), Allo
 
 /// Writes the line of an access that reached past a memory.
 fn push_fault(out: &mut Vec<u8>, mem: Mem, at: u64) -> Result<(), AllocError>
-    ensures { OnOk result (out.new.items ≡ out.old.items ++ (codes "fault " ++ (name_of mem ++ (32 ∷ (decimal at ++ 10 ∷ []))))) }
+    ensures { OnOk result (out.new.items ≡ out.old.items ++ (codes "fault " ++ (memory_name mem ++ (32 ∷ (decimal at ++ 10 ∷ []))))) }
 {
     out.extend_from_slice(b"fault ")?;
-    out.extend_from_slice(memory_name(mem))?;
+    out.extend_from_slice(mem.name())?;
     push_counted(out, b" ", at)
 }
 

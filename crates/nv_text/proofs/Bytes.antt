@@ -6,7 +6,7 @@ use Rattle.std.proofs.lemmas.Slice.Eq.{bytes_eq-Decides}
 use Rattle.std.proofs.lemmas.List.Sums.{passes_at_first}
 use Rattle.std.proofs.lemmas.Bool.{and_parts}
 use Rattle.std.proofs.lemmas.Bool.Decides.{nat_tests}
-use Rattle.nv_ast.specs.Name.{IsLetter, IsDigit, Letters, IsWord}
+use Rattle.nv_base.specs.Name.{IsLetter, IsDigit, Letters, IsWord}
 use Rattle.nv_text.specs.declared.spelling.Class.TheVariants.{Word as WordClass}
 use Rattle.nv_text.specs.Tables.{keywords, signs}
 use Rattle.nv_text.specs.inner.Classes.{in_class, starts_word}

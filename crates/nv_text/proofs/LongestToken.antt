@@ -3,7 +3,7 @@ use Rattle.std.proofs.Common.{◌≡◌, ℕ, zero, suc, ◌+◌, ◌≤◌, ◌
 use Rattle.std.specs.Prelude.{Some, None}
 use Rattle.std.specs.List.{prefix_len}
 use Rattle.std.proofs.lemmas.List.Sums.{prefix_len-le-length}
-use Rattle.nv_ast.specs.Name.{IsWord}
+use Rattle.nv_base.specs.Name.{IsWord}
 use Rattle.nv_ast.specs.declared.token.Sort.{Sort}
 use Rattle.nv_ast.specs.declared.token.Sort.TheVariants.{Word, Number, Key, Sign}
 use Rattle.nv_text.specs.declared.spelling.Class.TheVariants.{Word as WordClass}

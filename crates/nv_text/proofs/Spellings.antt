@@ -2,7 +2,7 @@
 use Rattle.std.proofs.Common.{◌≡◌, ℕ, Bool, true, false, List, [], ◌∷◌, refl}
 use Rattle.std.specs.Prelude.{Some, ◌&&◌, codes}
 use Rattle.std.proofs.lemmas.Bool.{and_parts}
-use Rattle.nv_ast.specs.Name.{IsWord}
+use Rattle.nv_base.specs.Name.{IsWord}
 use Rattle.nv_text.specs.inner.Classes.{starts_word}
 use Rattle.nv_text.specs.Spelling.{Every, keyword_of, sign_of}
 use Rattle.nv_text.specs.Spelt.{AreSpelt, spelt_keywords, spelt_signs, spelt_operators}

@@ -2,7 +2,7 @@
 use Rattle.std.specs.Prelude.{◌≡◌, ℕ, ◌+◌, ◌-◌, ◌*◌, ◌≤◌, ◌<◌, ◌^◌, List, [], ◌∷◌, length, Bool, true, ◌||◌, ◌&&◌, nat_le, cond, Option, Some, None, position, bytes_eq}
 use Rattle.nv_ast.specs.declared.token.Sort.{Sort}
 use Rattle.nv_ast.specs.declared.token.Sort.TheVariants.{Word, Number, Key, Sign}
-use Rattle.nv_ast.specs.Name.{IsWord}
+use Rattle.nv_base.specs.Name.{IsWord}
 use Rattle.nv_text.specs.Tables.{keywords, signs}
 
 -- each byte passes the test

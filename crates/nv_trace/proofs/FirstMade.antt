@@ -3,9 +3,9 @@ use Rattle.std.proofs.Common.{◌≡◌, ℕ, suc, ◌+◌, ◌-◌, ◌<◌, �
 use Rattle.std.proofs.lemmas.List.{append-nil, length-append}
 use Rattle.nv_base.specs.Meanings.{is_source_write, source_writes}
 use Rattle.nv_values.specs.Running.{Made, plain}
-use Rattle.call_trace.specs.Chains.{made_in}
-use Rattle.call_trace.specs.declared.trace.Made as code
-use Rattle.call_trace.specs.Notes.{Trail, no_trail, traced_all, source_made}
+use Rattle.nv_values.specs.Chains.{made_in}
+use Rattle.nv_values.specs.declared.trace.Made as code
+use Rattle.nv_values.specs.Notes.{Trail, no_trail, traced_all, source_made}
 
 abbrev trail : ℕ → List Made → ℕ → Trail
 trail keep kept count = record { keep = keep; kept = kept; count = count }

@@ -7,12 +7,12 @@ use Rattle.std.proofs.lemmas.List.{map-append, take-map, take-take, take_all, dr
 use Rattle.line_text.specs.Line.{text_of}
 use Rattle.line_text.specs.LineColumn.{line_at}
 use Rattle.nv_ast.proofs.Items.{next_item}
-use Rattle.call_trace.specs.Chains.{made_in}
-use Rattle.call_trace.specs.declared.trace.Made as code
+use Rattle.nv_values.specs.Chains.{made_in}
+use Rattle.nv_values.specs.declared.trace.Made as code
 use Rattle.nv_values.specs.Running.{Made}
 use Rattle.nv_base.specs.declared.term.Mem.{Mem}
 use Rattle.line_text.specs.Number.{hex_word}
-use Rattle.nv_memtext.specs.Spelling.{name_of}
+use Rattle.nv_base.specs.MemoryNames.{memory_name}
 use Rattle.nv_memtext.specs.OutcomeText.{write_line}
 use Rattle.nv_memtext.proofs.PrintLemmas.{join3, words_line}
 use Rattle.nv_trace.specs.TraceText.{made_line, up_to_line, shown, trace_text}
@@ -67,8 +67,8 @@ pub lines-text : (source : List ℕ) (chains : List (List (List ℕ))) (made : L
 lines-text source chains [] = refl
 lines-text source chains (m ∷ ms) = ap (λ l. (made_line source (made_in chains m) ++ 10 ∷ []) ++ l) (lines-text source chains ms)
 
-pub write-pieces : (m : Mem) (at : ℕ) (ws : List ℕ) → codes "write " ++ (name_of m ++ (32 ∷ (decimal at ++ flat_map (λ w. 32 ∷ hex_word w) ws))) ≡ write_line (record { mem = m; at = at; words = ws })
-write-pieces m at ws = ap (λ t. codes "write " ++ (name_of m ++ (32 ∷ t))) (sym (words_line (decimal at) ws))
+pub write-pieces : (m : Mem) (at : ℕ) (ws : List ℕ) → codes "write " ++ (memory_name m ++ (32 ∷ (decimal at ++ flat_map (λ w. 32 ∷ hex_word w) ws))) ≡ write_line (record { mem = m; at = at; words = ws })
+write-pieces m at ws = ap (λ t. codes "write " ++ (memory_name m ++ (32 ∷ t))) (sym (words_line (decimal at) ws))
 
 -- ---- the whole text
 take-min : {A : Type 0} (xs : List A) (most n : ℕ) → n ≡ min most (length xs) → take most xs ≡ take n xs

@@ -5,8 +5,8 @@ mod lines;
 mod text;
 mod unlike;
 
-pub use call_trace::{Made, Trace};
 pub use lines::line_of;
 pub use nv_meaning::traced;
+pub use nv_values::{Made, Trace};
 pub use text::trace_text;
 pub use unlike::compare;

@@ -3,16 +3,16 @@
 ghost use Rattle.std.specs.Prelude.{◌≡◌, ◌-◌, ◌<◌, ◌≤◌, ◌^◌, ◌++◌, ◌∷◌, List, ℕ, [], length, map, take, IfOk, OnOk};
 ghost use Rattle.std.specs.List.{flat_map};
 ghost use Rattle.line_text.specs.LineColumn.{line_at};
-ghost use Rattle.call_trace.specs.Chains.{made_in, trail_of};
+ghost use Rattle.nv_values.specs.Chains.{made_in, trail_of};
 ghost use Rattle.nv_memtext.specs.OutcomeText.{write_line};
 ghost use Rattle.nv_trace.specs.TraceText.{made_line, up_to_line, shown, trace_text as text_of_writes};
 
 use crate::lines::line_of;
-use call_trace::{Made, Trace};
 use line_text::push_decimal;
 use nv_ast::{Name, Span};
 use nv_base::{NoMemory, Write};
-use nv_memtext::{memory_name, push_words};
+use nv_memtext::push_words;
+use nv_values::{Made, Trace};
 use std::alloc::{AllocError, Global};
 
 /// The text of the first writes of a trace of this source, at most so many; where a line is given,
@@ -117,7 +117,7 @@ fn push_write(text: &mut Vec<u8>, write: &Write) -> Result<(), AllocError>
     ensures { OnOk result (text.new.items ≡ text.old.items ++ write_line write.now) }
 {
     text.extend_from_slice(b"write ")?;
-    text.extend_from_slice(memory_name(write.mem))?;
+    text.extend_from_slice(write.mem.name())?;
     text.push(b' ')?;
     push_decimal(text, u64::from(write.at))?;
     push_words(text, write.words.list())?;

@@ -3,8 +3,8 @@
 ghost use Rattle.std.specs.Prelude.{◌≡◌, ◌↔◌, IsTrue, IfSome, IfNone, map};
 ghost use Rattle.nv_trace.specs.Unlike.{IsFirstUnlike, AgreeAsFar};
 
-use call_trace::Trace;
 use nv_base::{Write, WriteLog};
+use nv_values::Trace;
 
 /// The first place that both keep at which their writes differ.
 pub fn compare(t: &Trace, log: &WriteLog) -> Option<u32>

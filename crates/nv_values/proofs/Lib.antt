@@ -3,3 +3,9 @@ pub mod Rows
 pub mod Access
 pub mod Shifts
 pub mod Numbers
+pub mod NameIndices
+pub mod Sizing
+pub mod Unpacking
+pub mod Grouped
+pub mod Trails
+pub mod Above

@@ -1,4 +1,9 @@
 pub mod Values
 pub mod Operators
 pub mod Running
+pub mod Declarations
+pub mod Packing
+pub mod Notes
+pub mod Chains
+pub mod Callers
 pub mod inner

@@ -8,7 +8,7 @@ use Rattle.std.proofs.lemmas.Str.Parse.{digit_at}
 use Rattle.line_text.proofs.NumberLemmas.{own}
 use Rattle.nv_ast.specs.declared.token.Token.{Token}
 use Rattle.nv_ast.specs.declared.token.Sort.TheVariants.{Word, Key}
-use Rattle.nv_ast.specs.Name.{IsWord}
+use Rattle.nv_base.specs.Name.{IsWord}
 use Rattle.nv_ast.specs.Tokens.{at}
 use Rattle.nv_text.specs.Program.{IsTextOf}
 use Rattle.nv_text.specs.Spelling.{Every, keyword_of, sign_of as sign_with}

@@ -6,7 +6,7 @@ use Rattle.std.proofs.Math.Seq.{take-append_seam, drop-append_seam}
 use Rattle.std.proofs.lemmas.Bool.{both_ways}
 use Rattle.nv_ast.specs.declared.token.Token.{Token}
 use Rattle.nv_ast.specs.declared.token.Sort.TheVariants.{Word, Key, Sign}
-use Rattle.nv_ast.specs.Name.{IsWord}
+use Rattle.nv_base.specs.Name.{IsWord}
 use Rattle.nv_ast.specs.Tokens.{at}
 use Rattle.nv_text.specs.inner.Classes.{starts_word}
 use Rattle.nv_text.specs.inner.Front.{First, LongestSign, NoSignOf}

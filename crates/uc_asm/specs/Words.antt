@@ -1,7 +1,6 @@
 -- How instructions are written: the words of each, and the ranges of what they name.
 use Rattle.std.specs.Prelude.{ℕ, ◌<◌, ◌^◌, List, [], ◌∷◌, ◌++◌, codes, decimal, ⊤}
-use Rattle.nv_base.specs.declared.term.Mem.{Mem}
-use Rattle.nv_base.specs.declared.term.Mem.TheVariants.{Sram, Sdram, Scratch}
+pub use Rattle.nv_base.specs.MemoryNames.{memory_name}
 use Rattle.nv_base.specs.declared.term.Bin.{Bin}
 use Rattle.nv_base.specs.declared.term.Bin.TheVariants.{Add, Sub, And, Or, Xor}
 use Rattle.uc_isa.specs.declared.instruction.Src.{Src}
@@ -56,11 +55,6 @@ condition_name Z = codes "Z"
 condition_name NZ = codes "NZ"
 condition_name C = codes "C"
 condition_name NC = codes "NC"
-
-abbrev pub memory_name : Mem → List ℕ
-memory_name Sram = codes "sram"
-memory_name Sdram = codes "sdram"
-memory_name Scratch = codes "scratch"
 
 -- a place of the code
 abbrev pub register_name : ℕ → List ℕ

@@ -82,17 +82,6 @@ fn binary_of(name: &[u8]) -> Option<Bin>
     }
 }
 
-fn memory_of(name: &[u8]) -> Option<Mem>
-    ensures { MatchOption result ((m : Mem) → name.now ≢ memory_name m) (λ m. name.now ≡ memory_name m) }
-{
-    match name {
-        b"sram" => Some(Mem::Sram),
-        b"sdram" => Some(Mem::Sdram),
-        b"scratch" => Some(Mem::Scratch),
-        _ => None,
-    }
-}
-
 /// Takes the next part, an operand.
 pub fn next_source(parts: &mut Parts) -> Option<Src>
     ensures { MatchOption result ((x : Src) (ps : List (List ℕ)) → IsSource x → parts.old ≢ source_name x ∷ ps) (λ x. IsSource x × (parts.old ≡ source_name x ∷ parts.new)) }
@@ -125,7 +114,7 @@ pub fn next_binary(parts: &mut Parts) -> Option<Bin>
 pub fn next_memory(parts: &mut Parts) -> Option<Mem>
     ensures { MatchOption result ((m : Mem) (ps : List (List ℕ)) → parts.old ≢ memory_name m ∷ ps) (λ m. parts.old ≡ memory_name m ∷ parts.new) }
 {
-    memory_of(parts.next_part()?)
+    Mem::of_name(parts.next_part()?)
 }
 
 // The shift of this name and count.

@@ -73,7 +73,7 @@ pub fn push_access(
     ensures { OnOk result (out.new.items ≡ out.old.items ++ (kind.now ++ flat_map (λ w. 32 ∷ w) (memory_name mem ∷ decimal r ∷ decimal n ∷ address_name x ∷ decimal off ∷ []))) }
 {
     out.extend_from_slice(kind)?;
-    push_word(out, memory(mem))?;
+    push_word(out, mem.name())?;
     push_number(out, u64::from(r))?;
     push_number(out, u64::from(n))?;
     push_address(out, x)?;
@@ -176,15 +176,5 @@ fn condition(cond: Cond) -> &'static [u8]
         Cond::NZ => b"NZ",
         Cond::C => b"C",
         Cond::NC => b"NC",
-    }
-}
-
-fn memory(mem: Mem) -> &'static [u8]
-    ensures { result.now ≡ memory_name mem }
-{
-    match mem {
-        Mem::Sram => b"sram",
-        Mem::Sdram => b"sdram",
-        Mem::Scratch => b"scratch",
     }
 }

@@ -4,7 +4,7 @@ use Rattle.std.specs.Int.{from_le_bytes, to_le_bytes, w32}
 use Rattle.std.proofs.lemmas.Bool.Decides.{nat_tests}
 use Rattle.std.proofs.lemmas.List.{take_at, drop_at, get_or_append_left, take-replicate, length-take-le}
 use Rattle.std.proofs.Math.Seq.{take-append-add}
-use Rattle.nv_ast.specs.Name.{Letters, IsWord, IsName}
+use Rattle.nv_base.specs.Name.{Letters, IsWord, IsName}
 use Rattle.uc_object.specs.declared.byte_set.Column.{Column}
 use Rattle.uc_object.specs.declared.byte_set.Column.TheVariants.{Between, First, Further}
 use Rattle.uc_object.specs.Columns.{Allows, Fit, IsFault, IsExceptionFault, exception_columns, name_columns, any}

@@ -1,6 +1,6 @@
 -- Which bytes may stand at each place of an object, by the bytes before it.
 use Rattle.std.specs.Prelude.{◌≡◌, ◌==◌, ℕ, zero, suc, ◌+◌, ◌<◌, ◌≤◌, ◌⊎◌, List, [], ◌∷◌, nat_lt, nat_le, min, replicate, slice_index, if◌then◌else◌}
-use Rattle.nv_ast.specs.Name.{IsLetter, IsDigit}
+use Rattle.nv_base.specs.Name.{IsLetter, IsDigit}
 use Rattle.uc_object.specs.declared.byte_set.Column.{Column}
 use Rattle.uc_object.specs.declared.byte_set.Column.TheVariants.{Between, Source, Target, First, Further}
 

@@ -1,7 +1,7 @@
 -- Objects: which bytes stand for a code, alone or with the names of its exceptions and the starts of its labels.
 use Rattle.std.specs.Prelude.{◌≡◌, ℕ, zero, suc, ◌+◌, ◌<◌, ◌≤◌, ◌^◌, List, [], ◌∷◌, ◌++◌, Option, None, codes, length, take, slice_get}
 use Rattle.std.specs.Int.{to_le_bytes, w32}
-use Rattle.nv_ast.specs.Name.{IsName}
+use Rattle.nv_base.specs.Name.{IsName}
 use Rattle.uc_isa.specs.Code.{CodeView, IsCode}
 use Rattle.uc_object.specs.Rows.{IsRow}
 use Rattle.uc_object.specs.Tagged.{TaggedView, IsTagged}

@@ -3,13 +3,13 @@ ghost use Rattle.std.specs.Prelude.{◌≡◌, ◌<◌, ◌≤◌, ◌^◌, All,
 ghost use Rattle.uc_object.specs.Tagged.{IsTagged};
 ghost use Rattle.uc_object.specs.Object.{code_of, exception_of};
 
-use nv_ast::Name;
+use nv_base::Name;
 use std::marker::Model;
 use uc_isa::Code;
 
 /// The name of an exception: 1 to 64 bytes, a letter or `_` and then letters, digits and `_`. A source has its names in
 /// the same form.
-pub use nv_ast::Name as Tag;
+pub use nv_base::Name as Tag;
 
 /// Code, the line and the name of each of its exceptions from number 1 on, and the places where its labels start: at most
 /// 65,535 exceptions and 2^20 starts. Contracts see it as the three.

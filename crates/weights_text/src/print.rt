@@ -1,23 +1,13 @@
 // Counts, printed.
 
-ghost use Rattle.std.specs.Prelude.{◌≡◌, ◌<◌, ◌≤◌, ◌^◌, ◌++◌, ◌∷◌, [], All, map, take, length, decimal, OnOk, IfOk};
+ghost use Rattle.std.specs.Prelude.{◌≡◌, ◌<◌, ◌≤◌, ◌^◌, ◌++◌, All, map, take, length, OnOk, IfOk};
 ghost use Rattle.line_text.specs.Line.{text_of};
 ghost use Rattle.weights_text.specs.WeightsText.{count_line, weights_text, count_limit};
 
 use crate::read::COUNT_LIMIT;
-use line_text::push_decimal;
+use line_text::push_counted;
 use nv_base::NoMemory;
 use std::alloc::{AllocError, Global};
-
-// Writes a line of this text and a number.
-fn push_counted(out: &mut Vec<u8>, text: &[u8], n: u64) -> Result<(), AllocError>
-    ensures { OnOk result (out.new.items ≡ out.old.items ++ (text.now ++ (decimal n ++ 10 ∷ []))) }
-{
-    out.extend_from_slice(text)?;
-    push_decimal(out, n)?;
-    out.push(b'\n')?;
-    Ok(())
-}
 
 // Writes the lines of these counts.
 fn push_counts(out: &mut Vec<u8>, counts: &[u64]) -> Result<(), AllocError>

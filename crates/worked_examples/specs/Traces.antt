@@ -5,7 +5,7 @@ use Rattle.nv_base.specs.declared.outcome.Write.{Write}
 use Rattle.nv_base.specs.declared.term.Mem.{Mem}
 use Rattle.nv_base.specs.declared.term.Mem.TheVariants.{Sram, Sdram, Scratch}
 use Rattle.nv_values.specs.Running.{Made}
-use Rattle.call_trace.specs.Notes.{source_made}
+use Rattle.nv_values.specs.Notes.{source_made}
 use Rattle.nv_trace.specs.TraceText.{shown, trace_text}
 use Rattle.nv_trace.specs.Unlike.{AgreeAsFar, IsFirstUnlike}
 

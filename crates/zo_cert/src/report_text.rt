@@ -12,11 +12,10 @@ ghost use Rattle.zo_cert.specs.ReportText.{ones_from, x_line, verdict_lines, rep
 
 use crate::fits::nodes_fit;
 use crate::report::{Report, Verdict};
-use line_text::push_decimal;
+use line_text::{push_counted, push_decimal};
 use std::alloc::{AllocError, Global};
 use zo_model::{NoMemory, cost, push_program};
 use zo_proof::CertNode;
-use zo_proof::multipliers::push_counted;
 use zo_proof::node_text::push_node;
 
 /// Writes a line for each node.

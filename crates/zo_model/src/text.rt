@@ -10,18 +10,10 @@ ghost use Rattle.zo_model.specs.ProgramText.{columns_line, rows_line, cost_line,
 
 use crate::error::{NoMemory, ZoError};
 use crate::program::{Row, ZeroOne};
-use line_text::{Lines, Parts, push_decimal, push_signed, read_decimal, read_signed, split_once};
+use line_text::{
+    Lines, Parts, push_counted, push_decimal, push_signed, read_decimal, read_signed, split_once,
+};
 use std::alloc::{AllocError, Global};
-
-/// Writes a line of this text and a number.
-fn push_counted(out: &mut Vec<u8>, text: &[u8], n: u64) -> Result<(), AllocError>
-    ensures { OnOk result (out.new.items ≡ out.old.items ++ (text.now ++ (decimal n ++ 10 ∷ []))) }
-{
-    out.extend_from_slice(text)?;
-    push_decimal(out, n)?;
-    out.push(b'\n')?;
-    Ok(())
-}
 
 /// Writes a term after a space.
 fn push_term(out: &mut Vec<u8>, term: &(u32, i32)) -> Result<(), AllocError>

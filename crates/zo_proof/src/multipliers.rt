@@ -1,6 +1,6 @@
 //! The multipliers of a node in a text, read and written.
 
-ghost use Rattle.std.specs.Prelude.{◌≡◌, ◌++◌, ◌∷◌, [], ℕ, List, decimal, IfSome, IfNone, IfOk, OnOk};
+ghost use Rattle.std.specs.Prelude.{◌≡◌, ◌++◌, ◌∷◌, [], ℕ, List, IfSome, IfNone, IfOk, OnOk};
 ghost use Rattle.std.specs.List.{flat_map};
 ghost use Rattle.zo_proof.specs.Node.{multiplier_text};
 ghost use Rattle.zo_proof.specs.inner.NodeLine.{IsMultiplier, SpellMultipliers};
@@ -47,16 +47,6 @@ pub fn multipliers_of(alloc: Global, parts: Parts) -> Result<Option<Vec<(u32, u3
         multipliers.push((row, multiplier))?;
     }
     Ok(Some(multipliers))
-}
-
-/// Writes a line of this text and a number.
-pub fn push_counted(out: &mut Vec<u8>, text: &[u8], n: u64) -> Result<(), AllocError>
-    ensures { OnOk result (out.new.items ≡ out.old.items ++ (text.now ++ (decimal n ++ 10 ∷ []))) }
-{
-    out.extend_from_slice(text)?;
-    push_decimal(out, n)?;
-    out.push(b'\n')?;
-    Ok(())
 }
 
 /// Writes a multiplier after a space.

@@ -5,8 +5,8 @@ ghost use Rattle.std.specs.List.{flat_map};
 ghost use Rattle.zo_proof.specs.Node.{multiplier_text, node_contents, node_line};
 
 use crate::cert::CertNode;
-use crate::multipliers::{push_counted, push_multipliers};
-use line_text::push_decimal;
+use crate::multipliers::push_multipliers;
+use line_text::{push_counted, push_decimal};
 use std::alloc::AllocError;
 
 /// Writes the line of a bound.

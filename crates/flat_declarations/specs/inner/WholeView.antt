@@ -2,7 +2,7 @@
 use Rattle.std.specs.Prelude.{map}
 use Rattle.nv_ast.specs.Types.{types_of}
 use Rattle.nv_ast.specs.TypeView.{list_types}
-use Rattle.nv_meaning.specs.inner.TableView.{declared_in}
+use Rattle.nv_values.specs.inner.TableView.{declared_in}
 use Rattle.flat_declarations.specs.declared.source.Source.{Source}
 use Rattle.flat_values.specs.inner.Whole.{Whole}
 

@@ -8,7 +8,7 @@ use Rattle.nv_ast.specs.Scope.{Signature, signature, Known, callable, Context}
 pub use Rattle.nv_meaning.specs.Meaning.{groups_from}
 use Rattle.nv_meaning.specs.Meaning.{Declared, declared, function_in}
 use Rattle.nv_meaning.specs.Running.{exception_number}
-use Rattle.nv_meaning.specs.inner.Tables.{place_from}
+use Rattle.nv_values.specs.inner.Tables.{place_from}
 use Rattle.flat_values.specs.inner.Symbols.{SymbolScope, vars_of}
 
 -- the layouts, exceptions and functions; the types of each exception's values; and the number of each function's group

@@ -6,8 +6,7 @@ use Rattle.nv_base.specs.declared.term.Atom.{Atom}
 use Rattle.nv_base.specs.declared.term.Atom.TheVariants.{Var, Lit}
 use Rattle.nv_base.specs.declared.term.Primitive.{Primitive}
 use Rattle.nv_base.specs.declared.term.Cmp.{Cmp}
-use Rattle.nv_base.specs.declared.term.Cmp.TheVariants.{Eq, Ne, Lt, Ge}
-use Rattle.nv_base.specs.Words.{word, compares}
+use Rattle.nv_base.specs.Words.{word, compares, negated}
 use Rattle.flow_ir.specs.Tree.{Tree, Let, Read, Write, If, Jump, Halt, Label}
 use Rattle.cps_rules.specs.Substitution.{Names, renamed, all_renamed, prim_renamed}
 
@@ -40,13 +39,6 @@ abbrev pub folded : Cmp → Atom → Atom → Option Bool
 folded c (Lit v) (Lit w) = Some (compares c (word v) (word w))
 folded c (Lit v) (Var y) = None
 folded c (Var x) b = None
-
--- the comparison that holds where this one doesn't
-abbrev pub negated : Cmp → Cmp
-negated Eq = Ne
-negated Ne = Eq
-negated Lt = Ge
-negated Ge = Lt
 
 -- ---- copies
 

@@ -1,4 +1,6 @@
 use Rattle.std.proofs.Common.{◌≡◌, ◌∙◌, ◌≤◌, ◌<◌, ◌+◌, [], refl, ap, subst, length, arith, option_map, take}
+use Rattle.nv_base.specs.Words.{compares}
+use Rattle.nv_base.proofs.WordLemmas.{negated_compares}
 use Rattle.nv_ast.specs.ExprView.{tree_of, list_trees, list_named_trees, list_statements, statement_tree}
 use Rattle.nv_ast.specs.PatternView.{pattern_tree, list_patterns}
 use Rattle.nv_meaning.specs.inner.Weight.{weight, weight_statement, weight_all, weight_named, weight_statements}
@@ -478,7 +480,7 @@ pub endings::condition-returns-in-Truth : goal.endings::condition-returns-in-Tru
 endings::condition-returns-in-Truth t c = record { flat = c.truth.ensures.flat c.in-Truth.ensures.1; scope = c.truth.ensures.scope; names = c.truth.ensures.names; later = c.truth.ensures.later }
 
 pub endings::condition-returns-in-Ok-clause-flat : goal.endings::condition-returns-in-Ok-clause-flat
-endings::condition-returns-in-Ok-clause-flat t c = test-tree _ _ _ _ _ _ _ _ _ _ _ _ c.in-Negate.ensures.1 (negate-test-flat _ _ _ _ _ _ _ _ _ c.in-Ok.found.cmp _ _ _ c.turned.ensures c.in-Ok.ensures.flat)
+endings::condition-returns-in-Ok-clause-flat t c = test-tree _ _ _ _ _ _ _ _ _ _ _ _ c.in-Negate.ensures.1 (negate-test-flat _ _ _ _ _ _ _ _ _ c.in-Ok.found.cmp _ _ _ (λ i j. ap (λ k. compares k i j) c.negated.ensures ∙ negated_compares c.in-Ok.found.cmp i j) c.in-Ok.ensures.flat)
 
 pub endings::condition-condition-requires : goal.endings::condition-condition-requires
 endings::condition-condition-requires t c = (let w : weight (tree_of c.args.e.now) ≡ 1 + weight (tree_of c.in-Paren.a.now) = ap (λ t. weight t) c.in-Paren.ensures.1 in let r : condition_rank (tree_of c.in-Paren.a.now) < 6 = condition_rank-small (tree_of c.in-Paren.a.now) in omega (arith, w, r, c.decreases), tt)

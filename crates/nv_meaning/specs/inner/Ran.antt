@@ -7,9 +7,9 @@ use Rattle.nv_base.specs.declared.error.NoMemory as base
 use Rattle.nv_base.specs.Memories.{Memories}
 use Rattle.nv_base.specs.Log.{Log, noted_all}
 use Rattle.nv_base.specs.Meanings.{source_writes, left_by}
-use Rattle.call_trace.specs.Notes.{Notes, Knows, traced_all, source_made}
-use Rattle.call_trace.specs.Callers.{IsAbove}
-use Rattle.call_trace.specs.Chains.{Kept, trail_of}
+use Rattle.nv_values.specs.Notes.{Notes, Knows, traced_all, source_made}
+use Rattle.nv_values.specs.Callers.{IsAbove}
+use Rattle.nv_values.specs.Chains.{Kept, trail_of}
 use Rattle.nv_values.specs.Values.{Values, Word, Tuple, Record, Scope}
 use Rattle.nv_values.specs.Running.{Chain, Made, plain, Running, TracedOutcome, Result, Gives, Results, GiveAll, Breaks, NamedResults, GiveNamed, BreaksNamed, Stated, GoesOn, StopsAt}
 use Rattle.nv_meaning.specs.Meaning.{Declared, Calls, calls_within}

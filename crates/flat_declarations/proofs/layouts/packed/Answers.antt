@@ -3,8 +3,8 @@ use Rattle.std.proofs.lemmas.Result.{IfOk-weaker}
 use Rattle.nv_ast.specs.Tree.{NamedLayout}
 use Rattle.nv_ast.specs.Outline.{OutlineTree, outline, size, IsSound}
 use Rattle.nv_ast.specs.Types.{form_of, can_pack}
-use Rattle.nv_meaning.specs.inner.TableView.{declared_in}
-use Rattle.nv_meaning.proofs.NameIndices.{all-laid}
+use Rattle.nv_values.specs.inner.TableView.{declared_in}
+use Rattle.nv_values.proofs.NameIndices.{all-laid}
 use Rattle.flat_values.specs.inner.Symbols.{form, operands}
 use Rattle.flat_values.specs.inner.View.{view}
 use Rattle.flat_values.specs.inner.Small.{PacksFew}

@@ -1,8 +1,8 @@
 use Rattle.std.proofs.Common.{ap, take, length}
 use Rattle.nv_ast.specs.LayoutView.{layout_tree}
 use Rattle.nv_ast.specs.Outline.{outline, bit_fields}
-use Rattle.nv_meaning.specs.inner.Tables.{layout_pairs}
-use Rattle.nv_meaning.specs.inner.TableView.{declared_in}
+use Rattle.nv_values.specs.inner.Tables.{layout_pairs}
+use Rattle.nv_values.specs.inner.TableView.{declared_in}
 use Rattle.nv_meaning.proofs.Records.{layout-record}
 use Rattle.flat_values.specs.inner.View.{view, list_named_symbols}
 use Rattle.flat_values.specs.declared.symbol.Symbol as code

@@ -2,8 +2,8 @@ use Rattle.std.proofs.Common.{◌≡◌, ◌∙◌, ◌*◌, ap, sym, subst, len
 use Rattle.std.proofs.lemmas.Result.{IfOk-weaker}
 use Rattle.nv_ast.specs.Tree.{NamedLayout}
 use Rattle.nv_ast.specs.Outline.{OutlineTree, outline, bit_fields}
-use Rattle.nv_meaning.specs.inner.TableView.{declared_in}
-use Rattle.nv_meaning.proofs.NameIndices.{all-laid}
+use Rattle.nv_values.specs.inner.TableView.{declared_in}
+use Rattle.nv_values.proofs.NameIndices.{all-laid}
 use Rattle.flat_values.specs.inner.View.{view}
 use Rattle.flat_values.specs.declared.symbol.Symbol as code
 use Rattle.flat_values.specs.inner.Reads.{Unpacks}

@@ -4,7 +4,7 @@ use Rattle.nv_base.specs.declared.term.Atom.TheVariants.{Lit}
 use Rattle.nv_ast.specs.LayoutView.{layout_tree}
 use Rattle.nv_ast.specs.Outline.{outline}
 use Rattle.nv_ast.specs.Types.{packed_words}
-use Rattle.nv_meaning.specs.inner.TableView.{declared_in}
+use Rattle.nv_values.specs.inner.TableView.{declared_in}
 use Rattle.nv_meaning.proofs.Writing.{back-all, bits-within}
 use Rattle.flat_values.specs.inner.Symbols.{words_symbol, value_in}
 use Rattle.flat_values.specs.inner.View.{view}

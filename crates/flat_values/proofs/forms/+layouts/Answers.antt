@@ -4,9 +4,9 @@ use Rattle.nv_ast.specs.LayoutView.{layout_tree, field_tree, list_fields, list_l
 use Rattle.nv_ast.specs.Outline.{PartsOutline, JoinedOutline, OverlayOutline, outline, outlines, field_outline, field_outlines, outline_height}
 use Rattle.nv_ast.specs.Types.{words, total_named_words, unpacked, unpacked_all, form_of, forms_of, joined_forms, record_forms}
 use Rattle.nv_ast.proofs.Reading.{parts_is, joined_is, overlay_is}
-use Rattle.nv_meaning.specs.inner.TableView.{declared_in}
-use Rattle.nv_meaning.specs.inner.Tables.{layout_pairs}
-use Rattle.nv_meaning.proofs.Unpacking.{alias-low, highest_named_within, highest_within}
+use Rattle.nv_values.specs.inner.TableView.{declared_in}
+use Rattle.nv_values.specs.inner.Tables.{layout_pairs}
+use Rattle.nv_values.proofs.Unpacking.{alias-low, highest_named_within, highest_within}
 use Rattle.flat_values.specs.inner.Fields.{◌++_symbols◌}
 use Rattle.flat_values.specs.inner.Symbols.{Record, fresh, named_fresh, numbers_from}
 use Rattle.flat_values.specs.inner.View.{list_named_symbols}

@@ -2,8 +2,8 @@ use Rattle.std.proofs.Common.{◌≡◌, ◌+◌, ◌*◌, ◌≤◌, ◌++◌, 
 use Rattle.nv_ast.specs.LayoutView.{layout_tree, field_tree, list_fields, list_layouts}
 use Rattle.nv_ast.specs.Outline.{outline, outlines, field_outline, field_outlines, outline_height, highest_outline, highest_named_outline}
 use Rattle.nv_ast.specs.Types.{total_named_words, unpacked_all, forms_of, joined_forms}
-use Rattle.nv_meaning.specs.inner.TableView.{declared_in}
-use Rattle.nv_meaning.proofs.Unpacking.{alias_rank}
+use Rattle.nv_values.specs.inner.TableView.{declared_in}
+use Rattle.nv_values.proofs.Unpacking.{alias_rank}
 use Rattle.flat_values.specs.inner.Fields.{◌++_symbols◌}
 use Rattle.flat_values.specs.inner.Symbols.{named_fresh, numbers_from}
 use Rattle.flat_values.specs.inner.View.{list_named_symbols}

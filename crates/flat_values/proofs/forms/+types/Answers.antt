@@ -3,7 +3,7 @@ use Rattle.std.proofs.lemmas.List.{drop_all}
 use Rattle.nv_ast.specs.Types.{type_of, types_of, named_types_of, words, total_words, total_named_words}
 use Rattle.nv_ast.specs.TypeView.{type_tree, list_types, list_named_types}
 use Rattle.nv_ast.proofs.Reading.{tuple_type_is, record_type_is}
-use Rattle.nv_meaning.specs.inner.TableView.{declared_in}
+use Rattle.nv_values.specs.inner.TableView.{declared_in}
 use Rattle.flat_values.specs.inner.Symbols.{Tuple, Record, fresh, all_fresh, named_fresh, numbers_from}
 use Rattle.flat_values.specs.inner.View.{view}
 use Rattle.flat_values.proofs.Listing.{tuple-view, record-view, numbers-turn, symbols-turn, symbols-done, fields-turn, fields-done}

@@ -1,7 +1,7 @@
 use Rattle.std.proofs.Common.{◌≡◌, ◌+◌, ◌≤◌, ◌++◌, drop}
 use Rattle.nv_ast.specs.Types.{types_of, named_types_of, total_words, total_named_words}
 use Rattle.nv_ast.specs.TypeView.{list_types, list_named_types}
-use Rattle.nv_meaning.specs.inner.TableView.{declared_in}
+use Rattle.nv_values.specs.inner.TableView.{declared_in}
 use Rattle.flat_values.specs.inner.Fields.{◌++_symbols◌}
 use Rattle.flat_values.specs.inner.Symbols.{all_fresh, named_fresh, numbers_from}
 use Rattle.flat_values.specs.inner.View.{list_symbols, list_named_symbols}

@@ -2,8 +2,8 @@ use Rattle.std.proofs.Common.{◌∙◌, ◌+◌, ◌++◌, ap, sym, take}
 use Rattle.nv_ast.specs.LayoutView.{layout_tree}
 use Rattle.nv_ast.specs.Outline.{outline}
 use Rattle.nv_ast.specs.Types.{words, unpacked, unpacked_all, record_forms}
-use Rattle.nv_meaning.specs.inner.TableView.{declared_in}
-use Rattle.nv_meaning.specs.inner.Tables.{layout_pairs}
+use Rattle.nv_values.specs.inner.TableView.{declared_in}
+use Rattle.nv_values.specs.inner.Tables.{layout_pairs}
 use Rattle.flat_values.specs.inner.Fields.{◌++_symbols◌}
 use Rattle.flat_values.specs.inner.Symbols.{Record, fresh, named_fresh, numbers_from}
 use Rattle.flat_values.specs.inner.View.{list_named_symbols}

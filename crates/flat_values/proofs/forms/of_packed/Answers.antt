@@ -2,7 +2,7 @@ use Rattle.std.proofs.Common.{◌≡◌, ◌+◌, ◌/◌, ◌++◌, subst, arit
 use Rattle.nv_ast.specs.Tree.{NamedLayout}
 use Rattle.nv_ast.specs.Outline.{outline, size}
 use Rattle.nv_ast.specs.Types.{words, words_ty}
-use Rattle.nv_meaning.specs.inner.TableView.{declared_in}
+use Rattle.nv_values.specs.inner.TableView.{declared_in}
 use Rattle.flat_values.specs.inner.Symbols.{fresh, numbers_from}
 use Rattle.flat_values.specs.inner.View.{view}
 use Rattle.flat_values.proofs.forms.of_packed.Goals as goal

@@ -2,7 +2,7 @@ use Rattle.std.proofs.Common.{◌≡◌, ◌∙◌, ◌+◌, ◌++◌, ap, sym, 
 use Rattle.nv_ast.specs.Tree.{NamedLayout}
 use Rattle.nv_ast.specs.Outline.{outline}
 use Rattle.nv_ast.specs.Types.{words, unpacked, form_of, unpacked_ty}
-use Rattle.nv_meaning.proofs.NameIndices.{all-laid}
+use Rattle.nv_values.proofs.NameIndices.{all-laid}
 use Rattle.flat_values.specs.inner.Symbols.{Record, fresh, numbers_from}
 use Rattle.flat_values.specs.inner.View.{view, list_named_symbols}
 use Rattle.flat_values.proofs.Listing.{record-view}

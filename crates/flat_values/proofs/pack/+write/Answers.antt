@@ -12,8 +12,8 @@ use Rattle.nv_ast.proofs.Reading.{parts_is, joined_is, overlay_is}
 use Rattle.nv_layout.proofs.BitLists.{length-bits}
 use Rattle.nv_meaning.specs.Values.{Value, word_of, field_named, fields_of}
 use Rattle.nv_meaning.specs.Packing.{bits_of, parts_bits, chosen_bits, joined_bits}
-use Rattle.nv_meaning.specs.inner.TableView.{declared_in}
-use Rattle.nv_meaning.proofs.Unpacking.{FieldItem, alias_rank, alias-low, alias-none, total_named_within, longest_within, highest_named_within, total_within, highest_within}
+use Rattle.nv_values.specs.inner.TableView.{declared_in}
+use Rattle.nv_values.proofs.Unpacking.{FieldItem, alias_rank, alias-low, alias-none, total_named_within, longest_within, highest_named_within, total_within, highest_within}
 use Rattle.nv_meaning.proofs.Writing.{parts_bits-more, joined_bits-more, chosen-turn, parts-within, joined-within, behind-more}
 use Rattle.nv_meaning.proofs.Bindings.{if-true, if-false}
 use Rattle.flat_ir.specs.declared.spine.Step.{Step}

@@ -4,8 +4,8 @@ use Rattle.nv_ast.specs.LayoutView.{layout_tree, field_tree, list_fields, list_l
 use Rattle.nv_ast.specs.Outline.{outline, outlines, field_outline, field_outlines, outline_height, highest_outline, highest_named_outline, AllSound, AllNamedSound}
 use Rattle.nv_meaning.specs.Values.{fields_of}
 use Rattle.nv_meaning.specs.Packing.{parts_bits, joined_bits, chosen_bits}
-use Rattle.nv_meaning.specs.inner.TableView.{declared_in}
-use Rattle.nv_meaning.proofs.Unpacking.{alias_rank}
+use Rattle.nv_values.specs.inner.TableView.{declared_in}
+use Rattle.nv_values.proofs.Unpacking.{alias_rank}
 use Rattle.flat_values.specs.inner.Reads.{Writes}
 use Rattle.flat_values.specs.inner.Symbols.{value_in, fields_of as symbols_of}
 use Rattle.flat_values.specs.inner.View.{view}

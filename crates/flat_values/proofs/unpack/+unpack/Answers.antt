@@ -10,10 +10,10 @@ use Rattle.nv_ast.specs.Types.{form_of, forms_of, joined_forms, record_forms}
 use Rattle.nv_ast.proofs.Reading.{parts_is, joined_is, overlay_is}
 use Rattle.nv_meaning.specs.Values.{Word, fields_of, named_value_and, no_named_values}
 use Rattle.nv_meaning.specs.Packing.{value_at, parts_at, alternatives_at, joined_at}
-use Rattle.nv_meaning.specs.inner.TableView.{declared_in}
-use Rattle.nv_meaning.specs.inner.Tables.{layout_pairs}
+use Rattle.nv_values.specs.inner.TableView.{declared_in}
+use Rattle.nv_values.specs.inner.Tables.{layout_pairs}
 use Rattle.nv_meaning.proofs.Records.{layout-record}
-use Rattle.nv_meaning.proofs.Unpacking.{FieldItem, alias-low, total_named_more, longest_more, highest_named_within, total_more, highest_within}
+use Rattle.nv_values.proofs.Unpacking.{FieldItem, alias-low, total_named_more, longest_more, highest_named_within, total_more, highest_within}
 use Rattle.flat_values.specs.inner.Symbols.{NamedSymbols, no_named_symbols, named_symbol_and, named_operands}
 use Rattle.flat_values.specs.inner.View.{list_named_symbols}
 use Rattle.flat_values.specs.inner.Reads.{◌++_symbols◌, Reads, ReadsRecord, ReadsField}

@@ -5,8 +5,8 @@ use Rattle.nv_ast.specs.LayoutView.{layout_tree, field_tree, list_fields, list_l
 use Rattle.nv_ast.specs.Outline.{outline, outlines, field_outline, field_outlines, total_size, total_named_size, longest, part_fields, alternative_fields, joined_fields, outline_height, highest_outline, highest_named_outline}
 use Rattle.nv_ast.specs.Types.{forms_of, joined_forms}
 use Rattle.nv_meaning.specs.Packing.{parts_at, alternatives_at, joined_at}
-use Rattle.nv_meaning.specs.inner.TableView.{declared_in}
-use Rattle.nv_meaning.proofs.Unpacking.{alias_rank}
+use Rattle.nv_values.specs.inner.TableView.{declared_in}
+use Rattle.nv_values.proofs.Unpacking.{alias_rank}
 use Rattle.flat_values.specs.inner.Reads.{Reads}
 use Rattle.flat_values.specs.inner.View.{list_named_symbols}
 use Rattle.flat_values.specs.inner.Adds.{AddsFields}

@@ -2,7 +2,7 @@ use Rattle.std.proofs.Common.{◌∙◌, ℕ, List, sym, ap, subst, length, take
 use Rattle.std.proofs.lemmas.Result.{err_from_is_err_and}
 use Rattle.nv_base.specs.declared.outcome.Write.{Write}
 use Rattle.nv_ast.specs.TypedView.{typed_program}
-use Rattle.call_trace.specs.Chains.{trail_of}
+use Rattle.nv_values.specs.Chains.{trail_of}
 use Rattle.nv_memtext.specs.MemoryText.{Gives}
 use Rattle.nv_trace.specs.TraceText.{shown, trace_text}
 use Rattle.nova_commands.proofs.Traced.{compared, other-write}

@@ -1,8 +1,8 @@
 use Rattle.std.proofs.Common.{◌∙◌, ℕ, List, ap}
 use Rattle.nv_ast.specs.TypedView.{typed_program}
 use Rattle.nv_values.specs.Running.{Made}
-use Rattle.call_trace.specs.Chains.{Kept, trail_of}
-use Rattle.call_trace.specs.Notes.{Trail, traced_all, source_made}
+use Rattle.nv_values.specs.Chains.{Kept, trail_of}
+use Rattle.nv_values.specs.Notes.{Trail, traced_all, source_made}
 use Rattle.nv_meaning.specs.Meaning.{traced}
 use Rattle.nv_trace.proofs.FirstMade.{keeps-first}
 use Rattle.nova_commands.specs.Tracing.{made_writes, kept_writes}

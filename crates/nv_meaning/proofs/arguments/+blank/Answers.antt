@@ -4,7 +4,7 @@ use Rattle.nv_ast.specs.TypeView.{type_tree, list_types, list_named_types}
 use Rattle.nv_ast.proofs.Reading.{tuple_type_is, record_type_is}
 use Rattle.nv_values.specs.Values.{Tuple, Record}
 use Rattle.nv_meaning.specs.inner.Blanks.{blank, blanks, named_blanks}
-use Rattle.nv_meaning.specs.inner.TableView.{declared_in}
+use Rattle.nv_values.specs.inner.TableView.{declared_in}
 use Rattle.nv_values.specs.inner.View.{view}
 use Rattle.nv_values.proofs.Rows.{tuple_view, record_view}
 use Rattle.nv_meaning.proofs.Parameters.{blanks-listed, fields-listed}

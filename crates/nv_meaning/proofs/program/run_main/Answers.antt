@@ -6,7 +6,7 @@ use Rattle.nv_ast.specs.TypeView.{list_named_types}
 use Rattle.nv_values.specs.Values.{named_values_from}
 use Rattle.nv_values.specs.Running.{Running, closed}
 use Rattle.nv_meaning.specs.Meaning.{eval, run_main as main_run, calls_within, named_scope}
-use Rattle.nv_meaning.specs.inner.TableView.{declared_in}
+use Rattle.nv_values.specs.inner.TableView.{declared_in}
 use Rattle.nv_values.specs.inner.View.{scope_of}
 use Rattle.nv_meaning.specs.inner.Ran.{at}
 use Rattle.nv_meaning.proofs.Whole.{executes-nothing, executes-left, main-executes}

@@ -10,10 +10,10 @@ use Rattle.nv_ast.specs.Tree.{NumberTree, TruthTree, VarTree, ParenTree, TupleTr
 use Rattle.nv_values.specs.Values.{Word, Truth, all_matched, matched, word_of, words_of}
 use Rattle.nv_values.specs.Running.{Gives, exception_number, store, then_stated}
 use Rattle.nv_meaning.specs.Meaning.{eval as evaluated, run_one, entered}
-use Rattle.nv_meaning.specs.inner.TableView.{declared_in}
+use Rattle.nv_values.specs.inner.TableView.{declared_in}
 use Rattle.nv_values.specs.inner.View.{view, list_values, scope_of}
 use Rattle.nv_meaning.specs.inner.Ran.{at, IsStep, RanScope, RanCall}
-use Rattle.call_trace.specs.Callers.{IsMark, LieAbove}
+use Rattle.nv_values.specs.Callers.{IsMark, LieAbove}
 use Rattle.nv_values.specs.declared.value.Value as code
 use Rattle.nv_meaning.specs.declared.step.Step.TheVariants.{Done, Again}
 use Rattle.nv_values.specs.declared.stop.Interruption.TheVariants.{NoMemory, Raised, Fault, Going}

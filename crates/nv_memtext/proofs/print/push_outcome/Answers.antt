@@ -1,7 +1,7 @@
 use Rattle.std.proofs.Common.{◌++◌, ◌∷◌, [], sym, ap, ◌∙◌, append_assoc, codes, decimal, rules}
 use Rattle.std.specs.List.{flat_map}
 use Rattle.line_text.specs.Number.{hex_word}
-use Rattle.nv_memtext.specs.Spelling.{name_of}
+use Rattle.nv_base.specs.MemoryNames.{memory_name}
 use Rattle.nv_memtext.proofs.PrintLemmas.{listed_pieces, piece_as}
 use Rattle.nv_memtext.proofs.print.push_outcome.Goals as goal
 
@@ -15,7 +15,7 @@ returns-in-Raised c =
 
 pub returns-in-Fault : goal.returns-in-Fault
 returns-in-Fault c =
-    rw c.in-Fault.is (piece_as c.push_fault.result _ _ _ _ (ap (λ t. codes "fault " ++ t) (sym (append_assoc (name_of c.in-Fault.mem) (32 ∷ decimal c.in-Fault.at) (10 ∷ [])))) c.push_fault.ensures)
+    rw c.in-Fault.is (piece_as c.push_fault.result _ _ _ _ (ap (λ t. codes "fault " ++ t) (sym (append_assoc (memory_name c.in-Fault.mem) (32 ∷ decimal c.in-Fault.at) (10 ∷ [])))) c.push_fault.ensures)
 
 pub returns-in-Going : goal.returns-in-Going
 returns-in-Going c = rw c.in-Going.is (search rules)

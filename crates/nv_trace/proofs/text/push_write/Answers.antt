@@ -9,7 +9,7 @@ pub returns : goal.returns
 returns c =
     join5 c.args.text.now.items c.extend_from_slice.new.self.items c.extend_from_slice-2.new.self.items c.push.new.self.items c.push_decimal.new.out.items c.push_words.new.out.items _ _ _ _ _
     c.in_ok-extend_from_slice.ensures.items
-    (c.in_ok-extend_from_slice-2.ensures.items ∙ ap (λ (t : List ℕ). c.extend_from_slice.new.self.items ++ t) c.memory_name.ensures)
+    (c.in_ok-extend_from_slice-2.ensures.items ∙ ap (λ (t : List ℕ). c.extend_from_slice.new.self.items ++ t) c.name.ensures)
     c.in_ok-push.ensures.items
     (c.in_ok-push_decimal.ensures.ok ∙ ap (λ (n : ℕ). c.push.new.self.items ++ decimal n) c.from.ensures)
     (c.in_ok-push_words.ensures ∙ ap (λ (ws : List ℕ). c.push_decimal.new.out.items ++ flat_map (λ w. 32 ∷ hex_word w) ws) c.list.ensures.words)

@@ -1,7 +1,7 @@
 use Rattle.std.proofs.Common.{◌≡◌, ◌∙◌, ◌+◌, ◌<◌, ap, sym, refl, length, Some, arith}
 use Rattle.std.proofs.lemmas.Option.{slice_get_read}
 use Rattle.nv_ast.specs.ProgramView.{fun_tree}
-use Rattle.nv_meaning.proofs.NameIndices.{place-below, function-none, function-found}
+use Rattle.nv_values.proofs.NameIndices.{place-below, function-none, function-found}
 use Rattle.flat_declarations.specs.inner.WholeView.{whole_in}
 use Rattle.flat_declarations.proofs.Sources.{group-found}
 use Rattle.flat_declarations.proofs.source.Source.function.Goals as goal

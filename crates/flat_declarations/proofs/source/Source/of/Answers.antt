@@ -1,6 +1,6 @@
 use Rattle.std.proofs.Common.{◌∙◌, ap, map, refl}
 use Rattle.nv_ast.specs.ProgramView.{decl_tree, program_of}
-use Rattle.nv_meaning.specs.inner.TableView.{declared_in}
+use Rattle.nv_values.specs.inner.TableView.{declared_in}
 use Rattle.flat_values.specs.inner.Whole.{groups_from, raised_in}
 use Rattle.flat_declarations.proofs.Sources.{source-is, as-many-groups}
 use Rattle.flat_declarations.proofs.source.Source.of.Goals as goal
