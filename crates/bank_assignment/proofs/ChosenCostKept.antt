@@ -11,7 +11,7 @@ use Rattle.placement.specs.Uses.{Value, values, Use, uses, uses_of}
 use Rattle.placement.specs.Fits.{Fits}
 use Rattle.placement.proofs.Joined.{values-different}
 use Rattle.zo_model.specs.Program.{cost_where}
-use Rattle.label_weights.specs.ByLabel.{lies_in, label_cost}
+use Rattle.placement.specs.ByLabel.{lies_in, label_cost}
 use Rattle.bank_form.specs.declared.column.Column.{Column}
 use Rattle.bank_form.specs.declared.column.Column.TheVariants.{Ear}
 use Rattle.bank_form.specs.Columns.{Priced, point_uses, place_words, role_beginnings, def_columns, fill_columns, ear_columns, srv_columns, all_ears, priced, columns}

@@ -11,7 +11,7 @@ use Rattle.placement.specs.Uses.{Use, uses_of}
 use Rattle.placement.specs.Fits.{is_read_register, is_write_register, served, Fits}
 use Rattle.bank_form.specs.declared.column.Column.{Column}
 use Rattle.bank_form.specs.declared.column.Column.TheVariants.{Def, Dir, Fill, Stay, Ear, First, Srv, PasL, PasS}
-use Rattle.label_weights.specs.Weighted.{weighted_cost}
+use Rattle.placement.specs.Weighted.{weighted_cost}
 use Rattle.bank_form.specs.Columns.{columns, costs}
 use Rattle.bank_prog.specs.Weighted.{weighted_costs}
 use Rattle.bank_form.specs.Program.{same_bank}

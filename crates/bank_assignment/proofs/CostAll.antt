@@ -26,7 +26,7 @@ use Rattle.bank_prog.specs.Weighted.{point_in, column_point}
 use Rattle.bank_form.specs.Rows.{ear, lines}
 use Rattle.bank_prog.specs.Meaning.{Chosen, on, named_cost, Holds}
 use Rattle.bank_rows.proofs.PlainLines.{each-kept}
-use Rattle.label_weights.specs.ByLabel.{lies_in, label_cost}
+use Rattle.placement.specs.ByLabel.{lies_in, label_cost}
 use Rattle.bank_assignment.specs.ByLabel.{label_price}
 use Rattle.bank_assignment.specs.inner.Facts.{OnlyThere, ValueFacts, UseFacts, Facts}
 use Rattle.bank_assignment.specs.inner.ReadOff.{Numbers, AreRead, read_off}

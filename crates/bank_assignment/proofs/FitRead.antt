@@ -17,8 +17,7 @@ use Rattle.ssu_liveness.specs.inner.Numbers.{values_among}
 use Rattle.ssu_liveness.proofs.Scoped.{in-itself}
 use Rattle.placement.proofs.Sound.{Each, entry_params, place_results, Sound, uses_among, sound-points}
 use Rattle.placement.proofs.Spilled.{all-each, each-at, param_vars, params-wanted, used-wanted}
-use Rattle.placement_checks.proofs.Valued.{each-values}
-use Rattle.placement.proofs.Fitting.{each-uses, apart-from, uses-are, values-are, entries-in}
+use Rattle.placement.proofs.Fitting.{each-uses, apart-from, uses-are, values-are, entries-in, each-values}
 use Rattle.placement.proofs.Joined.{values-different}
 use Rattle.bank_form.specs.declared.column.Bank.{Bank}
 use Rattle.bank_form.specs.declared.column.Column.TheVariants.{Def, First}

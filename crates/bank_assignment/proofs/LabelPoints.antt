@@ -18,7 +18,7 @@ use Rattle.placement.proofs.Sound.{Each, each-append}
 use Rattle.placement.proofs.Spilled.{all-each, each-left, each-right}
 use Rattle.placement.proofs.Joined.{values-different}
 use Rattle.ssu_liveness.proofs.SpotSteps.{places-of-points}
-use Rattle.label_weights.specs.ByLabel.{label_from}
+use Rattle.placement.specs.ByLabel.{label_from}
 use Rattle.bank_assignment.proofs.Counts.{In, in-either}
 use Rattle.bank_assignment.proofs.FactsThere.{point-of}
 use Rattle.bank_assignment.proofs.FitPasses.{value-point}

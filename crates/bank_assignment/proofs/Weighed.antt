@@ -6,10 +6,11 @@ use Rattle.ssu_ir.specs.Single.{single}
 use Rattle.placement.specs.Plan.{Plan}
 use Rattle.placement.proofs.Slotted.{each-any}
 use Rattle.zo_model.specs.Program.{cost_where, costs_of}
-use Rattle.label_weights.specs.ByLabel.{label_from, label_cost}
-use Rattle.label_weights.specs.Weighted.{weight_of, weighted_cost, labels_weighted}
-use Rattle.label_weights.proofs.Labels.{weighted_within, label_most}
-use Rattle.label_weights.proofs.Summed.{summed, weighed, those, by_labels, by_each}
+use Rattle.placement.specs.ByLabel.{label_from, label_cost}
+use Rattle.label_weights.specs.Weighted.{weight_of}
+use Rattle.placement.specs.Weighted.{weighted_cost, labels_weighted}
+use Rattle.placement.proofs.Labels.{weighted_within, label_most}
+use Rattle.placement.proofs.Summed.{summed, weighed, those, by_labels, by_each}
 use Rattle.bank_form.specs.Columns.{Priced, priced}
 use Rattle.bank_prog.specs.Weighted.{column_point, weigh, weighted_costs}
 use Rattle.bank_prog.specs.Meaning.{Chosen, on, named_cost}

@@ -1,7 +1,7 @@
 -- What a vector pays in a label: for the columns that stand there.
 use Rattle.std.specs.Prelude.{ℕ, Bool, List, filter}
 use Rattle.ssu_ir.specs.Tree.{Label}
-use Rattle.label_weights.specs.ByLabel.{lies_in}
+use Rattle.placement.specs.ByLabel.{lies_in}
 use Rattle.bank_form.specs.Columns.{priced}
 use Rattle.bank_prog.specs.Weighted.{column_point}
 use Rattle.bank_prog.specs.Meaning.{on, named_cost}

@@ -2,9 +2,9 @@
 
 ghost use Rattle.std.specs.Prelude.{◌≡◌};
 ghost use Rattle.bank_form.specs.Columns.{eight};
-ghost use Rattle.bank_form.specs.inner.Form.{use_view};
 ghost use Rattle.bank_assignment.specs.inner.ReadOff as pure;
 ghost use Rattle.bank_assignment.specs.inner.Reading.{says, column_of};
+ghost use Rattle.placement.specs.inner.UseViews.{use_view};
 
 use crate::reading::Reading;
 use bank_prog::{Bank, Column, Role, Service, Use, number};

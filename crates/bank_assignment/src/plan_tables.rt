@@ -4,7 +4,7 @@ ghost use Rattle.std.specs.Prelude.{◌≡◌, ℕ, map, IfOk};
 ghost use Rattle.std.specs.HashMap.{get};
 ghost use Rattle.ssu_ir.specs.View.{labels_view};
 ghost use Rattle.placement.specs.Plan.{plan_view};
-ghost use Rattle.bank_form.specs.inner.Form.{use_view};
+ghost use Rattle.placement.specs.inner.UseViews.{use_view};
 ghost use Rattle.bank_assignment.specs.inner.Chosen.{use_in};
 ghost use Rattle.bank_assignment.specs.inner.PlanTables.{pair_eq, known_value, known_role, AreTold};
 

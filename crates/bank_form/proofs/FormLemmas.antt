@@ -4,12 +4,12 @@ use Rattle.std.specs.List.{filter}
 use Rattle.std.proofs.lemmas.Bool.{false≢true}
 use Rattle.nv_base.specs.Sets.{is_in}
 use Rattle.placement.specs.Uses.{Use}
-use Rattle.placement_checks.proofs.Seen.{same-order}
 use Rattle.zo_model.specs.Contents.{Contents, RowContents}
 use Rattle.bank_form.specs.declared.column.Column.{Column}
 use Rattle.bank_form.specs.Rows.{Line}
 use Rattle.bank_form.specs.Program.{Numbers, row_of}
 use Rattle.bank_form.proofs.RowTerms.{terms-alike}
+use Rattle.ssu_ir.proofs.Lists.{same-order}
 
 some-length : (n : ℕ) → not (suc n == 0) ≡ true
 some-length n = search (tests, rules)

@@ -11,11 +11,13 @@ ghost use Rattle.ssu_liveness.specs.inner.Live.{source_among, value_by, labels_r
 ghost use Rattle.ssu_liveness.specs.inner.PointIds.{kind_of_point};
 ghost use Rattle.placement.specs.Uses.{uses_of, is_used};
 ghost use Rattle.placement.specs.Fits.{parameter};
+ghost use Rattle.placement.specs.inner.UseViews.{use_view};
 ghost use Rattle.bank_form.specs.Columns.{origin_of, is_fetched};
-ghost use Rattle.bank_form.specs.inner.Form.{AreTables, origin_view, use_view};
+ghost use Rattle.bank_form.specs.inner.Form.{AreTables, origin_view};
 
 use crate::tables::tables_of;
 use nv_base::{Mem, NoMemory};
+use placement::Use;
 use ssu_ir::Ssu;
 use ssu_liveness::{Copies, PointId, all_rows, copies_of, point_ids_of};
 use std::alloc::Global;
@@ -42,32 +44,12 @@ impl Origin {
     }
 }
 
-/// What a use is: an operand, an address, word i of a write, the word for parameter i of label l, or
-/// word i of an end.
-#[derive(Clone, Copy)]
-pub enum Role {
-    Operand,
-    Address,
-    Written(Mem, u32),
-    Argument(u32, u32),
-    Ending(u32),
-}
-
 /// A value, by the point that defines it.
 #[derive(Clone, Copy)]
 pub struct Value {
     pub point: u32,
     pub var: u32,
     pub origin: Origin,
-}
-
-/// A use of a value.
-#[derive(Clone, Copy)]
-pub struct Use {
-    pub point: u32,
-    pub operand: u32,
-    pub value: u32,
-    pub role: Role,
 }
 
 /// N words of a memory are read or written at a point.

@@ -2,6 +2,7 @@
 #![tactic(auto)]
 
 pub mod column;
+pub mod coverings;
 pub mod form;
 pub mod lines;
 pub mod names;
@@ -12,5 +13,6 @@ pub mod tables;
 mod terms;
 
 pub use column::{Bank, Column, Service};
-pub use form::{Access, Form, Origin, PointSummary, Role, Tables, Use, Value, form_of};
+pub use form::{Access, Form, Origin, PointSummary, Tables, Value, form_of};
 pub use numbers::{Numbers, number};
+pub use placement::{Role, Use};

@@ -4,10 +4,12 @@ ghost use Rattle.std.specs.Prelude.{◌≡◌, ◌++◌, IfOk, OnOk};
 ghost use Rattle.std.specs.List.{flat_map};
 ghost use Rattle.bank_form.specs.Columns as columns;
 ghost use Rattle.bank_form.specs.inner.Form as form;
-ghost use Rattle.bank_form.specs.inner.Form.{role_view, origin_view};
+ghost use Rattle.bank_form.specs.inner.Form.{origin_view};
+ghost use Rattle.placement.specs.inner.UseViews.{role_view};
 
-use crate::form::{Origin, Role};
+use crate::form::Origin;
 use nv_base::{Mem, NoMemory};
+use placement::Role;
 use std::alloc::Global;
 
 /// Whether n words from register f on are registers of their bank.

@@ -2,10 +2,10 @@
 
 ghost use Rattle.std.specs.Prelude.{◌≡◌};
 ghost use Rattle.bank_form.specs.Columns as columns;
-ghost use Rattle.bank_form.specs.inner.Form.{role_view};
+ghost use Rattle.placement.specs.inner.UseViews.{role_view};
 
 use crate::column::{Bank, Service};
-use crate::form::Role;
+use placement::Role;
 
 const OPERAND: [Service; 7] = [
     Service {

@@ -11,14 +11,16 @@ ghost use Rattle.ssu_ir.specs.View.{labels_view, placed_of};
 ghost use Rattle.placement.specs.Uses as pure;
 ghost use Rattle.ssu_liveness.specs.inner.Live.{source_among, value_by};
 ghost use Rattle.placement.specs.inner.Parts.{gather};
+ghost use Rattle.placement.specs.inner.UseViews.{role_view, use_view};
 ghost use Rattle.ssu_liveness.specs.inner.PointIds.{kind_of_point};
 ghost use Rattle.bank_form.specs.Columns.{origin_in};
 ghost use Rattle.bank_form.specs.Rows.{two_operands};
 ghost use Rattle.bank_form.specs.inner.Form as form;
-ghost use Rattle.bank_form.specs.inner.Form.{AreTables, value_view, use_view, access_view, summary_view};
+ghost use Rattle.bank_form.specs.inner.Form.{AreTables, value_view, access_view, summary_view};
 
-use crate::form::{Access, Origin, PointSummary, Role, Tables, Use, Value};
+use crate::form::{Access, Origin, PointSummary, Tables, Value};
 use nv_base::{Mem, NoMemory};
+use placement::{Role, Use};
 use ssu_ir::{Ssu, SsuNode};
 use ssu_liveness::{Copies, PointId, value_of};
 use std::alloc::Global;
@@ -102,7 +104,7 @@ fn add_use(
     x: u32,
     role: Role,
 ) -> Result<(), NoMemory>
-    ensures { OnOk result (map use_view uses.new.items ≡ map use_view uses.old.items ++ form.use_of (value_by (get nat_eq copies.now)) k i x (form.role_view role)) }
+    ensures { OnOk result (map use_view uses.new.items ≡ map use_view uses.old.items ++ form.use_of (value_by (get nat_eq copies.now)) k i x (role_view role)) }
 {
     uses.push(Use {
         point: k,

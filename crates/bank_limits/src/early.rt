@@ -5,12 +5,14 @@ ghost use Rattle.std.specs.List.{flat_map};
 ghost use Rattle.bank_form.specs.Columns as columns;
 ghost use Rattle.bank_form.specs.declared.column.Column.TheVariants as column;
 ghost use Rattle.bank_form.specs.inner.Form as form;
-ghost use Rattle.bank_form.specs.inner.Form.{summary_view, use_view};
+ghost use Rattle.bank_form.specs.inner.Form.{summary_view};
+ghost use Rattle.placement.specs.inner.UseViews.{use_view};
 
 use bank_form::column::{Column, Priced};
-use bank_form::form::{PointSummary, Use};
+use bank_form::form::PointSummary;
 use bank_form::runs::role_beginnings;
 use nv_base::NoMemory;
+use placement::Use;
 use std::alloc::Global;
 
 fn push_ears_at(out: &mut Priced, u: Use, firsts: &[u8]) -> Result<(), NoMemory>

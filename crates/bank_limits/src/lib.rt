@@ -1,8 +1,7 @@
-//! Parts of the program of the banks that limit a choice: operand banks, the room of a bank, the registers that
-//! a run covers, and what a word costs that is copied early.
+//! Parts of the program of the banks that limit a choice: operand banks, the room of a bank, and what a word costs
+//! that is copied early.
 #![tactic(auto)]
 
 pub mod capacity;
-pub mod coverings;
 pub mod early;
 pub mod operands;

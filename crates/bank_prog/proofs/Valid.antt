@@ -6,8 +6,9 @@ use Rattle.std.proofs.lemmas.Nat.{mul-le}
 use Rattle.ssu_ir.specs.Single.{single}
 use Rattle.ssu_ir.specs.Tree.{Label}
 use Rattle.placement.proofs.Spilled.{each-all, each-weaker}
-use Rattle.label_weights.specs.ByLabel.{label_from}
-use Rattle.label_weights.specs.Weighted.{AreWeights, point_weight}
+use Rattle.placement.specs.ByLabel.{label_from}
+use Rattle.label_weights.specs.Weighted.{AreWeights}
+use Rattle.placement.specs.Weighted.{point_weight}
 use Rattle.label_weights.proofs.Bounds.{weight-bounds}
 use Rattle.zo_model.specs.declared.program.ZeroOne.{ZeroOne}
 use Rattle.zo_model.specs.Contents.{contents}

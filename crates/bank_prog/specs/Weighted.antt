@@ -3,7 +3,7 @@
 use Rattle.std.specs.Prelude.{ℕ, ◌*◌, nat_eq, List, [], ◌∷◌, map, if◌then◌else◌}
 use Rattle.ssu_ir.specs.Tree.{Label}
 use Rattle.placement.specs.Uses.{Value, values}
-use Rattle.label_weights.specs.Weighted.{point_weight}
+use Rattle.placement.specs.Weighted.{point_weight}
 use Rattle.zo_model.specs.Contents.{Contents}
 use Rattle.bank_form.specs.declared.column.Column.{Column}
 use Rattle.bank_form.specs.declared.column.Column.TheVariants.{Def, Dir, Fill, Stay, Ear, First, Srv, PasL, PasS}

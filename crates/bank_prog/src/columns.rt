@@ -4,18 +4,20 @@ ghost use Rattle.std.specs.Prelude.{◌≡◌, ◌++◌, ◌∷◌, [], map, IfO
 ghost use Rattle.std.specs.List.{flat_map, list_any};
 ghost use Rattle.ssu_ir.specs.View.{labels_view};
 ghost use Rattle.placement.specs.Uses.{is_used};
+ghost use Rattle.placement.specs.inner.UseViews.{use_view};
 ghost use Rattle.bank_form.specs.Columns as columns;
 ghost use Rattle.bank_form.specs.declared.column.Column.TheVariants as column;
 ghost use Rattle.bank_form.specs.inner.Form as form;
-ghost use Rattle.bank_form.specs.inner.Form.{summary_view, use_view, value_view, access_view};
+ghost use Rattle.bank_form.specs.inner.Form.{summary_view, value_view, access_view};
 
 use bank_form::column::{Bank, Column, Priced, Service};
-use bank_form::form::{Access, Form, Origin, PointSummary, Use, Value};
+use bank_form::form::{Access, Form, Origin, PointSummary, Value};
 use bank_form::names;
 use bank_form::runs::{beginnings, origin_beginnings, role_beginnings};
 use bank_form::services::services;
 use bank_limits::early::push_ears;
 use nv_base::NoMemory;
+use placement::Use;
 use std::alloc::Global;
 
 /// Three columns more.

@@ -2,6 +2,7 @@
 //! rows, and bounds on its size.
 #![tactic(auto)]
 
+mod all_rows;
 mod columns;
 pub mod error;
 pub mod laws;

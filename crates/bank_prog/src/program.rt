@@ -12,11 +12,11 @@ ghost use Rattle.bank_form.specs.Program.{IsTooLarge};
 ghost use Rattle.bank_prog.specs.Weighted.{weighted_program};
 ghost use Rattle.bank_prog.specs.declared.error.BankError.TheVariants.{TooLarge as Exceeds};
 
+use crate::all_rows::rows_of;
 use crate::error::BankError;
 use crate::tables::{BankTables, bank_tables_of};
 use crate::weighing::weighted_costs;
 use bank_form::numbers::COUNT_LIMIT;
-use bank_rows::rows_of;
 use label_weights::Weights;
 use ssu_ir::Ssu;
 use std::alloc::Global;

@@ -1,7 +1,6 @@
 -- Which values are defined at a point or above it: those whose point has it below.
 use Rattle.std.proofs.Common.{◌≡◌, ℕ, suc, ◌+◌, ◌<◌, ◌≤◌, Bool, true, false, ◌&&◌, ◌||◌, if◌then◌else◌, nat_eq, nat_le, List, [], ◌∷◌, ◌++◌, length, map, get_or, Option, Some, refl, sym, ap, subst, ◌∙◌, arith}
-use Rattle.std.proofs.Math.Bool.{or_assoc}
-use Rattle.std.proofs.Math.Bool.{or-false}
+use Rattle.std.proofs.Math.Bool.{or_assoc, or-false, and-true}
 use Rattle.std.proofs.lemmas.List.{append-nil}
 use Rattle.std.proofs.lemmas.Bool.{false≢true, le-leb, lt-leb}
 use Rattle.nv_base.specs.Sets.{is_in, all_different}
@@ -9,11 +8,11 @@ use Rattle.nv_base.proofs.Sets.{in-append}
 use Rattle.ssu_ir.specs.Tree.{Lit, Una, Bin, Clone, Read, Write, Tree, Do, If, End, Label, Does, Forks, Ends, step_values}
 use Rattle.ssu_ir.specs.Points.{Names, own, names_after, PointKind, Entry, At, Point, place_values, nodes, tree_points, label_points, points_from}
 use Rattle.ssu_ir.proofs.PointLemmas.{length-tree_points}
+use Rattle.ssu_ir.proofs.Lists.{same-order}
 use Rattle.placement.specs.Uses as pure
 use Rattle.placement.specs.Uses.{ValueOrigin, Parameter, Fetched, numbered, values_from}
 use Rattle.ssu_liveness.specs.inner.Numbers.{values_among}
 use Rattle.ssu_liveness.proofs.Scoped.{split-different}
-use Rattle.placement_checks.proofs.Seen.{and-true', same-order}
 use Rattle.bank_rows.specs.inner.Waiting.{point_in, covers}
 
 -- ---- truth values
@@ -30,7 +29,7 @@ under x j [] k = false
 under x j (q ∷ ps) k = (is_in x (place_values q.place) && (nat_le j k && nat_le k (j + q.below))) || under x (suc j) ps k
 
 within : (v : Bool) (j n k : ℕ) → j ≤ k → k ≤ j + n → (v && (nat_le j k && nat_le k (j + n))) ≡ v
-within v j n k a b = ap (λ c. v && (c && nat_le k (j + n))) (le-leb j k a) ∙ ap (λ c. v && c) (le-leb k (j + n) b) ∙ and-true' v
+within v j n k a b = ap (λ c. v && (c && nat_le k (j + n))) (le-leb j k a) ∙ ap (λ c. v && c) (le-leb k (j + n) b) ∙ and-true v
 
 early : (v : Bool) (j n k : ℕ) → k < j → (v && (nat_le j k && nat_le k (j + n))) ≡ false
 early v j n k h = ap (λ c. v && (c && nat_le k (j + n))) (lt-leb j k h) ∙ and-false v

@@ -12,7 +12,7 @@ use Rattle.ssu_ir.specs.Points.{Point, points}
 use Rattle.placement.specs.Uses as pure
 use Rattle.placement.specs.Uses.{Role, Operand, Address, Written, Argument, Ending, writes_at}
 use Rattle.bank_form.specs.declared.column.Column.TheVariants.{PasS}
-use Rattle.bank_form.specs.declared.form.Use.{Use}
+use Rattle.placement.specs.declared.uses.Use.{Use}
 use Rattle.bank_form.specs.Columns.{each_point, eight}
 use Rattle.bank_form.specs.Rows.{at_most, role_early, early_at, side_covering, waiting, is_written, write_owners}
 use Rattle.bank_form.specs.Program.{Numbers, row_of}

@@ -9,15 +9,17 @@ ghost use Rattle.bank_form.specs.Program.{same_column};
 ghost use Rattle.bank_form.specs.Rows as lines;
 ghost use Rattle.bank_form.specs.declared.column.Column.TheVariants as column;
 ghost use Rattle.bank_form.specs.inner.Adds.{Adds};
-ghost use Rattle.bank_form.specs.inner.Form.{use_view, value_view, access_view};
+ghost use Rattle.bank_form.specs.inner.Form.{value_view, access_view};
+ghost use Rattle.placement.specs.inner.UseViews.{use_view};
 
 use bank_form::column::{Column, Service};
-use bank_form::form::{Access, Form, Origin, Role, Use, Value};
+use bank_form::form::{Access, Form, Origin, Value};
 use bank_form::lines::push_exactly_one;
 use bank_form::names;
 use bank_form::numbers::Numbers;
 use bank_form::services::services;
 use nv_base::NoMemory;
+use placement::{Role, Use};
 use std::alloc::Global;
 use zo_model::Row;
 

@@ -8,14 +8,16 @@ ghost use Rattle.ssu_ir.specs.View.{labels_view};
 ghost use Rattle.bank_form.specs.Program.{same_column};
 ghost use Rattle.bank_form.specs.Rows as lines;
 ghost use Rattle.bank_form.specs.inner.Adds.{Adds};
-ghost use Rattle.bank_form.specs.inner.Form.{use_view, value_view, role_view};
+ghost use Rattle.bank_form.specs.inner.Form.{value_view};
+ghost use Rattle.placement.specs.inner.UseViews.{role_view, use_view};
 
 use bank_form::column::{Bank, Column};
-use bank_form::form::{Form, Origin, Role, Use, Value};
+use bank_form::form::{Form, Origin, Value};
 use bank_form::lines::{push_at_most, push_covers};
 use bank_form::names;
 use bank_form::numbers::Numbers;
 use nv_base::NoMemory;
+use placement::{Role, Use};
 use std::alloc::Global;
 use zo_model::Row;
 

@@ -1,10 +1,9 @@
-//! The rows of the program of the banks, in seven families, a file for each: what is chosen once (`choice`), where the words
-//! of uses are (`cover`), banks of operands and room in a bank (crate `bank_limits`), the owners of transfer registers
-//! (`owners`, `refills`, `waiting`), where runs begin (`begins`), and through which registers slots pass (`passes`). Each
-//! function appends the rows of one sentence, and promises exactly the lines that the definition has by name.
+//! Rows of the program of the banks, in families, a file for each: what is chosen once (`choice`), where the words of uses
+//! are (`cover`), the owners of transfer registers (`owners`, `refills`, `waiting`), where runs begin (`begins`), and through
+//! which registers slots pass (`passes`). Each function appends the rows of one sentence, and promises exactly the lines
+//! that the definition has by name. Banks of operands and room in a bank are in crate `bank_limits`.
 #![tactic(auto)]
 
-mod all_rows;
 mod begins;
 mod choice;
 mod cover;
@@ -14,4 +13,8 @@ mod refills;
 mod spans;
 mod waiting;
 
-pub use all_rows::rows_of;
+pub use begins::push_adjacency;
+pub use choice::push_one_choice;
+pub use cover::push_homes_cover;
+pub use owners::push_owners;
+pub use passes::push_passes;

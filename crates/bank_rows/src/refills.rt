@@ -15,10 +15,10 @@ ghost use Rattle.bank_form.specs.inner.Form.{value_view, access_view, summary_vi
 ghost use Rattle.bank_form.specs.inner.Owners as owners;
 
 use crate::owners::add_stays;
+use bank_form::coverings::add_coverings;
 use bank_form::form::{Access, Form, PointSummary, Value};
 use bank_form::lines::push_at_most;
 use bank_form::numbers::Numbers;
-use bank_limits::coverings::add_coverings;
 use nv_base::{Mem, NoMemory};
 use std::alloc::Global;
 use zo_model::Row;

@@ -11,18 +11,20 @@ ghost use Rattle.bank_form.specs.Columns.{each_point};
 ghost use Rattle.bank_form.specs.Program.{same_column};
 ghost use Rattle.bank_form.specs.Rows as lines;
 ghost use Rattle.bank_form.specs.inner.Adds.{Adds};
-ghost use Rattle.bank_form.specs.inner.Form.{access_view, role_view, use_view, summary_view};
+ghost use Rattle.bank_form.specs.inner.Form.{access_view, summary_view};
 ghost use Rattle.bank_rows.specs.inner.Waiting as waits;
+ghost use Rattle.placement.specs.inner.UseViews.{role_view, use_view};
 
 use crate::owners::{is_on_side, run_at};
 use crate::spans::{Defined, counts_below, defined_at, item};
 use bank_form::column::Column;
-use bank_form::form::{Access, Form, PointSummary, Role, Use};
+use bank_form::coverings::add_coverings;
+use bank_form::form::{Access, Form, PointSummary};
 use bank_form::lines::push_at_most;
 use bank_form::numbers::Numbers;
 use bank_form::tables::short;
-use bank_limits::coverings::add_coverings;
 use nv_base::NoMemory;
+use placement::{Role, Use};
 use std::alloc::Global;
 use zo_model::Row;
 

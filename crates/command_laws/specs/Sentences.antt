@@ -10,7 +10,7 @@ use Rattle.ssu_ir.specs.Meaning.{ssu_meaning, ssu_params}
 use Rattle.ssu_ir.specs.Tree.{Label}
 use Rattle.placement.specs.Fits.{Fits}
 use Rattle.placement.specs.Plan.{Plan}
-use Rattle.label_weights.specs.Weighted.{weighted_cost}
+use Rattle.placement.specs.Weighted.{weighted_cost}
 use Rattle.uc_isa.specs.Agrees.{Agrees}
 use Rattle.uc_isa.specs.Lawful.{IsLawful}
 use Rattle.uc_isa.specs.Moves.{moves}

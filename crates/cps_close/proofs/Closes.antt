@@ -3,7 +3,6 @@ use Rattle.std.proofs.Common.{◌≡◌, ℕ, zero, suc, ◌+◌, Bool, true, fa
 use Rattle.std.specs.List.{list_all}
 use Rattle.std.proofs.lemmas.Bool.{and_parts, and_from, eq-eqb, eqb-true, not-true, not_from_false, false≢true, false_from_ne_true}
 use Rattle.nv_base.specs.declared.term.Atom.{Atom}
-use Rattle.nv_base.specs.declared.term.Atom.TheVariants.{Var, Lit}
 use Rattle.nv_base.specs.declared.term.Primitive.{Primitive}
 use Rattle.nv_base.specs.declared.term.Primitive.TheVariants.{Same, Una as UnaOf, Bin as BinOf}
 use Rattle.std.proofs.lemmas.Option.{none-some, same_Some}
@@ -20,7 +19,8 @@ use Rattle.flow_ir.specs.Formed as flow_formed
 use Rattle.flow_ir.specs.Wide.{live}
 use Rattle.cps_ir.specs.Callless.{only_jumps}
 use Rattle.cps_close.specs.inner.Closed.{Table, labels_in, labels_of_all, needed, number, operands, tree_of, with_wanted, closed, closed_labels, defines, IsTable}
-use Rattle.cps_close.proofs.Members.{either, in-left, in-right, in-first, out-both, in-or-out, stays, apart-turned, different-parts, different-join}
+use Rattle.flow_ir.proofs.Members.{either, in-left, in-right, out-both, in-or-out, stays, apart-turned, different-parts, different-join}
+use Rattle.flow_ir.proofs.Renaming.{atom_known, atoms_known}
 use Rattle.cps_close.proofs.Places.{Setting, Place, Places, let-place, read-place, write-place, first-place, second-place, rest-place, label-places, body-place, other-places, label-here}
 use Rattle.cps_close.proofs.Settles.{Settled, AllSettled, all-ready, jump-takes, live-known, defines-defined}
 use Rattle.cps_close.proofs.Tables.{closed-at, closed-from}
@@ -28,20 +28,11 @@ use Rattle.cps_close.proofs.Reached.{setting, place-of, kept-reached, all-settle
 
 -- ---- operands whose variables are known
 
-atom-live : (known : List ℕ) (a : Atom) → Within (atom_vars a) known → is_known known a ≡ true
-atom-live known (Var x) h = h x (in-first x [])
-atom-live known (Lit v) h = refl
-
-atoms-live : (known : List ℕ) (as' : List Atom) → Within (all_vars as') known → all_known known as' ≡ true
-atoms-live known [] h = refl
-atoms-live known (a ∷ as') h =
-    and_from (is_known known a) (all_known known as') (atom-live known a (λ x e. h x (in-left x (atom_vars a) (all_vars as') e))) (atoms-live known as' (λ x e. h x (in-right x (atom_vars a) (all_vars as') e)))
-
 prim-live : (before known : List ℕ) (p : Primitive) → is_primitive before p ≡ true → Within (prim_vars p) known → is_primitive known p ≡ true
-prim-live before known (Same a) e h = atom-live known a h
-prim-live before known (UnaOf op a) e h = and_from (has_count op) (is_known known a) (and_parts (has_count op) (is_known before a) e).0 (atom-live known a h)
+prim-live before known (Same a) e h = atom_known known a h
+prim-live before known (UnaOf op a) e h = and_from (has_count op) (is_known known a) (and_parts (has_count op) (is_known before a) e).0 (atom_known known a h)
 prim-live before known (BinOf op a b) e h =
-    and_from (is_known known a) (is_known known b) (atom-live known a (λ x i. h x (in-left x (atom_vars a) (atom_vars b) i))) (atom-live known b (λ x i. h x (in-right x (atom_vars a) (atom_vars b) i)))
+    and_from (is_known known a) (is_known known b) (atom_known known a (λ x i. h x (in-left x (atom_vars a) (atom_vars b) i))) (atom_known known b (λ x i. h x (in-right x (atom_vars a) (atom_vars b) i)))
 
 behind-known : (gone a known : List ℕ) → Within (without a gone) known → Within a (gone ++ known)
 behind-known gone a known h = λ x e. in-or-out x gone (λ i. in-left x gone known i) (λ o. in-right x gone known (h x (stays x a gone e o)))
@@ -101,7 +92,7 @@ tree-formed labels s h (Read m xs a t) ss phi known p g now w =
     let rest = and_parts (can_move m (length xs)) (is_address m a (length xs) && is_formed s.funs s.own s.results ss (xs ++ known) t) parts.1 in
     let last = and_parts (is_address m a (length xs)) (is_formed s.funs s.own s.results ss (xs ++ known) t) rest.1 in
     let done = flow_formed.is_formed labels (xs ++ now) (tree_of s.tab t) in
-    and_from (is_known now a) (can_move m (length xs) && (is_address m a (length xs) && flow_formed.is_formed labels (xs ++ now) (tree_of s.tab t))) (atom-live now a (λ y e. w y (in-left y (atom_vars a) (without (live (tree_of s.tab t)) xs) e)))
+    and_from (is_known now a) (can_move m (length xs) && (is_address m a (length xs) && flow_formed.is_formed labels (xs ++ now) (tree_of s.tab t))) (atom_known now a (λ y e. w y (in-left y (atom_vars a) (without (live (tree_of s.tab t)) xs) e)))
     (and_from (can_move m (length xs)) (is_address m a (length xs) && flow_formed.is_formed labels (xs ++ now) (tree_of s.tab t)) rest.0
     (and_from (is_address m a (length xs)) (flow_formed.is_formed labels (xs ++ now) (tree_of s.tab t)) last.0
     (tree-formed labels s h t ss phi (xs ++ known) (read-place s ss phi known m xs a t p) g (xs ++ now) (behind-known xs (live (tree_of s.tab t)) now (λ y e. w y (in-right y (atom_vars a) (without (live (tree_of s.tab t)) xs) e))))))
@@ -111,8 +102,8 @@ tree-formed labels s h (Write m a bs t) ss phi known p g now w =
     let extra = and_parts (can_move m (length bs)) (is_address m a (length bs) && is_formed s.funs s.own s.results ss known t) rest.1 in
     let last = and_parts (is_address m a (length bs)) (is_formed s.funs s.own s.results ss known t) extra.1 in
     let here : Within (atom_vars a ++ all_vars bs) now = λ y e. w y (in-left y (all_vars (a ∷ bs)) (live (tree_of s.tab t)) e) in
-    and_from (is_known now a) (all_known now bs && (can_move m (length bs) && (is_address m a (length bs) && flow_formed.is_formed labels now (tree_of s.tab t)))) (atom-live now a (λ y e. here y (in-left y (atom_vars a) (all_vars bs) e)))
-    (and_from (all_known now bs) (can_move m (length bs) && (is_address m a (length bs) && flow_formed.is_formed labels now (tree_of s.tab t))) (atoms-live now bs (λ y e. here y (in-right y (atom_vars a) (all_vars bs) e)))
+    and_from (is_known now a) (all_known now bs && (can_move m (length bs) && (is_address m a (length bs) && flow_formed.is_formed labels now (tree_of s.tab t)))) (atom_known now a (λ y e. here y (in-left y (atom_vars a) (all_vars bs) e)))
+    (and_from (all_known now bs) (can_move m (length bs) && (is_address m a (length bs) && flow_formed.is_formed labels now (tree_of s.tab t))) (atoms_known now bs (λ y e. here y (in-right y (atom_vars a) (all_vars bs) e)))
     (and_from (can_move m (length bs)) (is_address m a (length bs) && flow_formed.is_formed labels now (tree_of s.tab t)) extra.0
     (and_from (is_address m a (length bs)) (flow_formed.is_formed labels now (tree_of s.tab t)) last.0
     (tree-formed labels s h t ss phi known (write-place s ss phi known m a bs t p) g now (λ y e. w y (in-right y (all_vars (a ∷ bs)) (live (tree_of s.tab t)) e))))))
@@ -120,9 +111,9 @@ tree-formed labels s h (If c a b t u) ss phi known p g now w =
     let here : Within (atom_vars a ++ (atom_vars b ++ [])) now = λ y e. w y (in-left y (all_vars (a ∷ b ∷ [])) (live (tree_of s.tab t) ++ live (tree_of s.tab u)) e) in
     let rest : Within (live (tree_of s.tab t) ++ live (tree_of s.tab u)) now = λ y e. w y (in-right y (all_vars (a ∷ b ∷ [])) (live (tree_of s.tab t) ++ live (tree_of s.tab u)) e) in
     and_from (is_known now a) (is_known now b && (flow_formed.is_formed labels now (tree_of s.tab t) && flow_formed.is_formed labels now (tree_of s.tab u)))
-    (atom-live now a (λ y e. here y (in-left y (atom_vars a) (atom_vars b ++ []) e)))
+    (atom_known now a (λ y e. here y (in-left y (atom_vars a) (atom_vars b ++ []) e)))
     (and_from (is_known now b) (flow_formed.is_formed labels now (tree_of s.tab t) && flow_formed.is_formed labels now (tree_of s.tab u))
-    (atom-live now b (λ y e. here y (in-right y (atom_vars a) (atom_vars b ++ []) (in-left y (atom_vars b) [] e))))
+    (atom_known now b (λ y e. here y (in-right y (atom_vars a) (atom_vars b ++ []) (in-left y (atom_vars b) [] e))))
     (and_from (flow_formed.is_formed labels now (tree_of s.tab t)) (flow_formed.is_formed labels now (tree_of s.tab u))
     (tree-formed labels s h t ss phi known (first-place s ss phi known c a b t u p) g now (λ y e. rest y (in-left y (live (tree_of s.tab t)) (live (tree_of s.tab u)) e)))
     (tree-formed labels s h u ss phi known (second-place s ss phi known c a b t u p) g now (λ y e. rest y (in-right y (live (tree_of s.tab t)) (live (tree_of s.tab u)) e)))))
@@ -135,9 +126,9 @@ tree-formed labels s h (Throw k bs) ss phi known p g now w = absurd (false≢tru
 tree-formed labels s h (Jump l bs) ss phi known p g now w =
     let target = g l (length bs) (jump-takes s ss phi known l bs p) in
     and_from (all_known now (bs ++ operands (needed s.tab l))) (nat_le 1 (number s.tab l) && flow_formed.takes_as_many (length (bs ++ operands (needed s.tab l))) (slice_get labels (number s.tab l)))
-    (atoms-live now (bs ++ operands (needed s.tab l)) w)
+    (atoms_known now (bs ++ operands (needed s.tab l)) w)
     (and_from (nat_le 1 (number s.tab l)) (flow_formed.takes_as_many (length (bs ++ operands (needed s.tab l))) (slice_get labels (number s.tab l))) target.counted (jump-many labels s.tab l bs target))
-tree-formed labels s h (Halt k bs) ss phi known p g now w = and_from (all_known now bs) (nat_le (length bs) 8) (atoms-live now bs w) (and_parts (all_known known bs) (nat_le (length bs) 8) p.formed).1
+tree-formed labels s h (Halt k bs) ss phi known p g now w = and_from (all_known now bs) (nat_le (length bs) 8) (atoms_known now bs w) (and_parts (all_known known bs) (nat_le (length bs) 8) p.formed).1
 
 -- ---- variables of a label
 

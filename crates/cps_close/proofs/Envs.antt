@@ -6,8 +6,8 @@ use Rattle.nv_base.specs.Words.{Env, assigned, assigned_all, atom_word, atom_wor
 use Rattle.nv_base.specs.Sets.{is_in, AgreeOn}
 use Rattle.nv_base.proofs.Sets.{same-number}
 use Rattle.cps_close.specs.inner.Closed.{operands}
-use Rattle.cps_close.proofs.Ready.{Apart}
-use Rattle.cps_close.proofs.Members.{in-first}
+use Rattle.flow_ir.proofs.Members.{in-first}
+use Rattle.flow_ir.specs.inner.Scoped.{Apart}
 
 other-at : (b : Bool) (u v : ℕ) → (b ≡ true → ⊥) → u ≡ (if b then v else u)
 other-at true u v h = absurd (h refl)

@@ -1,7 +1,6 @@
 pub mod Ready
 pub mod Envs
 pub mod Simulates
-pub mod Members
 pub mod Wants
 pub mod Places
 pub mod Settles
@@ -17,8 +16,3 @@ pub mod Along
 pub mod Opening
 pub mod Turns
 pub mod Growing
-pub mod Left
-pub mod Renumbering
-pub mod Leaving
-pub mod Noting
-pub mod Leading

@@ -11,14 +11,14 @@ use Rattle.cps_ir.proofs.Widths.{greatest-of}
 use Rattle.cps_ir.specs.Term.{Term, Let, Read, Write, If, Fix, Call, Return, Throw, Jump, Halt, Labels, none, label, Fun}
 use Rattle.cps_ir.specs.View.{Seen}
 use Rattle.cps_ir.specs.Formed.{Scoped, scoped, arity, takes, takes_as_many, is_function}
-use Rattle.cps_ir.specs.Wide.{Wants, with_wants, wants, labels_want, inside, nowhere, term_wide, labels_wide, function_wide, greatest_wide, widths_within, group_wide, main_wide}
+use Rattle.cps_ir.specs.Wide.{Wants, with_wants, wants, labels_want, inside, nowhere, term_wide, labels_wide, function_wide, greatest_wide, widths_within, main_wide}
 use Rattle.cps_ir.specs.Wide as before
 use Rattle.flow_ir.specs.Tree as flow
 use Rattle.flow_ir.specs.Wide.{live, tree_wide, label_wide}
 use Rattle.flow_ir.specs.Wide as behind
 use Rattle.cps_ir.specs.Callless.{only_jumps}
 use Rattle.cps_close.specs.inner.Closed.{Table, labels_in, labels_of_all, needed, operands, tree_of, with_wanted, closed, IsTable}
-use Rattle.cps_close.proofs.Members.{in-left, in-right}
+use Rattle.flow_ir.proofs.Members.{in-left, in-right}
 use Rattle.cps_close.proofs.Places.{Setting, Place, Places, let-place, read-place, write-place, first-place, second-place, rest-place, label-places, body-place, other-places, label-here}
 use Rattle.cps_close.proofs.Settles.{Settled, AllSettled, jump-takes, live-needed}
 use Rattle.cps_close.proofs.Tables.{closed-from}

@@ -11,8 +11,8 @@ use Rattle.cps_ir.specs.Callless.{only_jumps, labels_only_jump}
 use Rattle.cps_ir.specs.Formed.{Scoped, scoped, arity, takes, takes_as_many, is_formed, are_formed, defined, labels_defined}
 use Rattle.cps_ir.specs.Wide.{Wants, with_wants, wants, labels_want, inside}
 use Rattle.cps_close.specs.inner.Closed.{Table, needed, used, bound, labels_in, labels_of_all}
-use Rattle.cps_close.proofs.Ready.{Apart}
-use Rattle.cps_close.proofs.Members.{either, first-or-rest, out-both, in-right, different-parts}
+use Rattle.flow_ir.proofs.Members.{either, first-or-rest, out-both, in-right, different-parts}
+use Rattle.flow_ir.specs.inner.Scoped.{Apart}
 use Rattle.cps_close.proofs.Wants.{inside-more, WantsKnown, known-fix, known-wider, labels-want-known}
 
 -- ---- something holds of each label and what the labels of its `Fix` want

@@ -10,8 +10,8 @@ use Rattle.cps_ir.specs.Formed.{is_formed, is_function, defined, made}
 use Rattle.cps_ir.specs.Wide.{Wants, with_wants, labels_want, inside, nowhere}
 use Rattle.cps_ir.specs.Callless.{only_jumps}
 use Rattle.cps_close.specs.inner.Closed.{Table, labels_in, labels_of_all, index_of, or_nothing, needed_there, needed, number_there, with_wanted, closed, used, bound, noted, noted_all, grown, step, step_there, none_wanted, start, after, IsReached, IsTable}
-use Rattle.cps_close.proofs.Ready.{Apart}
-use Rattle.cps_close.proofs.Members.{either, first-or-rest, in-rest, out-both, in-not-out, in-or-out, different-parts, different-join}
+use Rattle.flow_ir.proofs.Members.{either, first-or-rest, in-rest, out-both, in-not-out, in-or-out, different-parts, different-join}
+use Rattle.flow_ir.specs.inner.Scoped.{Apart}
 use Rattle.cps_close.proofs.Places.{Everywhere, AllPlaces, Least, Uses, Among, Sub, sub-left, sub-right, Setting, Place}
 use Rattle.cps_close.proofs.Settles.{uses-in, AllSettled}
 use Rattle.cps_close.proofs.Tables.{names, names-different, present, closed-at, set-other, set-past}

@@ -8,11 +8,8 @@ use Rattle.cps_ir.specs.Formed.{Scoped, scoped, takes}
 use Rattle.cps_ir.specs.Meaning.{Scope, Top, Bound}
 use Rattle.flow_ir.specs.Tree as flow
 use Rattle.flow_ir.specs.Wide.{live}
+use Rattle.flow_ir.specs.inner.Scoped.{Apart}
 use Rattle.cps_close.specs.inner.Closed.{Table, needed, number, tree_of, with_wanted}
-
--- what is in the first isn't in the second
-abbrev pub Apart : List ℕ → List ℕ → Type 0
-Apart a b = (x : ℕ) → is_in x a ≡ true → is_in x b ≡ false
 
 -- a label where these variables are known
 pub record LabelReady (labels : List flow.Label) (tab : Table) (known : List ℕ) (c : Seen) : Type 0 where

@@ -13,8 +13,9 @@ use Rattle.cps_ir.specs.Wide.{Wants, with_wants, wants, labels_want, inside}
 use Rattle.flow_ir.specs.Tree as flow
 use Rattle.flow_ir.specs.Wide.{live}
 use Rattle.cps_close.specs.inner.Closed.{Table, needed, number, operands, tree_of, with_wanted, used, defines, bound}
-use Rattle.cps_close.proofs.Ready.{Apart, Ready, AllReady}
-use Rattle.cps_close.proofs.Members.{either, first-or-rest, in-left, in-right, in-first, in-rest, out-both, in-not-out, stays, stayed, in-or-out, apart-turned}
+use Rattle.cps_close.proofs.Ready.{Ready, AllReady}
+use Rattle.flow_ir.proofs.Members.{either, first-or-rest, in-left, in-right, in-first, in-rest, out-both, in-not-out, stays, stayed, in-or-out, apart-turned}
+use Rattle.flow_ir.specs.inner.Scoped.{Apart}
 use Rattle.cps_close.proofs.Wants.{wants-more, wants-known}
 use Rattle.cps_close.proofs.Places.{Everywhere, AllPlaces, Uses, Setting, Place, Places, let-place, read-place, write-place, first-place, second-place, rest-place, label-places, body-place, other-places, label-here}
 

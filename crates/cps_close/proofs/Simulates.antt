@@ -20,8 +20,9 @@ use Rattle.flow_ir.specs.Tree as flow
 use Rattle.flow_ir.specs.Wide.{live}
 use Rattle.flow_ir.specs.Meaning.{flow_meaning}
 use Rattle.flow_ir.specs.Meaning as flow_run
+use Rattle.flow_ir.specs.inner.Scoped.{Apart}
 use Rattle.cps_close.specs.inner.Closed.{Table, needed, number, operands, tree_of}
-use Rattle.cps_close.proofs.Ready.{Apart, LabelReady, Ready, AllReady, Along}
+use Rattle.cps_close.proofs.Ready.{LabelReady, Ready, AllReady, Along}
 use Rattle.cps_close.proofs.Envs.{unassigned, unassigned-all, assigned-append, assigned-operands, words-append}
 
 -- ---- labels in scope

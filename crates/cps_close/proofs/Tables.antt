@@ -9,8 +9,8 @@ use Rattle.cps_ir.specs.View.{Seen}
 use Rattle.cps_ir.specs.Formed.{made, labels_made}
 use Rattle.flow_ir.specs.Tree as flow
 use Rattle.cps_close.specs.inner.Closed.{Table, labels_in, labels_of_all, index_of, or_here, or_nothing, with_wanted, closed_labels}
-use Rattle.cps_close.proofs.Ready.{Apart}
-use Rattle.cps_close.proofs.Members.{in-first, in-rest, apart-turned, different-parts, different-join}
+use Rattle.flow_ir.proofs.Members.{in-first, in-rest, apart-turned, different-parts, different-join}
+use Rattle.flow_ir.specs.inner.Scoped.{Apart}
 
 -- ---- the names of labels
 

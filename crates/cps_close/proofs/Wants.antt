@@ -10,7 +10,7 @@ use Rattle.cps_ir.specs.Term.{Term, Let, Read, Write, If, Fix, Call, Return, Thr
 use Rattle.cps_ir.specs.Callless.{only_jumps, labels_only_jump}
 use Rattle.cps_ir.specs.Formed.{Scoped, scoped, arity, takes, takes_as_many, is_formed, are_formed}
 use Rattle.cps_ir.specs.Wide.{Wants, with_wants, wants, labels_want, inside}
-use Rattle.cps_close.proofs.Members.{in-left, in-right, front-more, gone-more, both-more}
+use Rattle.flow_ir.proofs.Members.{in-left, in-right, front-more, gone-more, both-more}
 
 -- ---- where labels want more, terms want at most that much more
 

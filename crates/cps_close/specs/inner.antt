@@ -1,4 +1,3 @@
 pub mod Closed
 pub mod Pending
 pub mod View
-pub mod Pruned

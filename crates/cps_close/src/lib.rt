@@ -4,9 +4,8 @@
 
 mod collect;
 mod program;
-mod prune;
 mod table;
 mod trees;
 mod uses;
 
-pub use program::{close, drop_unreached};
+pub use program::close;

@@ -12,16 +12,14 @@ ghost use Rattle.flow_ir.specs.Bulk.{bulk as flow_bulk};
 ghost use Rattle.flow_ir.specs.Meaning.{flow_meaning, flow_params};
 ghost use Rattle.flow_ir.specs.View.{label_view};
 ghost use Rattle.flow_ir.specs.Wide.{wide as flow_wide};
-ghost use Rattle.cps_close.specs.Led.{AreLedTo};
+ghost use Rattle.flow_ir.specs.Led.{AreLedTo};
 ghost use Rattle.cps_close.specs.inner.Closed.{IsClosed};
-ghost use Rattle.cps_close.specs.inner.Pruned.{IsPruned};
 
 use crate::collect::labels_in;
-use crate::prune::pruned;
 use crate::table::table_of;
 use crate::trees::labels_of;
 use cps_ir::{Cps, CpsFun};
-use flow_ir::{Flow, Label};
+use flow_ir::{Flow, Label, pruned};
 use nv_base::NoMemory;
 use std::alloc::Global;
 
@@ -39,20 +37,6 @@ pub fn close(alloc: Global, c: Cps) -> Result<Flow, NoMemory>
     let f = &c.funs[c.main as usize];
     let all = closed(alloc, f)?;
     let labels = pruned(alloc, &all)?;
-    Ok(Flow { labels })
-}
-
-/// The flow without the labels that label 0 doesn't lead to; the others stay as they are, but for their numbers. It takes as many
-/// words, its outcomes within each number of jumps are equal, and it is neither wider nor larger.
-pub fn drop_unreached(alloc: Global, f: &Flow) -> Result<Flow, NoMemory>
-    ensures params { IfOk result (λ g. flow_params (map label_view g.labels.items) ≡ flow_params (map label_view f.now.labels.items)) }
-    ensures equal { IfOk result (λ g. AreEqual (flow_params (map label_view f.now.labels.items)) (flow_meaning (map label_view f.now.labels.items)) (flow_meaning (map label_view g.labels.items))) }
-    ensures wide { IfOk result (λ g. flow_wide (map label_view g.labels.items) ≤ flow_wide (map label_view f.now.labels.items)) }
-    ensures led { IfOk result (λ g. AreLedTo (map label_view g.labels.items)) }
-    ensures left { IfOk result (λ g. IsPruned (map label_view f.now.labels.items) (map label_view g.labels.items)) }
-    ensures bulk { IfOk result (λ g. IsAtMost (flow_bulk (map label_view g.labels.items)) (flow_bulk (map label_view f.now.labels.items))) }
-{
-    let labels = pruned(alloc, &f.labels)?;
     Ok(Flow { labels })
 }
 

@@ -1,6 +1,6 @@
 // Trees and labels of the flow.
 
-ghost use Rattle.std.specs.Prelude.{◌≡◌, ◌++◌, ◌∷◌, [], Some, IfOk, map};
+ghost use Rattle.std.specs.Prelude.{◌≡◌, ◌++◌, [], Some, IfOk, map};
 ghost use Rattle.cps_ir.specs.View.{term_view, label_view, fun_view};
 ghost use Rattle.flow_ir.specs.Tree as flow;
 ghost use Rattle.flow_ir.specs.Spine.{put_all};
@@ -11,11 +11,11 @@ ghost use Rattle.cps_close.specs.inner.View.{table_view};
 use crate::table::Table;
 use crate::uses::push_all;
 use cps_ir::{Cont, CpsFun, Term};
-use flow_ir::{Label, Step, Tree, join};
-use nv_base::{Args, Atom, NoMemory, Vars};
+use flow_ir::{Label, Step, Tree, joined, push_step, short_atoms, short_numbers};
+use nv_base::{Atom, NoMemory};
 use std::alloc::Global;
 
-/// What was found, or memory exhaustion, after letting go of what is held.
+// What was found, or memory exhaustion, after letting go of what is held.
 macro_rules! read {
     ($found:expr $(, $held:expr)*) => {
         match $found {
@@ -26,37 +26,6 @@ macro_rules! read {
             }
         }
     };
-}
-
-pub(crate) use read;
-
-/// One step more.
-pub fn push_step(steps: &mut Vec<Step>, step: Step) -> Result<(), NoMemory>
-    ensures { IfOk result (λ u. steps.new.items ≡ steps.old.items ++ step ∷ []) }
-{
-    steps.push(step)?;
-    Ok(())
-}
-
-/// The steps before a tree.
-pub fn joined(alloc: Global, steps: Vec<Step>, end: Tree) -> Result<Tree, NoMemory>
-    ensures { IfOk result (λ u. tree_view u ≡ put_all steps.items (tree_view end)) }
-{
-    Ok(join(alloc, steps, end)?)
-}
-
-/// The same operands in a short list.
-pub fn short_atoms(alloc: Global, xs: &[Atom]) -> Result<Args, NoMemory>
-    ensures { IfOk result (λ v. v.items ≡ xs.now) }
-{
-    Ok(Args::from_slice(alloc, xs)?)
-}
-
-/// The same variables in a short list.
-pub fn short_numbers(alloc: Global, xs: &[u32]) -> Result<Vars, NoMemory>
-    ensures { IfOk result (λ v. v.items ≡ xs.now) }
-{
-    Ok(Vars::from_slice(alloc, xs)?)
 }
 
 // Operands, and then variables.

@@ -1,5 +1,5 @@
 -- The spine of a tree, node by node.
-use Rattle.std.proofs.Common.{◌≡◌, ℕ, ◌≤◌, List, [], ◌∷◌, ◌++◌, ⊎_elim, sym, ap, subst, ◌∙◌, arith, Result, Ok, Err, IfOk}
+use Rattle.std.proofs.Common.{◌≡◌, ℕ, ◌≤◌, List, [], ◌∷◌, ◌++◌, ⊎_elim, sym, ap, subst, arith}
 use Rattle.std.specs.declared.vec.Vec.{Vec}
 use Rattle.std.specs.declared.alloc.Global.{Global}
 use Rattle.nv_base.specs.Sets.{all_vars}
@@ -17,14 +17,14 @@ use Rattle.flow_ir.specs.declared.flow.Tree.{Tree, size-Tree}
 use Rattle.flow_ir.specs.declared.flow.Tree.TheVariants.{Let', Read', Write', If', Jump, Halt}
 use Rattle.flow_ir.specs.declared.flow.Tree.TheViews.{deep-Let', deep-Read', deep-Write', deep-If'}
 use Rattle.cps_rules.specs.Rules.{Answers, IsAnswered}
-use Rattle.cps_rules.specs.Substitution.{Names, renamed, all_renamed, prim_renamed, look, AreNamed}
+use Rattle.flow_ir.specs.Substitution.{Names, renamed, all_renamed, prim_renamed, AreNamed}
 use Rattle.cps_rules.specs.inner.Marks.{Set, Adds}
-use Rattle.cps_rules.specs.Simplified.{uses}
 use Rattle.cps_rules.specs.inner.Way.{IsFolded, IsScoped, IsDone, kept_all}
 use Rattle.cps_rules.proofs.Down.{On, on_start, on_push, on_same, goes_let, goes_read, goes_write, goes_if, done_last, last_jump, last_halt}
-use Rattle.cps_rules.proofs.Members.{in-left}
-use Rattle.cps_rules.proofs.Renaming.{AllSound}
+use Rattle.cps_rules.proofs.Answered.{AllSound}
+use Rattle.flow_ir.proofs.Members.{in-left}
 use Rattle.flow_ir.specs.Formed.{defined}
+use Rattle.flow_ir.specs.Wide.{uses}
 
 -- where the spine has come, and that it gets shorter
 pub record Along (A : Answers) (t : Tree) (σ0 : Names) (M0 : Set) (cur : Tree) (σ : Names) (M : Set) (ss : List Step) : Type 0 where
@@ -92,20 +92,7 @@ jump_done {N = N} {O = O} l bs cs u on is e added tree marked = done_last (pure.
 pub halt_done : {A : Answers} {t cur : Tree} {σ0 σ : Names} {M0 M N O : Set} {ss : List Step} (n : ℕ) (bs : SmallVec Atom) (cs : List Atom) (u : Tree) → Along A t σ0 M0 cur σ M ss → cur ≡ Halt n bs → cs ≡ all_renamed σ bs.items → Adds (all_vars cs) M N → tree_view u ≡ kept_all N ss (pure.Halt n cs) → Adds (uses (tree_view u)) N O → IsDone A (tree_view t) σ0 σ M0 O (tree_view u)
 halt_done {N = N} {O = O} n bs cs u on is e added tree marked = done_last (pure.Halt n cs) (tree_view u) N O (here _ (Halt n bs) is on.on) (last_halt cs e) tt added tree marked
 
-pub if_ok_both : {T E : Type 0} (r : Result T E) (P Q R : T → Type 0) → ((v : T) → P v → Q v → R v) → IfOk r P → IfOk r Q → IfOk r R
-if_ok_both (Ok v) P Q R f h k = f v h k
-if_ok_both (Err e) P Q R f h k = tt
-
 -- ---- what references tell
-
-pub renamed_at : {l l' : List Atom} {b : Atom} (a : Atom) → b ≡ renamed (look l) a → l ≡ l' → b ≡ renamed (look l') a
-renamed_at a e f = e ∙ ap (λ v. renamed (look v) a) f
-
-pub all_at : {l l' bs bs' cs : List Atom} → cs ≡ all_renamed (look l) bs → l ≡ l' → bs ≡ bs' → cs ≡ all_renamed (look l') bs'
-all_at {l' = l'} {bs = bs} e f g = e ∙ ap (λ v. all_renamed (look v) bs) f ∙ ap (all_renamed (look l')) g
-
-pub named_at : {σ τ : Names} {xs ys : List ℕ} → AreNamed σ xs τ → xs ≡ ys → AreNamed σ ys τ
-named_at {σ} {τ} h e = subst (λ l. AreNamed σ l τ) e h
 
 pub adds_at : {S T : Set} {xs ys : List Atom} → Adds (all_vars xs) S T → xs ≡ ys → Adds (all_vars ys) S T
 adds_at {S} {T} h e = subst (λ l. Adds (all_vars l) S T) e h

@@ -10,10 +10,10 @@ use Rattle.flow_ir.specs.Tree.{Tree, Let}
 use Rattle.flow_ir.specs.View.{tree_view}
 use Rattle.flow_ir.specs.declared.spine.Step.{Step}
 use Rattle.flow_ir.specs.declared.spine.Step.TheVariants as step
+use Rattle.flow_ir.specs.Wide.{uses}
 use Rattle.cps_rules.specs.inner.Marks.{Set, Adds}
-use Rattle.cps_rules.specs.Simplified.{uses}
 use Rattle.cps_rules.specs.inner.Way.{kept_step, used_in, kept_all, step_uses, first_uses, Covers, AreFirsts}
-use Rattle.cps_rules.proofs.Members.{in-right}
+use Rattle.flow_ir.proofs.Members.{in-right}
 use Rattle.cps_rules.proofs.Marking.{adds_both, adds_as}
 
 -- a step before a tree, where what the tree uses and the set are used

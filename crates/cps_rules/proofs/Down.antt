@@ -9,26 +9,28 @@ use Rattle.nv_base.specs.declared.term.Mem.{Mem}
 use Rattle.nv_base.specs.declared.term.Primitive.{Primitive}
 use Rattle.nv_base.specs.declared.term.Primitive.TheVariants.{Same}
 use Rattle.nv_base.specs.Words.{atom_vars, prim_vars}
-use Rattle.nv_base.specs.Sets.{is_in, all_vars, without, Within}
-use Rattle.nv_base.proofs.Sets.{within-both, within-right}
+use Rattle.nv_base.specs.Sets.{is_in, all_vars, Within}
+use Rattle.nv_base.proofs.Sets.{within-right}
 use Rattle.flow_ir.specs.Tree.{Tree, Let, Read, Write, If, Jump, Halt}
 use Rattle.flow_ir.specs.Formed.{defined}
 use Rattle.flow_ir.specs.View.{tree_view}
-use Rattle.flow_ir.specs.Wide.{live}
+use Rattle.flow_ir.specs.Wide.{live, uses}
 use Rattle.flow_ir.specs.declared.spine.Step.{Step}
 use Rattle.flow_ir.specs.declared.spine.Step.TheVariants as step
 use Rattle.flow_ir.specs.declared.flow.Tree.{Tree as FlowTree}
 use Rattle.cps_rules.specs.Rules.{Answers, IsAnswered}
-use Rattle.cps_rules.specs.Simplified.{is_same, uses}
-use Rattle.cps_rules.specs.Substitution.{Names, renamed, all_renamed, prim_renamed, IsNamed, AreNamed}
+use Rattle.cps_rules.specs.Simplified.{is_same}
+use Rattle.flow_ir.specs.Substitution.{Names, renamed, all_renamed, prim_renamed, IsNamed, AreNamed}
 use Rattle.cps_rules.specs.inner.Marks.{Set, Adds}
-use Rattle.cps_rules.specs.inner.Way.{Simplified, same, kept, dropped, read, write, choice, jump, halt, used_in, kept_all, first_uses, Covers, AreFirsts, Fits, IsScoped, AreUsed, IsDone}
+use Rattle.cps_rules.specs.inner.Way.{Simplified, same, kept, dropped, read, write, choice, jump, halt, used_in, kept_all, first_uses, Covers, AreFirsts, IsScoped, AreUsed, IsDone}
 use Rattle.cps_rules.proofs.Back.{kept_one, kept_last, firsts_push, firsts_more, step_more, all_more}
 use Rattle.cps_rules.proofs.Means.{AreOwn, own_more, own_var, own_list}
-use Rattle.cps_rules.proofs.Members.{either, in-left, in-right, in-first, in-rest, in-not-out, out-both, stayed}
-use Rattle.cps_rules.proofs.Renaming.{image_known, prim_image, atom_alike, all_alike, prim_alike, AllSound, answered_uses}
-use Rattle.cps_rules.proofs.Scopes.{not_same, fits_apart, fits_uses, uses_live}
+use Rattle.flow_ir.proofs.Members.{either, in-left, in-right, in-first, in-rest, in-not-out, out-both}
+use Rattle.flow_ir.proofs.Scopes.{not_same, fits_apart, fits_uses, uses_live, fits_live}
+use Rattle.flow_ir.proofs.Renaming.{image_known, prim_image, atom_alike, all_alike, prim_alike}
+use Rattle.flow_ir.specs.inner.Scoped.{Fits}
 use Rattle.cps_rules.proofs.Way.{alike, fewer_defined, live_image, not_in}
+use Rattle.cps_rules.proofs.Answered.{AllSound, answered_uses}
 
 -- ρ says of all that a tree doesn't define what τ says
 abbrev pub Outside : Tree → Names → Names → Type 0
@@ -216,19 +218,6 @@ goes_write {A} {m} {a} {bs} {rest} {σ} {M} b cs scoped eb ec = record {
 }
 
 -- ---- an `If`
-
--- what a tree has live is known
-pub fits_live : (known : List ℕ) (t : Tree) → Fits known t → Within (live t) known
-fits_live known (Let x p t) f =
-    within-both (prim_vars p) (without (live t) (x ∷ [])) known f.0
-    (λ y e. let parts = stayed y (live t) (x ∷ []) e in either y (x ∷ []) known (fits_live (x ∷ known) t f.3 y parts.0) (λ i. in-not-out y (x ∷ []) i parts.1) (λ i. i))
-fits_live known (Read m xs a t) f =
-    within-both (atom_vars a) (without (live t) xs) known f.0
-    (λ y e. let parts = stayed y (live t) xs e in either y xs known (fits_live (xs ++ known) t f.2 y parts.0) (λ i. in-not-out y xs i parts.1) (λ i. i))
-fits_live known (Write m a bs t) f = within-both (all_vars (a ∷ bs)) (live t) known f.0 (fits_live known t f.1)
-fits_live known (If c a b t u) f = within-both (all_vars (a ∷ b ∷ [])) (live t ++ live u) known f.0 (within-both (live t) (live u) known (fits_live known t f.1) (fits_live known u f.2))
-fits_live known (Jump l bs) f = f
-fits_live known (Halt e bs) f = f
 
 -- what a simplified tree uses is known or was defined in it
 done_uses : {A : Answers} (known : List ℕ) (τ : Names) (t u : Tree) → AllSound A → Fits known t → AreOwn known τ → Simplified A τ t u → Within (uses u) (known ++ defined t)

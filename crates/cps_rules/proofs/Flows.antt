@@ -3,7 +3,7 @@ use Rattle.std.proofs.Common.{◌≡◌, ℕ, zero, suc, ◌+◌, ◌<◌, ◌�
 use Rattle.std.specs.Prelude.{slice_get, ⊤}
 use Rattle.std.specs.List.{list_all}
 use Rattle.std.proofs.lemmas.Bool.{and_parts, and_from, false≢true}
-use Rattle.std.proofs.lemmas.List.{map_more}
+use Rattle.std.proofs.lemmas.List.{map_more, map_push}
 use Rattle.std.proofs.lemmas.List.Elements.{All-nil, All-cons}
 use Rattle.nv_base.specs.declared.term.Atom.TheVariants.{Var}
 use Rattle.nv_base.specs.Memories.{HasSizes}
@@ -24,17 +24,18 @@ use Rattle.flow_ir.specs.Wide.{live, wide}
 use Rattle.flow_ir.specs.declared.flow.Label.{Label as FlowLabel}
 use Rattle.cps_rules.specs.Rules.{Answers}
 use Rattle.cps_rules.specs.Simplified.{IsTidy, AreTidy}
-use Rattle.cps_rules.specs.Substitution.{Names, AreNamed}
+use Rattle.flow_ir.specs.Substitution.{Names, AreNamed}
 use Rattle.cps_rules.specs.inner.Marks.{Set}
-use Rattle.cps_rules.specs.inner.Way.{IsScoped, IsDone, IsScopedLabel, IsLabelDone, AreDone}
-use Rattle.cps_rules.proofs.Down.{fits_live}
+use Rattle.cps_rules.specs.inner.Way.{IsScoped, IsDone, IsLabelDone, AreDone}
 use Rattle.cps_rules.proofs.Means.{AreOwn, means}
-use Rattle.cps_rules.proofs.Members.{first-or-rest, different-parts, different-join}
-use Rattle.cps_rules.proofs.Renaming.{image_within, image_own, AllSound}
-use Rattle.cps_rules.proofs.Scopes.{label_fits, fits_apart}
+use Rattle.flow_ir.proofs.Members.{first-or-rest, different-parts, different-join}
+use Rattle.flow_ir.proofs.Scopes.{label_fits, fits_apart, fits_live}
+use Rattle.flow_ir.proofs.Renaming.{image_within, image_own}
+use Rattle.flow_ir.specs.inner.Scoped.{IsScopedLabel}
 use Rattle.cps_rules.proofs.Way.{live_image, fewer_defined, still_different, not_in}
 use Rattle.cps_rules.proofs.WayFormed.{still_formed, tidy_used}
 use Rattle.cps_rules.proofs.WayMeasures.{not_wider, not_larger}
+use Rattle.cps_rules.proofs.Answered.{AllSound}
 
 -- ---- labels in scope
 
@@ -81,15 +82,11 @@ done_push A [] (n ∷ ms) l m h d = absurd h
 done_push A (k ∷ ls) [] l m h d = absurd h
 done_push A (k ∷ ls) (n ∷ ms) l m h d = (h.0, done_push A ls ms l m h.1 d)
 
-pub map_last : (ls : List FlowLabel) (l : FlowLabel) → map label_view (ls ++ l ∷ []) ≡ map label_view ls ++ label_view l ∷ []
-map_last [] l = refl
-map_last (k ∷ ls) l = ap (λ v. label_view k ∷ v) (map_last ls l)
-
 -- one label more
 pub done_next : (A : Answers) (labels : List FlowLabel) (i : ℕ) (d l m : FlowLabel) (ms ms' : List FlowLabel) → i < length labels → l ≡ get_or labels i d → AreDone A (map label_view (take i labels)) (map label_view ms) → IsLabelDone A (label_view l) (label_view m) → ms' ≡ ms ++ m ∷ [] → AreDone A (map label_view (take (i + 1) labels)) (map label_view ms')
 done_next A labels i d l m ms ms' lt e h k push =
     let front : map label_view (take (i + 1) labels) ≡ map label_view (take i labels) ++ label_view l ∷ [] = map_more label_view labels i d lt ∙ ap (λ v. map label_view (take i labels) ++ label_view v ∷ []) (sym e) in
-    let back : map label_view ms' ≡ map label_view ms ++ label_view m ∷ [] = ap (map label_view) push ∙ map_last ms m in
+    let back : map label_view ms' ≡ map label_view ms ++ label_view m ∷ [] = ap (map label_view) push ∙ map_push label_view ms m in
     subst (λ v. AreDone A v (map label_view ms')) (sym front) (subst (AreDone A (map label_view (take i labels) ++ label_view l ∷ [])) (sym back) (done_push A (map label_view (take i labels)) (map label_view ms) (label_view l) (label_view m) h k))
 
 -- ---- parameters

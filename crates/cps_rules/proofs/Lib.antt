@@ -1,8 +1,4 @@
-pub mod Members
-pub mod Mentions
 pub mod Marking
-pub mod Renaming
-pub mod Scopes
 pub mod Way
 pub mod WayFormed
 pub mod WayMeasures
@@ -12,3 +8,4 @@ pub mod Down
 pub mod Along
 pub mod Flows
 pub mod Stands
+pub mod Answered

@@ -17,14 +17,15 @@ use Rattle.nv_base.proofs.Environments.{assigned-env, assigned-all-env, atoms-fi
 use Rattle.nv_base.proofs.MemoryLemmas.{stored-sizes, fetched-words}
 use Rattle.flow_ir.specs.Tree.{Tree, Let, Read, Write, If, Jump, Halt}
 use Rattle.flow_ir.specs.Meaning.{Next, does}
-use Rattle.flow_ir.specs.Wide.{live}
+use Rattle.flow_ir.specs.Wide.{live, uses}
 use Rattle.cps_rules.specs.Rules.{Answers}
-use Rattle.cps_rules.specs.Substitution.{Names, renamed, all_renamed, prim_renamed}
-use Rattle.cps_rules.specs.Simplified.{uses}
-use Rattle.cps_rules.specs.inner.Way.{Fits, Apart, Simplified, same, kept, dropped, read, write, choice, jump, halt}
-use Rattle.cps_rules.proofs.Members.{either, first-or-rest, in-left, in-right, in-not-out}
-use Rattle.cps_rules.proofs.Renaming.{image_known, prim_image, Agrees, atom_agrees, atoms_agree, prim_agrees, AllSound, answered_word, answered_uses, answered_count, count_renamed}
-use Rattle.cps_rules.proofs.Scopes.{not_same, live_uses}
+use Rattle.flow_ir.specs.Substitution.{Names, renamed, all_renamed, prim_renamed}
+use Rattle.cps_rules.specs.inner.Way.{Simplified, same, kept, dropped, read, write, choice, jump, halt}
+use Rattle.cps_rules.proofs.Answered.{AllSound, answered_word, answered_uses, answered_count}
+use Rattle.flow_ir.proofs.Members.{either, first-or-rest, in-left, in-right, in-not-out}
+use Rattle.flow_ir.proofs.Scopes.{not_same, live_uses}
+use Rattle.flow_ir.proofs.Renaming.{image_known, prim_image, Agrees, atom_agrees, atoms_agree, prim_agrees, count_renamed}
+use Rattle.flow_ir.specs.inner.Scoped.{Fits, Apart}
 
 -- ---- accesses with the same that follows
 

@@ -11,13 +11,15 @@ use Rattle.nv_base.proofs.Sets.{same-number}
 use Rattle.flow_ir.specs.Formed.{defined, is_label, is_entry, is_flow}
 use Rattle.flow_ir.specs.Tree.{Tree, Let, If, Label}
 use Rattle.cps_rules.specs.Rules.{Answers, IsAnswered}
-use Rattle.cps_rules.specs.Simplified.{Defines, AreSimplified, uses}
-use Rattle.cps_rules.specs.Substitution.{Names, prim_renamed}
-use Rattle.cps_rules.specs.inner.Way.{Counted, Simplified, same, kept, dropped, read, write, choice, jump, halt, IsScopedLabel, IsLabelDone, AreDone}
+use Rattle.cps_rules.specs.Simplified.{Defines, AreSimplified}
+use Rattle.flow_ir.specs.Substitution.{Names, prim_renamed}
+use Rattle.flow_ir.specs.Wide.{uses}
+use Rattle.cps_rules.specs.inner.Way.{Counted, Simplified, same, kept, dropped, read, write, choice, jump, halt, IsLabelDone, AreDone}
 use Rattle.cps_rules.proofs.Flows.{AllScoped, all_scoped}
-use Rattle.cps_rules.proofs.Members.{either, first-or-rest, in-or-out}
-use Rattle.cps_rules.proofs.Renaming.{AreAlike}
-use Rattle.cps_rules.proofs.Scopes.{fits_apart, fits_uses}
+use Rattle.flow_ir.proofs.Members.{either, first-or-rest, in-or-out}
+use Rattle.flow_ir.proofs.Scopes.{fits_apart, fits_uses}
+use Rattle.flow_ir.proofs.Renaming.{AreAlike}
+use Rattle.flow_ir.specs.inner.Scoped.{IsScopedLabel}
 use Rattle.cps_rules.proofs.Way.{alike}
 use Rattle.cps_rules.proofs.WayFormed.{same_accesses, lets_answered}
 

@@ -9,14 +9,14 @@ use Rattle.nv_base.specs.Sets.{is_in, all_different, all_vars, without, Within}
 use Rattle.nv_base.proofs.Sets.{same-number, within-both, within-left}
 use Rattle.flow_ir.specs.Tree.{Tree, Read, Write, If, Jump, Halt}
 use Rattle.flow_ir.specs.Formed.{defined}
-use Rattle.flow_ir.specs.Wide.{live}
+use Rattle.flow_ir.specs.Wide.{live, uses}
 use Rattle.cps_rules.specs.Rules.{Answers, IsAnswered}
-use Rattle.cps_rules.specs.Substitution.{Names, renamed, all_renamed, prim_renamed}
-use Rattle.cps_rules.specs.Simplified.{uses}
+use Rattle.flow_ir.specs.Substitution.{Names, renamed, all_renamed, prim_renamed}
 use Rattle.cps_rules.specs.inner.Way.{Simplified, same, kept, dropped, read, write, choice, jump, halt}
-use Rattle.cps_rules.proofs.Members.{either, first-or-rest, in-left, in-right, in-first, in-rest, in-not-out, stays, stayed, different-parts, different-join}
-use Rattle.cps_rules.proofs.Renaming.{image, image_from, image_of, image_within, image_both, atom_image, all_image, prim_image, AreAlike, atom_alike, all_alike, prim_alike, AllSound, answered_uses}
-use Rattle.cps_rules.proofs.Scopes.{live_uses}
+use Rattle.cps_rules.proofs.Answered.{AllSound, answered_uses}
+use Rattle.flow_ir.proofs.Members.{either, first-or-rest, in-left, in-right, in-first, in-rest, in-not-out, stays, stayed, different-parts, different-join}
+use Rattle.flow_ir.proofs.Scopes.{live_uses}
+use Rattle.flow_ir.proofs.Renaming.{image, image_from, image_of, image_within, image_both, atom_image, all_image, prim_image, AreAlike, atom_alike, all_alike, prim_alike}
 
 -- ---- names that say the same
 

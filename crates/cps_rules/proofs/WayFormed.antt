@@ -12,11 +12,12 @@ use Rattle.flow_ir.specs.Formed.{defined, is_formed, takes_as_many}
 use Rattle.flow_ir.specs.Wide.{live}
 use Rattle.cps_rules.specs.Rules.{Answers, IsAnswered}
 use Rattle.cps_rules.specs.Simplified.{reads, writes, accesses, EachLet, Defines, IsTidy}
-use Rattle.cps_rules.specs.Substitution.{Names, renamed, all_renamed, prim_renamed}
+use Rattle.flow_ir.specs.Substitution.{Names, renamed, all_renamed, prim_renamed}
 use Rattle.cps_rules.specs.inner.Way.{AreUsed, Simplified, same, kept, dropped, read, write, choice, jump, halt}
-use Rattle.cps_rules.proofs.Members.{either, in-left, in-right, in-or-out, in-not-out, stays, different-parts}
-use Rattle.cps_rules.proofs.Renaming.{all_length, AllSound, answered_count, count_renamed, atom_known, atoms_known, prim_known, address_renamed}
-use Rattle.cps_rules.proofs.Scopes.{uses_live}
+use Rattle.cps_rules.proofs.Answered.{AllSound, answered_count}
+use Rattle.flow_ir.proofs.Members.{either, in-left, in-right, in-or-out, in-not-out, stays, different-parts}
+use Rattle.flow_ir.proofs.Scopes.{uses_live}
+use Rattle.flow_ir.proofs.Renaming.{all_length, count_renamed, atom_known, atoms_known, prim_known, address_renamed}
 
 -- ---- formed
 

@@ -1,60 +1,23 @@
 -- A simplified tree is neither wider nor larger.
 use Rattle.std.proofs.Common.{◌≡◌, ℕ, ◌+◌, ◌≤◌, true, List, [], ◌∷◌, ◌++◌, sym, subst, length, arith}
-use Rattle.std.proofs.lemmas.Bool.{false≢true, false_from_ne_true}
-use Rattle.nv_base.specs.declared.term.Atom.{Atom}
-use Rattle.nv_base.specs.declared.term.Atom.TheVariants.{Var, Lit}
+use Rattle.std.proofs.lemmas.Bool.{false≢true}
+use Rattle.nv_base.specs.declared.term.Atom.TheVariants.{Var}
 use Rattle.nv_base.specs.Words.{atom_vars, prim_vars}
-use Rattle.nv_base.specs.Sets.{is_in, all_vars, different, without, Within}
-use Rattle.nv_base.specs.Measures.{operands_wide, let_wide, Bulk, a_node, a_jump, both, IsAtMost}
-use Rattle.nv_base.proofs.Sets.{different-below}
+use Rattle.nv_base.specs.Sets.{is_in, without, Within}
+use Rattle.nv_base.specs.Measures.{Bulk, a_node, a_jump, both, IsAtMost}
 use Rattle.nv_base.proofs.Measures.{most-refl, most-both, most-behind}
 use Rattle.flow_ir.specs.Tree.{Tree, Let}
 use Rattle.flow_ir.specs.Wide.{live, tree_wide}
 use Rattle.flow_ir.specs.Bulk.{tree_bulk}
 use Rattle.cps_rules.specs.Rules.{Answers}
-use Rattle.cps_rules.specs.Substitution.{Names, renamed, all_renamed}
+use Rattle.flow_ir.specs.Substitution.{Names}
 use Rattle.cps_rules.specs.inner.Way.{Simplified, same, kept, dropped, read, write, choice, jump, halt}
-use Rattle.cps_rules.proofs.Members.{either, in-left, in-right, in-first, in-not-out, stays, stayed}
-use Rattle.cps_rules.proofs.Renaming.{image, image_from, image_of, image_both, image_different, all_length, AllSound}
+use Rattle.flow_ir.proofs.Members.{in-first}
+use Rattle.flow_ir.proofs.Renaming.{image, image_of, image_both, all_length, let_image, fewer, operands_image}
 use Rattle.cps_rules.proofs.Way.{live_image, behind_read}
+use Rattle.cps_rules.proofs.Answered.{AllSound}
 
 -- ---- widths
-
-pub fewer : (σ : Names) (a b : List ℕ) → Within a (image σ b) → different a ≤ different b
-fewer σ a b h = let one = different-below a (image σ b) h in let two = image_different σ b in omega arith
-
-atom_covered : (σ : Names) (a : Atom) → Within (image σ (atom_vars a)) (atom_vars (renamed σ a))
-atom_covered σ (Var x) = λ y e. either y (atom_vars (σ x)) [] e (λ p. p) (λ p. absurd (false≢true p))
-atom_covered σ (Lit v) = λ y e. absurd (false≢true e)
-
-all_covered : (σ : Names) (bs : List Atom) → Within (image σ (all_vars bs)) (all_vars (all_renamed σ bs))
-all_covered σ [] = λ y e. absurd (false≢true e)
-all_covered σ (b ∷ bs) =
-    λ y e.
-    let f = image_from σ (atom_vars b ++ all_vars bs) y e in
-    either f.source (atom_vars b) (all_vars bs) f.among
-    (λ p. in-left y (atom_vars (renamed σ b)) (all_vars (all_renamed σ bs)) (atom_covered σ b y (image_of σ (atom_vars b) y f.source p f.var)))
-    (λ p. in-right y (atom_vars (renamed σ b)) (all_vars (all_renamed σ bs)) (all_covered σ bs y (image_of σ (all_vars bs) y f.source p f.var)))
-
-without_image : (σ : Names) (a b : List ℕ) (bs : List Atom) → Within a (image σ b) → Within (without a (all_vars (all_renamed σ bs))) (image σ (without b (all_vars bs)))
-without_image σ a b bs h =
-    λ y e.
-    let parts = stayed y a (all_vars (all_renamed σ bs)) e in
-    let f = image_from σ b y (h y parts.0) in
-    image_of σ (without b (all_vars bs)) y f.source
-    (stays f.source b (all_vars bs) f.among
-    (false_from_ne_true (is_in f.source (all_vars bs)) (λ i. in-not-out y (all_vars (all_renamed σ bs)) (all_covered σ bs y (image_of σ (all_vars bs) y f.source i f.var)) parts.1)))
-    f.var
-
-pub operands_image : (σ : Names) (a b : List ℕ) (bs : List Atom) → Within a (image σ b) → operands_wide a (all_renamed σ bs) ≤ operands_wide b bs
-operands_image σ a b [] h = fewer σ a b h
-operands_image σ a b (c ∷ bs) h =
-    let le = fewer σ (without a (all_vars (all_renamed σ (c ∷ bs)))) (without b (all_vars (c ∷ bs))) (without_image σ a b (c ∷ bs) h) in
-    let e = all_length σ bs in
-    omega arith
-
-pub let_image : (σ : Names) (a b : List ℕ) → Within a (image σ b) → let_wide a ≤ let_wide b
-let_image σ a b h = let le = fewer σ a b h in omega arith
 
 own_image : (σ : Names) (xs : List ℕ) → ((y : ℕ) → is_in y xs ≡ true → σ y ≡ Var y) → Within xs (image σ xs)
 own_image σ xs own = λ y e. image_of σ xs y y e (subst (λ a. is_in y (atom_vars a) ≡ true) (sym (own y e)) (in-first y []))

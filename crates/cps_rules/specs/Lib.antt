@@ -1,4 +1,3 @@
 pub mod Rules
-pub mod Substitution
 pub mod Simplified
 pub mod inner

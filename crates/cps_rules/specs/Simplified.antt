@@ -4,12 +4,11 @@ use Rattle.nv_base.specs.declared.term.Atom.TheVariants.{Var}
 use Rattle.nv_base.specs.declared.term.Mem.{Mem}
 use Rattle.nv_base.specs.declared.term.Primitive.{Primitive}
 use Rattle.nv_base.specs.declared.term.Primitive.TheVariants.{Same, Una as UnaOf, Bin as BinOf}
-use Rattle.nv_base.specs.Sets.{is_in, all_vars}
-use Rattle.nv_base.specs.Words.{atom_vars, prim_vars}
+use Rattle.nv_base.specs.Sets.{is_in}
 use Rattle.flow_ir.specs.Tree.{Tree, Let, Read, Write, If, Jump, Halt, Label}
 use Rattle.flow_ir.specs.Wide.{live}
 use Rattle.cps_rules.specs.Rules.{Answers, IsAnswered}
-use Rattle.cps_rules.specs.Substitution.{Names, prim_renamed}
+use Rattle.flow_ir.specs.Substitution.{Names, prim_renamed}
 
 -- ---- accesses of memory
 
@@ -50,15 +49,6 @@ abbrev pub is_same : Primitive → Bool
 is_same (Same a) = true
 is_same (UnaOf op a) = false
 is_same (BinOf op a b) = false
-
--- all variables that a tree uses, its own among them
-abbrev pub uses : Tree → List ℕ
-uses (Let x a t) = prim_vars a ++ uses t
-uses (Read m xs a t) = atom_vars a ++ uses t
-uses (Write m a bs t) = all_vars (a ∷ bs) ++ uses t
-uses (If c a b t u) = all_vars (a ∷ b ∷ []) ++ (uses t ++ uses u)
-uses (Jump l bs) = all_vars bs
-uses (Halt e bs) = all_vars bs
 
 -- each variable that a `Let` defines is used after it, and none is just another operand
 abbrev pub IsTidy : Tree → Type 0

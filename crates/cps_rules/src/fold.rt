@@ -1,17 +1,17 @@
 // The way down: each variable that is the same as an operand is replaced by that, and a rule is asked about each
 // primitive.
 
-ghost use Rattle.std.specs.Prelude.{◌≡◌, ◌++◌, ◌∷◌, [], OnOk, IfOk};
+ghost use Rattle.std.specs.Prelude.{◌≡◌, OnOk, IfOk};
 ghost use Rattle.flow_ir.specs.View.{tree_view};
 ghost use Rattle.nv_base.specs.Words.{HasPrimCount};
 ghost use Rattle.cps_rules.specs.inner.Marked.{is_marked};
-ghost use Rattle.cps_rules.specs.Substitution.{look};
+ghost use Rattle.flow_ir.specs.Substitution.{look};
 ghost use Rattle.cps_rules.specs.inner.Way.{Counted, IsFolded, IsScoped, IsDone};
 
 use crate::marks::Marks;
-use crate::names::{name, name_all, renamed, renamed_all, renamed_args, renamed_prim};
 use crate::rewrite::{Rewrite, answer};
 use crate::spine::joined;
+use flow_ir::names::{name, name_all, renamed, renamed_all, renamed_args, renamed_prim};
 use flow_ir::{Step, Tree};
 use nv_base::{Atom, NoMemory, Prim, Vars};
 use std::alloc::Global;

@@ -3,11 +3,9 @@
 
 mod fold;
 mod marks;
-pub mod names;
 mod program;
 mod rewrite;
 mod spine;
-pub mod uses;
 
 pub use program::simplify;
 pub use rewrite::{Both, Rewrite, Rule};

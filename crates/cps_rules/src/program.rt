@@ -8,14 +8,15 @@ ghost use Rattle.flow_ir.specs.Formed.{is_label};
 ghost use Rattle.flow_ir.specs.Meaning.{flow_meaning, flow_params};
 ghost use Rattle.flow_ir.specs.View.{label_view};
 ghost use Rattle.flow_ir.specs.Wide.{wide};
+ghost use Rattle.flow_ir.specs.inner.Scoped.{IsScopedLabel};
 ghost use Rattle.cps_rules.specs.Simplified.{AreSimplified, AreTidy};
-ghost use Rattle.cps_rules.specs.inner.Way.{Counted, IsScopedLabel, IsLabelDone, AreDone};
+ghost use Rattle.cps_rules.specs.inner.Way.{Counted, IsLabelDone, AreDone};
 ghost use Rattle.std.specs.List.{list_all};
 
 use crate::fold::simplify_tree;
 use crate::marks::Marks;
-use crate::names::{name_all, numbers};
 use crate::rewrite::Rewrite;
+use flow_ir::names::{name_all, numbers};
 use flow_ir::{Flow, Label};
 use nv_base::{Atom, NoMemory};
 use std::alloc::Global;

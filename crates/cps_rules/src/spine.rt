@@ -2,10 +2,10 @@
 
 ghost use Rattle.std.specs.Prelude.{◌≡◌, IfOk, OnOk};
 ghost use Rattle.flow_ir.specs.View.{tree_view};
+ghost use Rattle.flow_ir.specs.Wide.{uses};
 ghost use Rattle.cps_rules.specs.inner.Marked.{is_marked};
 ghost use Rattle.cps_rules.specs.inner.Marks.{Adds};
-ghost use Rattle.cps_rules.specs.Simplified.{uses};
-ghost use Rattle.cps_rules.specs.inner.Way.{kept_step, kept_all, used_in, step_uses, AreFirsts, Covers};
+ghost use Rattle.cps_rules.specs.inner.Way.{kept_step, kept_all, step_uses, AreFirsts, Covers};
 
 use crate::marks::Marks;
 use flow_ir::{Step, Tree};

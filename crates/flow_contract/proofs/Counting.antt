@@ -9,7 +9,7 @@ use Rattle.flow_ir.specs.declared.flow.Label.{Label as FlowLabel}
 use Rattle.flow_ir.specs.declared.flow.Tree.{Tree, size-Tree}
 use Rattle.flow_ir.specs.declared.flow.Tree.TheVariants.{Let', Read', Write', If'}
 use Rattle.flow_ir.specs.declared.flow.Tree.TheViews.{deep-Let', deep-Read', deep-Write', deep-If'}
-use Rattle.cps_rules.proofs.Mentions.{smaller}
+use Rattle.flow_ir.proofs.Mentions.{smaller}
 use Rattle.flow_contract.specs.declared.sizes.Sizes.{Sizes}
 use Rattle.flow_contract.specs.inner.Sizes.{bulk_of}
 

@@ -12,9 +12,9 @@ use Rattle.nv_base.specs.Access.{is_known, all_known, has_count, is_primitive, c
 use Rattle.nv_base.proofs.Sets.{in-later}
 use Rattle.flow_ir.specs.Tree.{Tree, Label}
 use Rattle.flow_ir.specs.Formed.{defined, is_formed, takes_as_many}
-use Rattle.cps_rules.specs.Substitution.{Names, renamed, all_renamed, prim_renamed}
-use Rattle.cps_rules.proofs.Members.{in-first, in-rest, in-left, first-or-rest}
-use Rattle.cps_rules.proofs.Renaming.{all_length, address_renamed}
+use Rattle.flow_ir.specs.Substitution.{Names, renamed, all_renamed, prim_renamed}
+use Rattle.flow_ir.proofs.Members.{in-first, in-rest, in-left, first-or-rest}
+use Rattle.flow_ir.proofs.Renaming.{all_length, address_renamed}
 use Rattle.flow_contract.proofs.Lookup.{in_other}
 use Rattle.flow_contract.specs.inner.Copied.{named, all_named, numbered, Numbering, Copied, kept, read, write, choice, swapped, first, second, jump, halt, inside}
 use Rattle.flow_contract.proofs.Naming.{named_case, named_here, named_else, range_append}

@@ -19,10 +19,10 @@ use Rattle.nv_base.proofs.Sets.{in-later}
 use Rattle.nv_base.proofs.WordLemmas.{negated_compares}
 use Rattle.flow_ir.specs.Tree.{Tree, Label}
 use Rattle.flow_ir.specs.Meaning.{Next, does, blank, enter, run}
-use Rattle.cps_rules.specs.Substitution.{Names, renamed, all_renamed, prim_renamed}
-use Rattle.cps_rules.specs.inner.Way.{Fits, IsScopedLabel}
-use Rattle.cps_rules.proofs.Members.{in-first, in-left, in-right}
-use Rattle.cps_rules.proofs.Renaming.{Agrees, atom_agrees, atoms_agree, prim_agrees}
+use Rattle.flow_ir.specs.Substitution.{Names, renamed, all_renamed, prim_renamed}
+use Rattle.flow_ir.proofs.Members.{in-first, in-left, in-right}
+use Rattle.flow_ir.proofs.Renaming.{Agrees, atom_agrees, atoms_agree, prim_agrees}
+use Rattle.flow_ir.specs.inner.Scoped.{Fits, IsScopedLabel}
 use Rattle.flow_contract.proofs.Lookup.{in_other, not_equal, there}
 use Rattle.flow_contract.specs.inner.Copied.{named, all_named, numbered, folded, Numbering, Copied, kept, read, write, choice, swapped, first, second, jump, halt, inside}
 use Rattle.flow_contract.proofs.Naming.{named_case, named_here, named_else}

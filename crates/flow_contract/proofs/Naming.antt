@@ -9,8 +9,8 @@ use Rattle.nv_base.specs.declared.term.Atom.TheVariants.{Var, Lit}
 use Rattle.nv_base.specs.Words.{atom_vars}
 use Rattle.nv_base.specs.Sets.{is_in, all_different, all_vars, Within}
 use Rattle.nv_base.proofs.Sets.{same-number}
-use Rattle.cps_rules.specs.Substitution.{Names, look, IsNamed}
-use Rattle.cps_rules.proofs.Members.{in-rest, in-left, in-right, in-or-out}
+use Rattle.flow_ir.specs.Substitution.{Names, look, IsNamed}
+use Rattle.flow_ir.proofs.Members.{in-rest, in-left, in-right, in-or-out}
 use Rattle.flow_contract.proofs.Lookup.{not_equal}
 use Rattle.flow_contract.specs.inner.Copied.{named, all_named, numbered, undone}
 

@@ -9,12 +9,11 @@ use Rattle.nv_base.proofs.Sets.{same-number, within-both}
 use Rattle.flow_ir.specs.Tree.{Tree, If, Label}
 use Rattle.flow_ir.specs.Formed.{defined}
 use Rattle.flow_ir.specs.Wide.{live, tree_wide}
-use Rattle.cps_rules.specs.Substitution.{Names, renamed, all_renamed, prim_renamed}
-use Rattle.cps_rules.specs.inner.Way.{Fits}
-use Rattle.cps_rules.proofs.Down.{fits_live}
-use Rattle.cps_rules.proofs.WayMeasures.{fewer, operands_image, let_image}
-use Rattle.cps_rules.proofs.Members.{first-or-rest, in-first, in-rest, in-left, in-right, in-not-out, stays, stayed, different-parts}
-use Rattle.cps_rules.proofs.Renaming.{image, image_from, image_of, image_within, image_both, atom_image, all_image, prim_image}
+use Rattle.flow_ir.specs.Substitution.{Names, renamed, all_renamed, prim_renamed}
+use Rattle.flow_ir.proofs.Members.{first-or-rest, in-first, in-rest, in-left, in-right, in-not-out, stays, stayed, different-parts}
+use Rattle.flow_ir.proofs.Scopes.{fits_live}
+use Rattle.flow_ir.proofs.Renaming.{fewer, operands_image, let_image, image, image_from, image_of, image_within, image_both, atom_image, all_image, prim_image}
+use Rattle.flow_ir.specs.inner.Scoped.{Fits}
 use Rattle.flow_contract.specs.inner.Copied.{named, all_named, numbered, Numbering, Copied, kept, read, write, choice, swapped, first, second, jump, halt, inside}
 use Rattle.flow_contract.proofs.Naming.{named_case, named_here, named_else, numbered_in, numbered_out, operands_in}
 use Rattle.flow_contract.proofs.Landing.{AllInScope}

@@ -12,8 +12,8 @@ use Rattle.flow_ir.specs.declared.flow.Label.{Label as FlowLabel}
 use Rattle.flow_ir.specs.declared.flow.Tree.{Tree, size-Tree}
 use Rattle.flow_ir.specs.declared.flow.Tree.TheVariants.{Let', Read', Write', If', Jump, Halt}
 use Rattle.flow_ir.specs.declared.flow.Tree.TheViews.{deep-Let', deep-Read', deep-Write', deep-If'}
-use Rattle.cps_close.proofs.Leaving.{item-next}
-use Rattle.cps_rules.proofs.Mentions.{smaller}
+use Rattle.flow_ir.proofs.Leaving.{item-next}
+use Rattle.flow_ir.proofs.Mentions.{smaller}
 use Rattle.flow_contract.proofs.Lookup.{there}
 use Rattle.flow_contract.specs.Contracted.{jumps_to, all_jumps_to, is_bare, is_literal, is_undecided, AreContracted}
 use Rattle.flow_contract.specs.inner.Sizes.{at, fits, all_fit}

@@ -22,8 +22,8 @@ use Rattle.flow_ir.specs.declared.flow.Tree.TheVariants.{Let', Read', Write', If
 use Rattle.flow_ir.specs.declared.flow.Tree.TheViews.{deep-Let', deep-Read', deep-Write', deep-If'}
 use Rattle.flow_ir.specs.declared.spine.Step.{Step}
 use Rattle.flow_ir.specs.declared.spine.Step.TheVariants as step
-use Rattle.cps_rules.specs.Substitution.{Names, renamed, all_renamed, prim_renamed, look}
-use Rattle.cps_rules.proofs.Mentions.{smaller}
+use Rattle.flow_ir.specs.Substitution.{Names, renamed, all_renamed, prim_renamed, look}
+use Rattle.flow_ir.proofs.Mentions.{smaller}
 use Rattle.flow_contract.specs.inner.Copied.{named, all_named, numbered, undone, folded, Numbering, Copied, kept, read, write, choice, swapped, first, second, jump, halt, inside}
 
 -- ---- how far there is to go

@@ -3,7 +3,7 @@ use Rattle.std.proofs.Common.{◌≡◌, ℕ, zero, suc, ◌+◌, ◌<◌, ◌�
 use Rattle.std.specs.List.{list_all, range_with_len}
 use Rattle.std.proofs.lemmas.Bool.{and_parts, and_from, false≢true}
 use Rattle.std.proofs.lemmas.Bool.Decides.{nat_tests}
-use Rattle.std.proofs.lemmas.List.{map_more, length-map, length-take-le}
+use Rattle.std.proofs.lemmas.List.{map_more, length-map, length-take-le, map_push}
 use Rattle.std.proofs.lemmas.List.FromFn.{length-range_with_len}
 use Rattle.std.proofs.lemmas.Option.{none-some, same_Some}
 use Rattle.nv_base.specs.Meanings.{KeepsOutcomes, AreEqual}
@@ -20,12 +20,11 @@ use Rattle.flow_ir.specs.Tree.{Label}
 use Rattle.flow_ir.specs.View.{label_view}
 use Rattle.flow_ir.specs.Wide.{tree_wide, label_wide, wide}
 use Rattle.flow_ir.specs.declared.flow.Label.{Label as FlowLabel}
-use Rattle.cps_close.specs.Led.{AreLedTo}
-use Rattle.cps_rules.specs.inner.Way.{IsScopedLabel}
-use Rattle.cps_rules.proofs.Members.{in-left, different-parts}
-use Rattle.cps_rules.proofs.Renaming.{Agrees}
-use Rattle.cps_rules.proofs.Scopes.{label_fits}
-use Rattle.cps_rules.proofs.Flows.{map_last}
+use Rattle.flow_ir.specs.Led.{AreLedTo}
+use Rattle.flow_ir.proofs.Members.{in-left, different-parts}
+use Rattle.flow_ir.proofs.Scopes.{label_fits}
+use Rattle.flow_ir.proofs.Renaming.{Agrees}
+use Rattle.flow_ir.specs.inner.Scoped.{IsScopedLabel}
 use Rattle.flow_contract.specs.inner.Copied.{numbered, Numbering, IsCopied, AreCopied, none, stays, goes}
 use Rattle.flow_contract.proofs.Naming.{range_append, range_different}
 use Rattle.flow_contract.proofs.Landing.{Below, below_numbered, agrees_numbered, AllInScope, Comes, does_comes, comes_jump}
@@ -258,7 +257,7 @@ taken_next labels i d l lt e = map_more label_view labels i d lt ∙ ap (λ v. m
 pub next_stays : (whole : List Label) (s : Numbering) (labels : List FlowLabel) (i : ℕ) (d l m : FlowLabel) (ms ms' : List FlowLabel) → i < length labels → l ≡ get_or labels i d → AreCopied whole s 0 0 (map label_view (take i labels)) (map label_view ms) → s.to i ≡ length ms → IsCopied whole s (label_view l) (label_view m) → ms' ≡ ms ++ m ∷ []
     → AreCopied whole s 0 0 (map label_view (take (i + 1) labels)) (map label_view ms')
 next_stays whole s labels i d l m ms ms' lt e h t c push =
-    let back : map label_view ms' ≡ map label_view ms ++ label_view m ∷ [] = ap (map label_view) push ∙ map_last ms m in
+    let back : map label_view ms' ≡ map label_view ms ++ label_view m ∷ [] = ap (map label_view) push ∙ map_push label_view ms m in
     let len = taken labels i lt in
     let many = length-map ms label_view in
     let number : s.to i ≡ 0 + length (map label_view ms) = omega (arith, t, many) in

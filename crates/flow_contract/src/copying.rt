@@ -1,7 +1,7 @@
 // Copies of trees, in which labels stand in the place of jumps to them.
 
 ghost use Rattle.std.specs.Prelude.{◌≡◌, ◌<◌, true, Some, MatchOption, ⊤, OnOk, IfOk, length, map, slice_get};
-ghost use Rattle.cps_rules.specs.Substitution.{look};
+ghost use Rattle.flow_ir.specs.Substitution.{look};
 ghost use Rattle.flow_ir.specs.View.{tree_view, label_view};
 ghost use Rattle.flow_contract.specs.inner.Copied as inner;
 ghost use Rattle.flow_contract.specs.inner.Numbered.{numbering};
@@ -9,7 +9,7 @@ ghost use Rattle.flow_contract.specs.inner.Copied.{Copied, IsCopied, AreCopied};
 
 use crate::names::{restore, set, set_numbers, set_operands, take};
 use crate::plan::{Plan, is_heavier};
-use cps_rules::names::{renamed, renamed_all, renamed_args, renamed_prim};
+use flow_ir::names::{renamed, renamed_all, renamed_args, renamed_prim};
 use flow_ir::{Label, Step, Tree, join};
 use nv_base::{Atom, Cmp, NoMemory, Vars};
 use std::alloc::Global;

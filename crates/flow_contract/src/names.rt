@@ -2,12 +2,12 @@
 
 ghost use Rattle.std.specs.Prelude.{◌≡◌, ◌+◌, OnOk, IfOk, length};
 ghost use Rattle.std.specs.List.{range_with_len};
-ghost use Rattle.cps_rules.specs.Substitution.{look};
+ghost use Rattle.flow_ir.specs.Substitution.{look};
 ghost use Rattle.nv_base.specs.declared.term.Atom.TheVariants.{Var};
 ghost use Rattle.flow_contract.specs.inner.Copied as inner;
 ghost use Rattle.flow_contract.specs.inner.Copied.{numbered, all_named, undone};
 
-use cps_rules::names::{name, name_of};
+use flow_ir::names::{name, name_of};
 use nv_base::{Atom, NoMemory};
 use std::alloc::Global;
 

@@ -1,21 +1,20 @@
 // Whole flows.
 
-ghost use Rattle.std.specs.Prelude.{◌≡◌, ◌≤◌, IfOk, map};
+ghost use Rattle.std.specs.Prelude.{◌≤◌, IfOk, map};
 ghost use Rattle.nv_base.specs.Meanings.{KeepsOutcomes};
 ghost use Rattle.nv_base.specs.Measures.{IsAtMost};
 ghost use Rattle.flow_ir.specs.Bulk.{bulk};
 ghost use Rattle.flow_ir.specs.Meaning.{flow_meaning, flow_params};
 ghost use Rattle.flow_ir.specs.View.{label_view};
 ghost use Rattle.flow_ir.specs.Wide.{wide};
-ghost use Rattle.cps_close.specs.Led.{AreLedTo};
+ghost use Rattle.flow_ir.specs.Led.{AreLedTo};
 ghost use Rattle.flow_contract.specs.Contracted.{AreContracted};
 
 use crate::checks::are_contracted;
 use crate::copying::all_copied;
 use crate::plan::Plan;
 use crate::sizes::{is_within, sizes_of};
-use cps_close::drop_unreached;
-use flow_ir::Flow;
+use flow_ir::{Flow, drop_unreached};
 use nv_base::NoMemory;
 use std::alloc::Global;
 

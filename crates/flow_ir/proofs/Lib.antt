@@ -1,2 +1,12 @@
 pub mod Steps
 pub mod Growth
+pub mod Members
+pub mod Results
+pub mod Renaming
+pub mod Scopes
+pub mod Mentions
+pub mod Left
+pub mod Renumbering
+pub mod Leaving
+pub mod Noting
+pub mod Leading

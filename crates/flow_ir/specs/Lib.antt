@@ -5,3 +5,6 @@ pub mod Meaning
 pub mod Formed
 pub mod Wide
 pub mod Bulk
+pub mod Substitution
+pub mod Led
+pub mod inner

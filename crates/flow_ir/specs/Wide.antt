@@ -15,6 +15,15 @@ live (If c a b t u) = all_vars (a ∷ b ∷ []) ++ (live t ++ live u)
 live (Jump l bs) = all_vars bs
 live (Halt e bs) = all_vars bs
 
+-- all variables that a tree uses, its own among them
+abbrev pub uses : Tree → List ℕ
+uses (Let x a t) = prim_vars a ++ uses t
+uses (Read m xs a t) = atom_vars a ++ uses t
+uses (Write m a bs t) = all_vars (a ∷ bs) ++ uses t
+uses (If c a b t u) = all_vars (a ∷ b ∷ []) ++ (uses t ++ uses u)
+uses (Jump l bs) = all_vars bs
+uses (Halt e bs) = all_vars bs
+
 abbrev pub tree_wide : Tree → ℕ
 tree_wide (Let x a t) = max (let_wide (prim_vars a ++ without (live t) (x ∷ []))) (tree_wide t)
 tree_wide (Read m xs a t) = max (max (operands_wide (without (live t) xs) (a ∷ [])) (different (xs ++ live t))) (tree_wide t)

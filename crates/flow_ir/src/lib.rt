@@ -4,7 +4,11 @@
 
 mod flow;
 pub mod laws;
+pub mod names;
+mod prune;
 mod spine;
+pub mod uses;
 
 pub use flow::{Flow, Label, Tree};
-pub use spine::{Step, join};
+pub use prune::{drop_unreached, pruned};
+pub use spine::{Step, join, joined, push_step, short_atoms, short_numbers};

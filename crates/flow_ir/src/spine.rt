@@ -1,11 +1,11 @@
 // Trees as a list of steps and an end, so that no pass goes down a long one by recursion.
 
-ghost use Rattle.std.specs.Prelude.{◌≡◌, IfOk};
+ghost use Rattle.std.specs.Prelude.{◌≡◌, ◌++◌, ◌∷◌, [], IfOk};
 ghost use Rattle.flow_ir.specs.View.{tree_view};
 ghost use Rattle.flow_ir.specs.Spine.{put, put_all};
 
 use crate::flow::Tree;
-use nv_base::{Args, Atom, Cmp, Mem, Prim, Vars};
+use nv_base::{Args, Atom, Cmp, Mem, NoMemory, Prim, Vars};
 use std::alloc::{AllocError, Global};
 
 /// A node without the tree after it.
@@ -42,4 +42,33 @@ fn placed(alloc: Global, s: Step, t: Tree) -> Result<Tree, AllocError>
             Ok(Tree::If(c, a, b, first, Box::new(alloc, t)?))
         }
     }
+}
+
+/// One step more.
+pub fn push_step(steps: &mut Vec<Step>, step: Step) -> Result<(), NoMemory>
+    ensures { IfOk result (λ u. steps.new.items ≡ steps.old.items ++ step ∷ []) }
+{
+    steps.push(step)?;
+    Ok(())
+}
+
+/// The steps before a tree.
+pub fn joined(alloc: Global, steps: Vec<Step>, end: Tree) -> Result<Tree, NoMemory>
+    ensures { IfOk result (λ u. tree_view u ≡ put_all steps.items (tree_view end)) }
+{
+    Ok(join(alloc, steps, end)?)
+}
+
+/// The same operands in a short list.
+pub fn short_atoms(alloc: Global, xs: &[Atom]) -> Result<Args, NoMemory>
+    ensures { IfOk result (λ v. v.items ≡ xs.now) }
+{
+    Ok(Args::from_slice(alloc, xs)?)
+}
+
+/// The same variables in a short list.
+pub fn short_numbers(alloc: Global, xs: &[u32]) -> Result<Vars, NoMemory>
+    ensures { IfOk result (λ v. v.items ≡ xs.now) }
+{
+    Ok(Vars::from_slice(alloc, xs)?)
 }

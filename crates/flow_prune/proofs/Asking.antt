@@ -15,8 +15,8 @@ use Rattle.flow_ir.specs.View.{tree_view}
 use Rattle.flow_ir.specs.declared.flow.Tree.{Tree, size-Tree}
 use Rattle.flow_ir.specs.declared.flow.Tree.TheVariants.{Let', Read', Write', If', Jump, Halt}
 use Rattle.flow_ir.specs.declared.flow.Tree.TheViews.{deep-Let', deep-Read', deep-Write', deep-If'}
-use Rattle.cps_rules.proofs.Members.{either, in-right}
-use Rattle.cps_rules.proofs.Mentions.{smaller, found_front, or_both, or_end}
+use Rattle.flow_ir.proofs.Members.{either, in-right}
+use Rattle.flow_ir.proofs.Mentions.{smaller, found_front, or_both, or_end}
 use Rattle.flow_prune.specs.Wanted.{used, HandsOn}
 use Rattle.flow_prune.specs.inner.Ranked.{rank_at, IsFound}
 

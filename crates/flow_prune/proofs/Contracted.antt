@@ -3,7 +3,7 @@ use Rattle.std.proofs.Common.{◌≡◌, ℕ, zero, suc, ◌+◌, true, ◌&&◌
 use Rattle.std.proofs.lemmas.List.Elements.{All-nil, All-cons, All-head, All-tail}
 use Rattle.std.proofs.lemmas.Option.{none-some, same_Some}
 use Rattle.flow_ir.specs.Tree.{Tree, Let, Read, Write, If, Jump, Halt, Label}
-use Rattle.cps_close.specs.Led.{GoesTo, IsLedTo, first, jumped, AreLedTo}
+use Rattle.flow_ir.specs.Led.{GoesTo, IsLedTo, first, jumped, AreLedTo}
 use Rattle.flow_contract.specs.Contracted.{jumps_to, all_jumps_to, is_bare, is_literal, is_undecided, AreContracted}
 use Rattle.flow_prune.specs.inner.Pruned.{pruned, ArePruned}
 

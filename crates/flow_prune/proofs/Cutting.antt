@@ -17,8 +17,8 @@ use Rattle.flow_ir.specs.declared.flow.Tree.TheVariants.{Let', Read', Write', If
 use Rattle.flow_ir.specs.declared.flow.Tree.TheViews.{deep-Let', deep-Read', deep-Write', deep-If'}
 use Rattle.flow_ir.specs.declared.spine.Step.{Step}
 use Rattle.flow_ir.specs.declared.spine.Step.TheVariants as step
-use Rattle.cps_rules.proofs.Members.{either, first-or-rest}
-use Rattle.cps_rules.proofs.Mentions.{smaller}
+use Rattle.flow_ir.proofs.Members.{either, first-or-rest}
+use Rattle.flow_ir.proofs.Mentions.{smaller}
 use Rattle.flow_prune.specs.inner.Pruned.{kept_words, params_in, pruned, Clear}
 use Rattle.flow_prune.proofs.Keeping.{without_last}
 

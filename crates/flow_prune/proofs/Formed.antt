@@ -8,9 +8,9 @@ use Rattle.nv_base.specs.Access.{is_known, all_known, is_primitive, can_move, is
 use Rattle.nv_base.proofs.Operands.{atom-known, atoms-known, prim-known, count_of_known}
 use Rattle.flow_ir.specs.Tree.{Tree, Let, Read, Write, If, Jump, Halt, Label}
 use Rattle.flow_ir.specs.Formed.{defined, is_formed, takes_as_many}
-use Rattle.cps_rules.specs.Simplified.{uses}
-use Rattle.cps_rules.proofs.Members.{either, first-or-rest, in-left, in-right, in-rest}
-use Rattle.cps_rules.proofs.Renaming.{atom_known, atoms_known, prim_known}
+use Rattle.flow_ir.specs.Wide.{uses}
+use Rattle.flow_ir.proofs.Members.{either, first-or-rest, in-left, in-right, in-rest}
+use Rattle.flow_ir.proofs.Renaming.{atom_known, atoms_known, prim_known}
 use Rattle.flow_prune.specs.inner.Pruned.{kept_words, params_in, pruned, Clear}
 use Rattle.flow_prune.proofs.Keeping.{kept_within}
 

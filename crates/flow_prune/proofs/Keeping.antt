@@ -5,7 +5,7 @@ use Rattle.nv_base.specs.declared.term.Atom.{Atom}
 use Rattle.nv_base.specs.Words.{Env, atom_word, atom_words, atom_vars}
 use Rattle.nv_base.specs.Sets.{is_in, all_different, all_vars, without, Within}
 use Rattle.nv_base.proofs.Sets.{in-without}
-use Rattle.cps_rules.proofs.Members.{either, in-left, in-right}
+use Rattle.flow_ir.proofs.Members.{either, in-left, in-right}
 use Rattle.flow_prune.specs.inner.Pruned.{kept_words}
 
 -- ---- words

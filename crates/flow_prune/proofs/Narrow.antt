@@ -9,7 +9,7 @@ use Rattle.nv_base.proofs.Sets.{different-below, within-behind_same, within-with
 use Rattle.flow_ir.specs.Tree.{Tree, Let, Read, Write, If, Jump, Halt, Label}
 use Rattle.flow_ir.specs.Wide.{live, tree_wide}
 use Rattle.flow_ir.specs.Bulk.{tree_bulk}
-use Rattle.cps_rules.proofs.Members.{in-left, in-right}
+use Rattle.flow_ir.proofs.Members.{in-left, in-right}
 use Rattle.flow_prune.specs.inner.Pruned.{kept_words, params_in, pruned}
 use Rattle.flow_prune.proofs.Keeping.{kept_within, kept_shorter}
 

@@ -9,8 +9,8 @@ use Rattle.nv_base.proofs.Operands.{atom-same, atoms-same, prim-same}
 use Rattle.nv_base.proofs.Sets.{same-number}
 use Rattle.flow_ir.specs.Tree.{Tree, Let, Read, Write, If, Jump, Halt, Label}
 use Rattle.flow_ir.specs.Meaning.{Next, does}
-use Rattle.cps_rules.specs.Simplified.{uses}
-use Rattle.cps_rules.proofs.Members.{in-left, in-right}
+use Rattle.flow_ir.specs.Wide.{uses}
+use Rattle.flow_ir.proofs.Members.{in-left, in-right}
 use Rattle.flow_prune.specs.inner.Pruned.{kept_words, params_in, pruned, Clear}
 use Rattle.flow_prune.proofs.Keeping.{kept_map, kept_none}
 

@@ -2,7 +2,7 @@
 use Rattle.std.proofs.Common.{◌≡◌, ℕ, zero, suc, ◌+◌, ◌<◌, ◌≤◌, nat_le, true, ◌&&◌, List, [], ◌∷◌, ◌++◌, Option, Some, None, map, refl, sym, ap, subst, ◌∙◌, length, slice_get, get_or, take, arith}
 use Rattle.std.specs.List.{list_all}
 use Rattle.std.proofs.lemmas.Bool.{and_parts, and_from, false≢true, eqb-true, eq-eqb}
-use Rattle.std.proofs.lemmas.List.{map_more, length-map, length-take-le}
+use Rattle.std.proofs.lemmas.List.{map_more, length-map, length-take-le, map_push}
 use Rattle.nv_base.specs.declared.term.Atom.{Atom}
 use Rattle.nv_base.specs.Meanings.{AreEqual}
 use Rattle.nv_base.specs.Measures.{IsAtMost, a_label, both}
@@ -15,11 +15,9 @@ use Rattle.flow_ir.specs.Formed.{defined, is_formed, is_label, is_entry, is_flow
 use Rattle.flow_ir.specs.Meaning.{Next, does, blank, enter, run, flow_meaning, flow_params, params_of}
 use Rattle.flow_ir.specs.Tree.{Label}
 use Rattle.flow_ir.specs.View.{label_view}
-use Rattle.flow_ir.specs.Wide.{tree_wide, wide}
+use Rattle.flow_ir.specs.Wide.{tree_wide, wide, uses}
 use Rattle.flow_ir.specs.declared.flow.Label.{Label as FlowLabel}
-use Rattle.cps_rules.specs.Simplified.{uses}
-use Rattle.cps_rules.proofs.Members.{different-parts, different-join, stays, stayed}
-use Rattle.cps_rules.proofs.Flows.{map_last}
+use Rattle.flow_ir.proofs.Members.{different-parts, different-join, stays, stayed}
 use Rattle.flow_prune.specs.inner.Pruned.{kept_words, params_in, pruned, Clear, IsPruned, ArePruned}
 use Rattle.flow_prune.proofs.Keeping.{kept_length, kept_all, without_none, without_shorter, without_different}
 use Rattle.flow_prune.proofs.Same.{does_same, entry_agrees}
@@ -157,6 +155,6 @@ pub label_next : (whole : List Label) (gone : ℕ → List ℕ) (labels : List F
     → ms' ≡ ms ++ m ∷ [] → ArePruned whole gone 0 (map label_view (take (i + 1) labels)) (map label_view ms')
 label_next whole gone labels i j d l m ms ms' lt same e a p push =
     let front : map label_view (take (i + 1) labels) ≡ map label_view (take i labels) ++ label_view l ∷ [] = map_more label_view labels i d lt ∙ ap (λ v. map label_view (take i labels) ++ label_view v ∷ []) (sym e) in
-    let back : map label_view ms' ≡ map label_view ms ++ label_view m ∷ [] = ap (map label_view) push ∙ map_last ms m in
+    let back : map label_view ms' ≡ map label_view ms ++ label_view m ∷ [] = ap (map label_view) push ∙ map_push label_view ms m in
     let len : length (map label_view (take i labels)) ≡ i = length-map (take i labels) label_view ∙ length-take-le i labels (omega arith) in
     subst (λ v. ArePruned whole gone 0 v (map label_view ms')) (sym front) (subst (ArePruned whole gone 0 (map label_view (take i labels) ++ label_view l ∷ [])) (sym back) (push_label whole gone 0 j (map label_view (take i labels)) (map label_view ms) (label_view l) (label_view m) a (omega (arith, len)) p))

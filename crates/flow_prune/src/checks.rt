@@ -5,7 +5,7 @@ ghost use Rattle.nv_base.specs.declared.term.Atom.TheVariants.{Var};
 ghost use Rattle.flow_ir.specs.View.{tree_view, label_view};
 ghost use Rattle.flow_prune.specs.inner.Ranked.{rank_at, IsFound, IsRanked, AreRanked};
 
-use cps_rules::uses::{in_all, in_atom, in_prim};
+use flow_ir::uses::{in_all, in_atom, in_prim};
 use flow_ir::{Label, Tree};
 use nv_base::Atom;
 

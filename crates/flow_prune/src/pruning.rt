@@ -3,11 +3,11 @@
 ghost use Rattle.std.specs.Prelude.{◌≡◌, ◌↔◌, true, [], IfOk, map, slice_get};
 ghost use Rattle.nv_base.specs.Sets.{is_in, without};
 ghost use Rattle.flow_ir.specs.View.{tree_view, label_view};
-ghost use Rattle.cps_rules.specs.Simplified.{uses};
+ghost use Rattle.flow_ir.specs.Wide.{uses};
 ghost use Rattle.flow_prune.specs.inner.Pruned as inner;
 ghost use Rattle.flow_prune.specs.inner.Pruned.{gone_of, params_in, Clear, IsPruned, ArePruned};
 
-use cps_rules::uses::mentions;
+use flow_ir::uses::mentions;
 use flow_ir::{Label, Step, Tree, join};
 use nv_base::{Args, Atom, NoMemory, Vars};
 use std::alloc::Global;

@@ -1,4 +1,1 @@
 pub mod Bounds
-pub mod Ones
-pub mod Summed
-pub mod Labels

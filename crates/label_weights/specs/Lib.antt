@@ -1,2 +1,1 @@
-pub mod ByLabel
 pub mod Weighted

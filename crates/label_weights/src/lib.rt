@@ -1,4 +1,4 @@
-//! Weights of labels, and what a placement costs under them: in one label, and over all.
+//! Weights of labels.
 #![tactic(auto)]
 
 pub mod laws;

@@ -6,7 +6,7 @@ use Rattle.zo_model.specs.Program.{Feasible, cost_of, costs_of, vector}
 use Rattle.zo_cert.specs.declared.report.Report.{Report}
 use Rattle.placement.specs.Fits.{Fits}
 use Rattle.placement.specs.Plan.{Plan}
-use Rattle.label_weights.specs.Weighted.{weighted_cost}
+use Rattle.placement.specs.Weighted.{weighted_cost}
 use Rattle.bank_form.specs.Columns.{columns}
 use Rattle.bank_prog.specs.Meaning.{IsFeasible}
 use Rattle.bank_prog.proofs.LawsRows.{feasible-by-name}

@@ -12,8 +12,8 @@ use Rattle.placement.specs.Fits.{is_result}
 use Rattle.placement.proofs.Sound.{Each, each-append}
 use Rattle.placement.proofs.Slotted.{each-any}
 use Rattle.placement.proofs.Spilled.{each-weaker}
-use Rattle.label_weights.specs.ByLabel.{label_from}
-use Rattle.label_weights.proofs.Labels.{of_label, values_within, uses_within}
+use Rattle.placement.specs.ByLabel.{label_from}
+use Rattle.placement.proofs.Labels.{of_label, values_within, uses_within}
 use Rattle.zo_model.specs.Program.{cost_where, cost_below, costs_of}
 use Rattle.bank_form.specs.declared.column.Bank.TheVariants.{A, B, M}
 use Rattle.bank_form.specs.declared.column.Column.{Column}

@@ -10,7 +10,7 @@ use Rattle.ssu_ir.specs.Single.{single}
 use Rattle.ssu_ir.specs.Tree.{Label}
 use Rattle.placement.specs.Fits.{Fits}
 use Rattle.placement.specs.Plan.{Plan}
-use Rattle.label_weights.specs.Weighted.{weighted_cost}
+use Rattle.placement.specs.Weighted.{weighted_cost}
 use Rattle.bank_form.specs.Columns.{columns}
 use Rattle.bank_form.specs.Program.{rows, IsTooLarge}
 use Rattle.uc_isa.specs.Agrees.{Agrees}

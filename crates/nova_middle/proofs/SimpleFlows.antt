@@ -19,12 +19,13 @@ use Rattle.flow_ir.specs.declared.flow.Label.{Label as FlowLabel}
 use Rattle.flow_ir.specs.declared.flow.Tree.{Tree, size-Tree}
 use Rattle.flow_ir.specs.declared.flow.Tree.TheVariants.{Let', Read', Write', If', Jump, Halt}
 use Rattle.flow_ir.specs.declared.flow.Tree.TheViews.{deep-Let', deep-Read', deep-Write', deep-If'}
-use Rattle.cps_rules.specs.Simplified.{EachLet, is_same, IsTidy, AreTidy, uses}
+use Rattle.flow_ir.specs.Wide.{uses}
+use Rattle.cps_rules.specs.Simplified.{EachLet, is_same, IsTidy, AreTidy}
 use Rattle.cps_rules.specs.inner.Way.{AreUsed}
-use Rattle.cps_rules.proofs.Members.{different-parts}
+use Rattle.flow_ir.proofs.Members.{different-parts}
 use Rattle.cps_rules.proofs.WayFormed.{tidy_used}
 use Rattle.flow_contract.specs.Contracted.{is_literal}
-use Rattle.cps_rules.proofs.Mentions.{smaller}
+use Rattle.flow_ir.proofs.Mentions.{smaller}
 use Rattle.nova_middle.specs.Rules.{value_of_two, leaves_first, leaves_second, leaves_nothing, is_answered, IsAtRest}
 use Rattle.nova_middle.specs.inner.Simple.{IsLeft, IsSimple}
 

@@ -9,7 +9,7 @@ use Rattle.flow_ir.specs.Bulk.{bulk}
 use Rattle.flow_ir.specs.Meaning.{flow_meaning, flow_params}
 use Rattle.flow_ir.specs.Tree.{Label}
 use Rattle.flow_ir.specs.Wide.{wide}
-use Rattle.cps_close.specs.Led.{AreLedTo}
+use Rattle.flow_ir.specs.Led.{AreLedTo}
 use Rattle.flow_contract.specs.Contracted.{AreContracted}
 use Rattle.flow_prune.specs.Wanted.{AllWanted}
 

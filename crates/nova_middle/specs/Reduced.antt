@@ -1,7 +1,7 @@
 -- Flows in which the passes have nothing left to do.
 use Rattle.std.specs.Prelude.{List, All}
 use Rattle.flow_ir.specs.Tree.{Label}
-use Rattle.cps_close.specs.Led.{AreLedTo}
+use Rattle.flow_ir.specs.Led.{AreLedTo}
 use Rattle.cps_rules.specs.Simplified.{AreTidy}
 use Rattle.flow_contract.specs.Contracted.{AreContracted}
 use Rattle.flow_prune.specs.Wanted.{AllWanted}

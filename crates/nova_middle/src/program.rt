@@ -11,7 +11,7 @@ ghost use Rattle.flow_ir.specs.Bulk.{bulk};
 ghost use Rattle.flow_ir.specs.Meaning.{flow_meaning, flow_params};
 ghost use Rattle.flow_ir.specs.View.{label_view};
 ghost use Rattle.flow_ir.specs.Wide.{wide};
-ghost use Rattle.cps_close.specs.Led.{AreLedTo};
+ghost use Rattle.flow_ir.specs.Led.{AreLedTo};
 ghost use Rattle.cps_rules.specs.Simplified.{AreTidy};
 ghost use Rattle.flow_contract.specs.Contracted.{AreContracted};
 ghost use Rattle.flow_prune.specs.Wanted.{AllWanted};

@@ -8,8 +8,8 @@ ghost use Rattle.nova_middle.specs.Rules as rules;
 ghost use Rattle.nova_middle.specs.inner.Simple.{IsLeft, IsSimple};
 
 use crate::rules::{leaves_first, leaves_nothing, leaves_second};
-use cps_rules::uses::mentions;
 use flow_contract::is_literal;
+use flow_ir::uses::mentions;
 use flow_ir::{Label, Tree};
 use nv_base::Prim;
 

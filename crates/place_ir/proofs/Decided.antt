@@ -3,6 +3,7 @@ use Rattle.std.proofs.Common.{◌≡◌, ℕ, zero, suc, ◌+◌, ◌<◌, ◌�
 use Rattle.std.specs.Prelude.{slice_get, slice_index_or, nat_le}
 use Rattle.std.specs.List.{list_all}
 use Rattle.std.proofs.lemmas.Bool.{and_parts, and_from, and_left, and_right, or_cases, or_left, or_right, cases_lt, false≢true, lt-ltb, ltb-true, le-leb, leb-true}
+use Rattle.std.proofs.lemmas.Option.{slice_get_within, slice_get-get_or}
 use Rattle.nv_base.specs.Sets.{is_in, Within}
 use Rattle.nv_base.proofs.Sets.{same-number}
 use Rattle.ssu_ir.specs.Tree.{Label}
@@ -22,10 +23,9 @@ use Rattle.placement_checks.specs.inner.Checks.{all_below, has_home, value_fits,
 use Rattle.ssu_liveness.proofs.Scoped.{in-itself, in-either}
 use Rattle.placement.proofs.Sound.{Each, entry_params, Sound, uses_among, sound-points}
 use Rattle.placement.proofs.Spilled.{each-all, all-each, each-at, each-weaker, used-wanted, param_vars, params-wanted}
-use Rattle.placement.proofs.Fitting.{uses-are, values-are, entries-in}
+use Rattle.placement.proofs.Fitting.{uses-are, values-are, entries-in, each-values, values-part, each-accesses, accesses-part}
 use Rattle.placement_checks.proofs.Recovered.{named-points, serves-listed, listed-serves, found-uses}
-use Rattle.placement_checks.proofs.Walked.{get-within, get-there}
-use Rattle.placement_checks.proofs.Valued.{each-values, values-part, each-accesses, accesses-part, each-of, of-each, IsPlaced, placed-from, placed-to}
+use Rattle.placement_checks.proofs.Valued.{each-of, of-each, IsPlaced, placed-from, placed-to}
 use Rattle.place_ir.proofs.Ruled.{rise-from, rise-to, wanting, wanted-from, wanted-to, firsts-from, firsts-to, HasFirst, access-from, access-to, served-from, served-to}
 use Rattle.place_ir.proofs.Pointed.{Known, at-home, held-from, held-to, reads-from, reads-to, waiting-from, waiting-to, operands-from, operands-to, passes-from, passes-to, place-is}
 
@@ -248,7 +248,7 @@ fits-from labels p h d =
     let l = list-parts labels p a.0 in
     let serves : map at_operand p.serves ≡ map use_operand (uses labels) = serves-listed (value_in labels) 0 ps p.serves (named-points labels h) l.serves in
     let w : Known labels p = record { single_ = h; found_ = found-uses labels p h serves } in
-    let tests : (k : ℕ) (q : Point) → slice_get ps k ≡ Some q → PointTests labels p k = λ k q e. point-parts labels p k (all-below-at (point_fits labels p) (length ps) k b.1 (get-within ps k q e)) in
+    let tests : (k : ℕ) (q : Point) → slice_get ps k ≡ Some q → PointTests labels p k = λ k q e. point-parts labels p k (all-below-at (point_fits labels p) (length ps) k b.1 (slice_get_within ps k q e)) in
     let placed : Each (IsPlaced labels p) (values labels) = each-values (IsPlaced labels p) ps 0
     (λ i m q e f. let same : i ≡ m = omega arith in let g = ap (slice_get ps) (sym same) ∙ f in placed-at-point labels p m q w.found_ g (tests m q g).values_) in
     let homed : (x : ℕ) → is_in x (wanting labels (values labels)) ≡ true → has_home p x ≡ true = λ x e. wanting-home labels p (values labels) x placed e in
@@ -273,7 +273,7 @@ fits-to labels p h f =
     let firsts : Each (HasFirst p) (accesses labels) = all-each (HasFirst p) (accesses labels) f.registers in
     let at : (k : ℕ) → k < length ps → point_fits labels p k ≡ true = λ k l.
     let q = slice_index_or ps k nowhere in
-    let e = get-there ps k nowhere l in
+    let e = slice_get-get_or ps k nowhere l in
     point-whole labels p k (point-fits-to labels p k q w e (values-part (IsPlaced labels p) ps 0 k k q (omega arith) e placed) (accesses-part (HasFirst p) ps 0 k k q (omega arith) e firsts) (f.points k q e)) in
     and_from (lists_fit labels p) (list_all (use_fits labels p) (found labels p) && all_below (point_fits labels p) (length ps))
     (list-whole labels p (record {

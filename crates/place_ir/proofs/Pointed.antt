@@ -1,6 +1,6 @@
 -- What is asked at one point, as it is tested and as the rules say it.
 use Rattle.std.proofs.Common.{◌≡◌, ◌≢◌, ℕ, zero, suc, ◌+◌, ◌-◌, ◌<◌, ◌≤◌, Bool, true, false, not, ◌&&◌, ◌||◌, nat_eq, ◌⊎◌, inl, inr, ⊎_elim, List, [], ◌∷◌, ◌++◌, Option, Some, None, length, map, filter, refl, sym, ap, subst, ◌∙◌, arith}
-use Rattle.std.proofs.Math.Bool.{and_comm}
+use Rattle.std.proofs.Math.Bool.{and_comm, and-true}
 use Rattle.std.specs.Prelude.{slice_get, is_some, nat_le, nat_lt}
 use Rattle.std.specs.List.{list_all, list_any}
 use Rattle.std.proofs.lemmas.Bool.{and_parts, and_from, or_cases, or_left, or_right, false≢true, false_from_ne_true, lt-ltb, ltb-true, le-ltb, le-leb, leb-true, eqb-false, not-true, not_from_false, cases_Bool}
@@ -20,17 +20,17 @@ use Rattle.placement.specs.Places.{same_place}
 use Rattle.placement.specs.Plan.{Home, Plan, home, first, serve, pass}
 use Rattle.placement.specs.Uses.{ValueOrigin, Parameter, Fetched, Value, numbered, place_values, reads_at, writes_at, Role, Argument, Ending, roles, place_roles, Use, uses_at, uses, is_used}
 use Rattle.placement.specs.Fits as rules
-use Rattle.placement.specs.Fits.{read_place, write_place, is_general, is_slot, is_read_register, served, word_register, is_early, has_place, none_shared, general_places, read_places, kept_register, maybe, run_of, is_waiting, same_use, IsEighth, KeepsHeld, point_values, KeepsRead, Waits, KeepsWaiting, AreApart, comes_to_slot, PassesSlots, FitsAt}
+use Rattle.placement.specs.Fits.{read_place, write_place, is_general, is_slot, is_read_register, served, word_register, is_early, has_place, none_shared, general_places, read_places, kept_register, maybe, run_of, is_waiting, same_use, IsEighth, KeepsHeld, point_values, KeepsRead, Waits, KeepsWaiting, AreApart, comes_to_slot, PassesSlots}
 use Rattle.placement_checks.specs.inner.NodeLookups.{place_at, below_at, place_node}
 use Rattle.placement_checks.specs.inner.Checks as checks
-use Rattle.placement_checks.specs.inner.Checks.{any_below, is_within, in_read_run, in_write_run, used, is_kept, is_known, is_before, is_after, has_home, is_shared, general_apart, values_apart, may_meet, goes_through, passes_by, live_fits, spares, keeps_read, waits, is_written, is_free, is_other, word_fits, operands_fit, has_use, any_from_slot, reads_slot, reads_fit, is_result, to_slot, writes_fit, passes_fit, found}
+use Rattle.placement_checks.specs.inner.Checks.{is_within, in_read_run, in_write_run, used, is_known, is_before, is_after, has_home, general_apart, values_apart, may_meet, goes_through, passes_by, live_fits, spares, keeps_read, waits, is_written, is_free, is_other, word_fits, operands_fit, has_use, any_from_slot, reads_slot, reads_fit, is_result, to_slot, writes_fit, passes_fit, found}
 use Rattle.placement.proofs.Places.{same_place-true, same_place-from, same_place-false}
 use Rattle.ssu_liveness.proofs.Scoped.{in-itself}
 use Rattle.placement.proofs.Sound.{Each, length-of-map}
 use Rattle.placement.proofs.Spilled.{each-all, all-each, none-with-nothing}
 use Rattle.placement.proofs.Fitting.{vars-of-place}
 use Rattle.placement_checks.proofs.Recovered.{Named, names_of, many-names, made, made-point, point-there, named-at, named-points}
-use Rattle.placement_checks.proofs.Seen.{and-true', and-nothing, before-is, after-is, known-is, below-at, below-from}
+use Rattle.placement_checks.proofs.Seen.{and-nothing, before-is, after-is, known-is, below-at, below-from}
 use Rattle.placement_checks.proofs.Valued.{any-filter, used-is}
 
 -- ---- values that have homes
@@ -76,7 +76,7 @@ apart-kept : (labels : List Label) (p : Plan) (x y : ℕ) (a b : Bool) → not (
 apart-kept labels p x y false b = ap not (sym (and-nothing (same_place (home p x).defined (home p y).defined)))
 apart-kept labels p x y true false = ap not (sym (and-nothing (same_place (home p x).defined (home p y).defined)))
 apart-kept labels p x y true true =
-    ap not (and-true' (same_place (home p x).defined (home p y).defined) ∙ or-false (same_place (home p x).defined (home p y).defined)) ∙ sym (and-true' (not (same_place (home p x).defined (home p y).defined || false)))
+    ap not (and-true (same_place (home p x).defined (home p y).defined) ∙ or-false (same_place (home p x).defined (home p y).defined)) ∙ sym (and-true (not (same_place (home p x).defined (home p y).defined || false)))
 
 apart-read : (labels : List Label) (p : Plan) (x y : ℕ) → not (same_place (home p x).defined (home p y).defined && (checks.stays (uses labels) p x && checks.stays (uses labels) p y)) ≡ none_shared (read_places labels p x) (read_places labels p y)
 apart-read labels p x y =
@@ -88,7 +88,7 @@ through-kept : (labels : List Label) (p : Plan) (x : ℕ) (l : Option ℕ) (b : 
 through-kept labels p x None b e = refl
 through-kept labels p x (Some r) true e =
     ap (λ c. not (same_place (L r) (home p x).defined && c)) e
-    ∙ ap not (and-true' (same_place (L r) (home p x).defined) ∙ or-false (same_place (L r) (home p x).defined)) ∙ sym (and-true' (not (same_place (L r) (home p x).defined || false)))
+    ∙ ap not (and-true (same_place (L r) (home p x).defined) ∙ or-false (same_place (L r) (home p x).defined)) ∙ sym (and-true (not (same_place (L r) (home p x).defined || false)))
 through-kept labels p x (Some r) false e = ap (λ c. not (same_place (L r) (home p x).defined && c)) e ∙ ap not (sym (and-nothing (same_place (L r) (home p x).defined)))
 
 through-is : (labels : List Label) (p : Plan) (x : ℕ) (l : Option ℕ) → not (goes_through (uses labels) p x l) ≡ none_shared (maybe L l) (read_places labels p x)
@@ -278,7 +278,7 @@ spares-from labels p k q m xs w e homed h x a n =
     (λ (c : (not (in_read_run m d (first p k) (length xs)) || not (checks.stays (found labels p) p x && is_after labels p k x)) ≡ true). ⊎_elim
     (λ (g : not (in_read_run m d (first p k) (length xs)) ≡ true). or_left (not (in_read_run m d (first p k) (length xs))) (not (rules.stays labels p x)) g)
     (λ (g : not (checks.stays (found labels p) p x && is_after labels p k x) ≡ true). or_right (not (in_read_run m d (first p k) (length xs))) (not (rules.stays labels p x))
-    (ap not (sym (ap (λ b. checks.stays (found labels p) p x && b) (after-is labels p k q x w.single_ w.found_ e ∙ a) ∙ and-true' (checks.stays (found labels p) p x) ∙ ap (λ us. checks.stays us p x) w.found_ ∙ stays-is labels p x)) ∙ g))
+    (ap not (sym (ap (λ b. checks.stays (found labels p) p x && b) (after-is labels p k q x w.single_ w.found_ e ∙ a) ∙ and-true (checks.stays (found labels p) p x) ∙ ap (λ us. checks.stays us p x) w.found_ ∙ stays-is labels p x)) ∙ g))
     (or_cases (not (in_read_run m d (first p k) (length xs))) (not (checks.stays (found labels p) p x && is_after labels p k x)) c))
     (or_cases (is_in x xs) (not (in_read_run m d (first p k) (length xs)) || not (checks.stays (found labels p) p x && is_after labels p k x)) f)
 
@@ -292,7 +292,7 @@ spares-to labels p k q m xs w e h = of-homes (spares labels p k m xs) p.homes
     (λ (c : is_in x xs ≡ true). or_left (is_in x xs) (run || not (stay && is_after labels p k x)) c)
     (λ (c : is_in x xs ≡ false). or_right (is_in x xs) (run || not (stay && is_after labels p k x)) (⊎_elim
     (λ (a : is_after labels p k x ≡ true).
-    ap (λ b. run || not b) (ap (λ b. stay && b) a ∙ and-true' stay ∙ ap (λ us. checks.stays us p x) w.found_ ∙ stays-is labels p x)
+    ap (λ b. run || not b) (ap (λ b. stay && b) a ∙ and-true stay ∙ ap (λ us. checks.stays us p x) w.found_ ∙ stays-is labels p x)
     ∙ sym (run-kept labels p x (first p k) (length xs) m (rules.stays labels p x)) ∙ h x (sym (after-is labels p k q x w.single_ w.found_ e) ∙ a) c)
     (λ (a : is_after labels p k x ≡ false). or_right run (not (stay && is_after labels p k x)) (ap not (ap (λ b. stay && b) a ∙ sym (and-nothing stay))))
     (cases_Bool (is_after labels p k x))))

@@ -3,6 +3,7 @@ use Rattle.std.proofs.Common.{◌≡◌, ℕ, zero, suc, ◌+◌, ◌*◌, Bool,
 use Rattle.std.specs.Prelude.{slice_get, nat_le, nat_lt, ◌==◌, ◌%◌, ◌/◌}
 use Rattle.std.proofs.lemmas.Bool.{and_parts, and_from, or_cases, or_left, or_right, false≢true, lt-ltb, ltb-true, le-leb, leb-true, eq-eqb, cases_Bool}
 use Rattle.std.proofs.lemmas.Nat.{div-add-mod', mod-mul-add}
+use Rattle.std.proofs.lemmas.Option.{slice_get_within, slice_get-get_or}
 use Rattle.nv_base.specs.declared.term.Mem.{Mem}
 use Rattle.nv_base.specs.declared.term.Mem.TheVariants.{Sram, Sdram, Scratch}
 use Rattle.nv_base.specs.Sets.{is_in}
@@ -23,7 +24,6 @@ use Rattle.placement.proofs.Places.{same_place-true, same_place-from}
 use Rattle.ssu_liveness.proofs.Scoped.{in-itself}
 use Rattle.placement.proofs.Sound.{Each}
 use Rattle.placement_checks.proofs.Recovered.{point-there}
-use Rattle.placement_checks.proofs.Walked.{get-within, get-there}
 use Rattle.placement_checks.proofs.Seen.{below-at, below-from}
 use Rattle.placement_checks.proofs.Valued.{used-is}
 use Rattle.placement_checks.specs.inner.NodeLookups as numbers
@@ -139,14 +139,14 @@ pub wanted-from : (labels : List Label) (p : Plan) (x : ℕ) → found labels p 
 wanted-from labels p x f e =
     let n = length (points labels) in
     let w = below-at (wants_at labels p x) n e in
-    let there = get-there (points labels) w.it numbers.nowhere w.below in
+    let there = slice_get-get_or (points labels) w.it numbers.nowhere w.below in
     wanted-in labels x 0 w.it (numbers.point_at labels w.it) (points labels) there
     (sym (wanting-place labels (0 + w.it) (place_at labels w.it) x) ∙ ap (λ us. is_in x (pure.place_values (place_at labels w.it)) && (not (is_read (place_node (place_at labels w.it))) || used us x)) (sym f) ∙ w.passes)
 
 pub wanted-to : (labels : List Label) (p : Plan) (x : ℕ) → found labels p ≡ uses labels → is_in x (wanting labels (values labels)) ≡ true → is_wanted labels p x ≡ true
 wanted-to labels p x f e =
     let w = wanted-at labels x 0 (points labels) e in
-    below-from (wants_at labels p x) (length (points labels)) w.it (get-within (points labels) w.it w.point w.found_)
+    below-from (wants_at labels p x) (length (points labels)) w.it (slice_get_within (points labels) w.it w.point w.found_)
     (ap (λ us. is_in x (pure.place_values (place_at labels w.it)) && (not (is_read (place_node (place_at labels w.it))) || used us x)) f
     ∙ ap (λ (q : Point). place-wants labels q.place x) (point-there labels w.it w.point w.found_)
     ∙ wanting-place labels (0 + w.it) w.point.place x ∙ w.wants)

@@ -9,21 +9,20 @@ ghost use Rattle.placement.specs.Fits as rules;
 ghost use Rattle.placement.specs.Fits.{general_places};
 ghost use Rattle.placement.specs.Order.{IsInOrder};
 ghost use Rattle.placement.specs.Plan.{plan_view};
+ghost use Rattle.placement.specs.inner.UseViews.{use_view};
 ghost use Rattle.placement_checks.specs.inner.Checks as checks;
-ghost use Rattle.placement_checks.specs.inner.Checks.{found, use_view, word_place};
+ghost use Rattle.placement_checks.specs.inner.Checks.{found, word_place};
 ghost use Rattle.placement_checks.specs.inner.NodeLookups.{place_at, place_node};
 
 use nv_base::Mem;
-use placement::{Place, Placement};
+use placement::{Place, Placement, Use};
 use placement_checks::pieces::use_count;
 use placement_checks::points::{has, is_above, node_at, values_at};
 use placement_checks::registers::{
     Word, among, different_groups, has_slot, in_read_run, in_write_run, is_first, is_through,
     same_word,
 };
-use placement_checks::words::{
-    Use, is_below, is_early, is_used, is_used_below, stays, use_of, word_of,
-};
+use placement_checks::words::{is_below, is_early, is_used, is_used_below, stays, use_of, word_of};
 use ssu_ir::{Ssu, SsuNode};
 
 // ---- live values

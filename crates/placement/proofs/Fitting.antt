@@ -7,14 +7,14 @@ use Rattle.nv_base.specs.Sets.{is_in, Within}
 use Rattle.nv_base.proofs.Sets.{same-number}
 use Rattle.nv_base.specs.declared.term.Mem.{Mem}
 use Rattle.ssu_ir.specs.Tree.{Lit, Una, Bin, Clone, Read, Write, Jump, Halt, Label, Does, Forks, Ends}
-use Rattle.ssu_ir.specs.Points.{PointKind as Spot, Entry, At, Point, points_from, points}
+use Rattle.ssu_ir.specs.Points.{PointKind as Spot, Entry, At, Point, points_from}
 use Rattle.ssu_ir.specs.Points as pure
 use Rattle.ssu_ir.specs.Single.{takes_as_many}
 use Rattle.ssu_ir.proofs.Liveness.{in-left, in-right}
 use Rattle.placement.specs.declared.place.Place.TheVariants.{L, Slot}
 use Rattle.placement.specs.declared.place.Serve.{Serve}
 use Rattle.placement.specs.Plan.{Home, home_in, first, serve, pass}
-use Rattle.placement.specs.Uses.{accesses, ValueOrigin, Parameter, Fetched, Value, numbered, place_values, values_from, Role, Operand, Address, Written, Argument, Ending, Use, roles, place_roles, uses_at, uses_from, uses}
+use Rattle.placement.specs.Uses.{Access, accesses, place_accesses, accesses_from, ValueOrigin, Parameter, Fetched, Value, numbered, place_values, values_from, Role, Operand, Address, Written, Argument, Ending, Use, roles, place_roles, uses_at, uses_from, uses}
 use Rattle.placement.specs.Fits.{write_place, IsOperandAt, IsAddressAt, param_at, label_param, parameter, IsServedAt, IsServed, different_groups, AreApart, same_use}
 use Rattle.ssu_liveness.specs.inner.Numbers.{Numbers, values_among}
 use Rattle.placement.specs.inner.Spilled.{slot_number, operand_at, use_serve, read_pass, spilled}
@@ -23,7 +23,31 @@ use Rattle.ssu_liveness.proofs.Marks.{ne-number}
 use Rattle.placement.proofs.Sound.{Each, each-append, entry_params, place_ok, Sound, uses_among}
 use Rattle.placement.proofs.Spilled.{each-left, each-right, each-weaker, first-zero, Apart, apart-append, IsFound, Found, sort_param, param_vars, home-found}
 
--- ---- uses, point by point
+-- ---- values, accesses and uses, point by point
+
+pub each-values : (R : Value → Type 0) (ps : List Point) (k : ℕ) → ((i m : ℕ) (q : Point) → m ≡ k + i → slice_get ps i ≡ Some q → Each R (place_values m q.place)) → Each R (values_from k ps)
+each-values R [] k h = tt
+each-values R (q ∷ ps) k h = each-append R (place_values k q.place) (values_from (suc k) ps) (h 0 k q (omega arith) refl) (each-values R ps (suc k) (λ i m p e f. h (suc i) m p (omega arith) f))
+
+pub values-part : (R : Value → Type 0) (ps : List Point) (k i m : ℕ) (q : Point) → m ≡ k + i → slice_get ps i ≡ Some q → Each R (values_from k ps) → Each R (place_values m q.place)
+values-part R [] k i m q e f h = absurd (cc)
+values-part R (p ∷ ps) k zero m q e f h =
+    let same : p ≡ q = cc in
+    let here : k ≡ m = omega arith in
+    subst (λ n. Each R (place_values n q.place)) here (subst (λ (w : Point). Each R (place_values k w.place)) same (each-left R (place_values k p.place) (values_from (suc k) ps) h))
+values-part R (p ∷ ps) k (suc i) m q e f h = values-part R ps (suc k) i m q (omega arith) f (each-right R (place_values k p.place) (values_from (suc k) ps) h)
+
+pub each-accesses : (R : Access → Type 0) (ps : List Point) (k : ℕ) → ((i m : ℕ) (q : Point) → m ≡ k + i → slice_get ps i ≡ Some q → Each R (place_accesses m q.place)) → Each R (accesses_from k ps)
+each-accesses R [] k h = tt
+each-accesses R (q ∷ ps) k h = each-append R (place_accesses k q.place) (accesses_from (suc k) ps) (h 0 k q (omega arith) refl) (each-accesses R ps (suc k) (λ i m p e f. h (suc i) m p (omega arith) f))
+
+pub accesses-part : (R : Access → Type 0) (ps : List Point) (k i m : ℕ) (q : Point) → m ≡ k + i → slice_get ps i ≡ Some q → Each R (accesses_from k ps) → Each R (place_accesses m q.place)
+accesses-part R [] k i m q e f h = absurd (cc)
+accesses-part R (p ∷ ps) k zero m q e f h =
+    let same : p ≡ q = cc in
+    let here : k ≡ m = omega arith in
+    subst (λ n. Each R (place_accesses n q.place)) here (subst (λ (w : Point). Each R (place_accesses k w.place)) same (each-left R (place_accesses k p.place) (accesses_from (suc k) ps) h))
+accesses-part R (p ∷ ps) k (suc i) m q e f h = accesses-part R ps (suc k) i m q (omega arith) f (each-right R (place_accesses k p.place) (accesses_from (suc k) ps) h)
 
 pub each-uses : (R : Use → Type 0) (ps : List Point) (k : ℕ) → ((i m : ℕ) (q : Point) → m ≡ k + i → slice_get ps i ≡ Some q → Each R (uses_at m 0 q.uses (place_roles q.place))) → Each R (uses_from k ps)
 each-uses R [] k h = tt

@@ -13,3 +13,6 @@ pub mod InSlots
 pub mod PartSteps
 pub mod Searched
 pub mod Ordered
+pub mod Ones
+pub mod Summed
+pub mod Labels

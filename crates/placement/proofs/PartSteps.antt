@@ -72,3 +72,8 @@ point_id-short s point_ids k d h l = each-in IsShort (kind_of_point s) point_ids
 pub nothing-there : (labels : List Label) (given : SpillInputs) (k l : ℕ) (q : PointPlace) (old new : Parts) → q ≡ At (Ends (Halt 0 [])) → Adds labels given k (Entry l []) old new → Adds labels given k q old new
 nothing-there labels given k l q old new e a =
     subst (λ (w : PointPlace). Adds labels given k w old new) (sym e) (record { homes = a.homes; firsts = a.firsts; serves = a.serves; passes = a.passes })
+
+pub param-index : (xs : List ℕ) (i : ℕ) → param_at (slice_get xs i) ≡ get_or xs i 0
+param-index [] i = refl
+param-index (x ∷ xs) zero = refl
+param-index (x ∷ xs) (suc i) = param-index xs i

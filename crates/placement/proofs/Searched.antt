@@ -11,6 +11,7 @@ use Rattle.placement.specs.declared.place.Home.{Home as KeptHome}
 use Rattle.placement.specs.declared.place.Serve.{Serve}
 use Rattle.placement.specs.Fits.{Rises}
 use Rattle.placement.specs.Plan.{home_view, serve_in}
+use Rattle.ssu_ir.proofs.Lists.{same-order}
 
 module _ {V : Type 0} (key : V → ℕ) where
   rises-first : (v : V) (l : List V) → Rises (map key (v ∷ l)) → (j : ℕ) (d : V) → j < length l → key v < key (get_or l j d)
@@ -69,9 +70,6 @@ module _ {V : Type 0} (key : V → ℕ) where
 pub home-vars : (l : List KeptHome) → map (λ h. h.var) (map home_view l) ≡ map (λ h. h.var) l
 home-vars [] = refl
 home-vars (h ∷ l) = ap (λ xs. h.var ∷ xs) (home-vars l)
-
-same-order : (a b : ℕ) → nat_eq a b ≡ nat_eq b a
-same-order a b = ⊎_elim (λ p. p.0 ∙ sym (eq-eqb b a (sym p.1))) (λ p. p.0 ∙ sym (ne_eqb b a (λ e. p.1 (sym e)))) (eqb_tells a b)
 
 pub listed : (x : ℕ) (h : KeptHome) (l : List KeptHome) → is_in x (map (λ h. h.var) (map home_view (h ∷ l))) ≡ (if nat_eq h.var x then true else is_in x (map (λ h. h.var) (map home_view l)))
 listed x h l = ap (λ b. b || is_in x (map (λ h. h.var) (map home_view l))) (same-order x h.var) ∙ pick (nat_eq h.var x) (is_in x (map (λ h. h.var) (map home_view l)))

@@ -5,4 +5,6 @@ pub mod Uses
 pub mod Fits
 pub mod Order
 pub mod Costs
+pub mod ByLabel
+pub mod Weighted
 pub mod inner

@@ -1,3 +1,4 @@
 pub mod Spilled
 pub mod Parts
 pub mod Targets
+pub mod UseViews

@@ -5,20 +5,21 @@ use Rattle.std.specs.List.{list_any}
 use Rattle.std.proofs.lemmas.Bool.{and_from, or_cases, or_left, or_right, false≢true, lt-ltb, le-ltb, le-leb, lt-leb, eq-eqb, ne_eqb, cases_lt}
 use Rattle.std.proofs.lemmas.List.{append-nil}
 use Rattle.std.proofs.lemmas.List.Folds.{list_any-append}
+use Rattle.std.proofs.Math.Bool.{and-true}
 use Rattle.nv_base.specs.Sets.{is_in, without}
-use Rattle.nv_base.proofs.Sets.{in-append, in-without, same-number}
+use Rattle.nv_base.proofs.Sets.{in-append, in-without}
 use Rattle.nv_base.specs.declared.term.Cmp.{Cmp}
 use Rattle.ssu_ir.specs.Tree.{Step, Last, Tree, Do, If, End, Label, Does, Forks, Ends, step_values, step_uses, last_uses}
 use Rattle.ssu_ir.specs.Points.{Names, own, names_after, used, live_of, union, PointKind, Entry, At, Point, point, nodes, tree_points, points_from, points, place_values}
 use Rattle.ssu_ir.specs.Single.{single}
-use Rattle.ssu_ir.proofs.Lists.{same_tests}
+use Rattle.ssu_ir.proofs.Lists.{same-order}
 use Rattle.ssu_ir.proofs.PointLemmas.{length-tree_points}
 use Rattle.ssu_ir.proofs.Searches.{or-false}
 use Rattle.placement.specs.Plan.{Plan}
 use Rattle.placement.specs.Uses.{Role, place_roles, uses_at, uses_from, uses}
 use Rattle.placement_checks.specs.inner.NodeLookups.{place_at, place_node}
 use Rattle.placement_checks.specs.inner.Checks.{any_below, found, is_of_below, is_above, is_known, is_before_node, is_before, is_after}
-use Rattle.ssu_liveness.proofs.Scoped.{in-filter, in-itself}
+use Rattle.ssu_liveness.proofs.Scoped.{in-filter}
 use Rattle.placement.proofs.Sound.{Each, uses_among, Sound, sound-points}
 use Rattle.placement_checks.proofs.Recovered.{point-there}
 
@@ -142,11 +143,6 @@ abbrev pub seen : (ℕ → Bool) → ℕ → ℕ → List Point → Bool
 seen g x j [] = false
 seen g x j (q ∷ qs) = (is_in x q.uses && g j) || seen g x (suc j) qs
 
-pub same-order : (a b : ℕ) → nat_eq a b ≡ nat_eq b a
-same-order a b = same_tests (nat_eq a b) (nat_eq b a)
-    (λ e. let g = same-number a b e in ap (λ z. nat_eq b z) g ∙ in-itself b)
-    (λ e. let g = same-number b a e in ap (λ z. nat_eq a z) g ∙ in-itself a)
-
 pub and-either : (a b c : Bool) → ((a && c) || (b && c)) ≡ ((a || b) && c)
 and-either true b true = refl
 and-either true true false = refl
@@ -172,17 +168,13 @@ seen-none : (g : ℕ → Bool) (x j : ℕ) (qs : List Point) → ((i : ℕ) → 
 seen-none g x j [] h = refl
 seen-none g x j (q ∷ qs) h = ap (λ b. (is_in x q.uses && b) || seen g x (suc j) qs) (h j (omega arith)) ∙ ap (λ b. b || seen g x (suc j) qs) (sym (and-nothing (is_in x q.uses))) ∙ seen-none g x (suc j) qs (λ i l. h i (omega arith))
 
-pub and-true' : (a : Bool) → (a && true) ≡ a
-and-true' true = refl
-and-true' false = refl
-
 seen-first : (g : ℕ → Bool) (x m j : ℕ) (qs : List Point) → ((i : ℕ) → j ≤ i → i < j + m → g i ≡ true) → ((i : ℕ) → j + m ≤ i → g i ≡ false) → seen g x j qs ≡ is_in x (uses_among (take m qs))
 seen-first g x zero j [] h n = refl
 seen-first g x zero j (q ∷ qs) h n = seen-none g x j (q ∷ qs) (λ i l. n i (omega arith))
 seen-first g x (suc m) j [] h n = refl
 seen-first g x (suc m) j (q ∷ qs) h n =
     ap (λ b. (is_in x q.uses && b) || seen g x (suc j) qs) (h j (omega arith) (omega arith))
-    ∙ ap (λ b. b || seen g x (suc j) qs) (and-true' (is_in x q.uses))
+    ∙ ap (λ b. b || seen g x (suc j) qs) (and-true (is_in x q.uses))
     ∙ ap (λ b. is_in x q.uses || b) (seen-first g x m (suc j) qs (λ i l r. h i (omega arith) (omega arith)) (λ i l. n i (omega arith)))
     ∙ sym (in-append x q.uses (uses_among (take m qs)))
 
@@ -211,7 +203,7 @@ reach-here : (k b : ℕ) (here : Bool) → reach k b here k ≡ here
 reach-here k b here =
     ap (λ e. (here && e) || (nat_lt k k && nat_le k (k + b))) (eq-eqb k k refl)
     ∙ ap (λ e. (here && true) || (e && nat_le k (k + b))) (le-ltb k k (omega arith))
-    ∙ sym (or-false (here && true)) ∙ and-true' here
+    ∙ sym (or-false (here && true)) ∙ and-true here
 
 reach-below : (k b : ℕ) (here : Bool) (j : ℕ) → k < j → j ≤ k + b → reach k b here j ≡ true
 reach-below k b here j l r = or_right (here && nat_eq j k) (nat_lt k j && nat_le j (k + b)) (and_from (nat_lt k j) (nat_le j (k + b)) (lt-ltb k j l) (le-leb j (k + b) r))
@@ -267,7 +259,7 @@ before-place labels p k q x (At n) h f e g o =
     let rest = uses_among (take q.below (drop (suc k) (points labels))) in
     ap (λ b. b && list_any (is_of_below labels k true x) (found labels p)) (above-is labels k q x e)
     ∙ ap (λ us. is_in x q.above && list_any (is_of_below labels k true x) us) f
-    ∙ ap (λ b. is_in x q.above && b) (used-below labels k true x q h e ∙ ap (λ b. b || is_in x rest) (and-true' (is_in x q.uses)))
+    ∙ ap (λ b. is_in x q.above && b) (used-below labels k true x q h e ∙ ap (λ b. b || is_in x rest) (and-true (is_in x q.uses)))
     ∙ sym (o x)
 
 pub before-is : (labels : List Label) (p : Plan) (k : ℕ) (q : Point) (x : ℕ) → single labels ≡ true → found labels p ≡ uses labels → slice_get (points labels) k ≡ Some q → is_before labels p k x ≡ is_in x q.before

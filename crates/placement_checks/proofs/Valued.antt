@@ -1,6 +1,6 @@
 -- The homes that values want, as they are tested and as the rules say them.
 use Rattle.std.proofs.Common.{◌≡◌, ℕ, zero, suc, ◌+◌, ◌-◌, ◌<◌, ◌≤◌, Bool, true, false, not, ◌&&◌, ◌||◌, nat_eq, inl, inr, ⊎_elim, List, [], ◌∷◌, ◌++◌, Option, Some, None, length, map, filter, count_by, refl, sym, ap, subst, ◌∙◌, arith, take, drop, if◌then◌else◌}
-use Rattle.std.specs.Prelude.{slice_get, nat_le, nat_lt, ◌==◌, cond}
+use Rattle.std.specs.Prelude.{nat_le, nat_lt, ◌==◌, cond}
 use Rattle.std.specs.List.{list_all, list_any}
 use Rattle.std.proofs.lemmas.Bool.{and_parts, and_from, or_cases, or_left, or_right, false≢true, lt-ltb, ltb-true, le-leb, eq-eqb, not-true, not_from_false}
 use Rattle.std.proofs.lemmas.List.Sums.{length-filter, sum_by-cons}
@@ -9,46 +9,20 @@ use Rattle.nv_base.specs.Sets.{is_in}
 use Rattle.nv_base.proofs.Sets.{same-number}
 use Rattle.ssu_ir.specs.Tree.{Label}
 use Rattle.ssu_ir.specs.Points as pure
-use Rattle.ssu_ir.specs.Points.{PointKind as Spot, Entry, At, Point}
+use Rattle.ssu_ir.specs.Points.{PointKind as Spot, Entry, At}
 use Rattle.ssu_ir.proofs.Searches.{or-false}
+use Rattle.ssu_ir.proofs.Lists.{same-order}
 use Rattle.placement.specs.declared.place.Place.{Place}
 use Rattle.placement.specs.declared.place.Place.TheVariants.{A, B, L, LD, S, SD, Slot}
 use Rattle.placement.specs.Places.{same_place}
 use Rattle.placement.specs.Plan.{Plan, home, first}
-use Rattle.placement.specs.Uses.{Access, ValueOrigin, Parameter, Result, Fetched, Value, numbered, place_values, values_from, place_accesses, accesses_from, Use, uses, uses_of, is_used}
+use Rattle.placement.specs.Uses.{ValueOrigin, Parameter, Result, Fetched, Value, numbered, place_values, Use, uses, uses_of, is_used}
 use Rattle.placement.specs.Fits.{read_place, IsGeneral, is_slot, same_bank, word_register, is_early, maybe, AreFills, AreCopies, IsPutEarly, IsHome, IsHoused, is_sort_homed, wants_home}
 use Rattle.placement_checks.specs.inner.NodeLookups.{place_node}
 use Rattle.placement_checks.specs.inner.Checks.{can_be_home, rank, is_of, used, is_early_of, is_word_at, next_fits, words_fit, fill_fits, fills_fit, copies_match, copies_fit, is_put_early, is_general_home, has_home, param_fits, fetched_fits, fetched_fit, origin_fits, value_fits}
 use Rattle.placement.proofs.Places.{same_place-true, same_place-from}
-use Rattle.placement.proofs.Sound.{Each, each-append}
-use Rattle.placement.proofs.Spilled.{each-all, all-each, each-left, each-right}
-use Rattle.placement_checks.proofs.Seen.{same-order}
-
--- ---- values and accesses, point by point
-
-pub each-values : (R : Value → Type 0) (ps : List Point) (k : ℕ) → ((i m : ℕ) (q : Point) → m ≡ k + i → slice_get ps i ≡ Some q → Each R (place_values m q.place)) → Each R (values_from k ps)
-each-values R [] k h = tt
-each-values R (q ∷ ps) k h = each-append R (place_values k q.place) (values_from (suc k) ps) (h 0 k q (omega arith) refl) (each-values R ps (suc k) (λ i m p e f. h (suc i) m p (omega arith) f))
-
-pub values-part : (R : Value → Type 0) (ps : List Point) (k i m : ℕ) (q : Point) → m ≡ k + i → slice_get ps i ≡ Some q → Each R (values_from k ps) → Each R (place_values m q.place)
-values-part R [] k i m q e f h = absurd (cc)
-values-part R (p ∷ ps) k zero m q e f h =
-    let same : p ≡ q = cc in
-    let here : k ≡ m = omega arith in
-    subst (λ n. Each R (place_values n q.place)) here (subst (λ (w : Point). Each R (place_values k w.place)) same (each-left R (place_values k p.place) (values_from (suc k) ps) h))
-values-part R (p ∷ ps) k (suc i) m q e f h = values-part R ps (suc k) i m q (omega arith) f (each-right R (place_values k p.place) (values_from (suc k) ps) h)
-
-pub each-accesses : (R : Access → Type 0) (ps : List Point) (k : ℕ) → ((i m : ℕ) (q : Point) → m ≡ k + i → slice_get ps i ≡ Some q → Each R (place_accesses m q.place)) → Each R (accesses_from k ps)
-each-accesses R [] k h = tt
-each-accesses R (q ∷ ps) k h = each-append R (place_accesses k q.place) (accesses_from (suc k) ps) (h 0 k q (omega arith) refl) (each-accesses R ps (suc k) (λ i m p e f. h (suc i) m p (omega arith) f))
-
-pub accesses-part : (R : Access → Type 0) (ps : List Point) (k i m : ℕ) (q : Point) → m ≡ k + i → slice_get ps i ≡ Some q → Each R (accesses_from k ps) → Each R (place_accesses m q.place)
-accesses-part R [] k i m q e f h = absurd (cc)
-accesses-part R (p ∷ ps) k zero m q e f h =
-    let same : p ≡ q = cc in
-    let here : k ≡ m = omega arith in
-    subst (λ n. Each R (place_accesses n q.place)) here (subst (λ (w : Point). Each R (place_accesses k w.place)) same (each-left R (place_accesses k p.place) (accesses_from (suc k) ps) h))
-accesses-part R (p ∷ ps) k (suc i) m q e f h = accesses-part R ps (suc k) i m q (omega arith) f (each-right R (place_accesses k p.place) (accesses_from (suc k) ps) h)
+use Rattle.placement.proofs.Sound.{Each}
+use Rattle.placement.proofs.Spilled.{each-all, all-each}
 
 -- ---- tests of each element
 

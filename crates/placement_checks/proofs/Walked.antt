@@ -3,6 +3,7 @@ use Rattle.std.proofs.Common.{◌≡◌, ℕ, zero, suc, ◌+◌, ◌<◌, ◌�
 use Rattle.std.proofs.Math.Bool.{or_assoc}
 use Rattle.std.specs.Prelude.{slice_get, slice_index_or}
 use Rattle.std.proofs.lemmas.List.{drop_more, drop_all}
+use Rattle.std.proofs.lemmas.Option.{slice_get_within, get_or_from_slice_get, slice_get-get_or}
 use Rattle.nv_base.specs.declared.term.Cmp.{Cmp}
 use Rattle.nv_base.specs.Sets.{is_in}
 use Rattle.nv_base.proofs.Sets.{in-append}
@@ -19,11 +20,11 @@ use Rattle.ssu_ir.proofs.Reading.{there_is, read_in}
 use Rattle.ssu_ir.proofs.Unders.{NoKids, OneKid, TwoKids, shape, bodies_have, labels-viewed}
 use Rattle.ssu_ir.proofs.PointLemmas.{length-tree_points}
 use Rattle.ssu_ir.proofs.Searches.{or-false}
+use Rattle.ssu_ir.proofs.Lists.{get-left, get-right, some-there}
 use Rattle.placement_checks.specs.declared.points.Under.TheVariants.{Here as IsHere}
 use Rattle.placement_checks.specs.declared.points.Way.TheVariants.{There as IsThere}
 use Rattle.ssu_liveness.specs.declared.point_ids.PointId.{PointId}
 use Rattle.ssu_liveness.specs.declared.point_ids.PointId.TheVariants.{Entry as EntrySpot, Node as NodeSpot}
-use Rattle.placement.specs.Fits.{param_at}
 use Rattle.ssu_liveness.specs.inner.Live.{node_source, first_of, source_in, source_among, value_by}
 use Rattle.ssu_liveness.proofs.Kept.{length-view}
 use Rattle.placement_checks.specs.inner.NodeLookups.{IsNode, IsNodeAt, IsAboveAt, IsEntry, IsIdOfPointAt, nowhere, point_at, value_in}
@@ -31,43 +32,13 @@ use Rattle.placement_checks.proofs.Seen.{length-both}
 
 -- ---- lists
 
-pub get-left : {X : Type 0} (a b : List X) (k : ℕ) (x : X) → slice_get a k ≡ Some x → slice_get (a ++ b) k ≡ Some x
-get-left [] b k x e = absurd (cc)
-get-left (y ∷ a) b zero x e = e
-get-left (y ∷ a) b (suc k) x e = get-left a b k x e
-
-pub get-right : {X : Type 0} (a b : List X) (k m : ℕ) → k ≡ length a + m → slice_get (a ++ b) k ≡ slice_get b m
-get-right [] b k m e = let same : k ≡ m = omega arith in ap (slice_get b) same
-get-right (y ∷ a) b zero m e = absurd (omega arith)
-get-right (y ∷ a) b (suc k) m e = get-right a b k m (omega arith)
-
-pub get-within : {X : Type 0} (xs : List X) (k : ℕ) (x : X) → slice_get xs k ≡ Some x → k < length xs
-get-within [] k x e = absurd (cc)
-get-within (y ∷ xs) zero x e = omega arith
-get-within (y ∷ xs) (suc k) x e = let l = get-within xs k x e in omega arith
-
 pub get-none : {X : Type 0} (xs : List X) (k : ℕ) → slice_get xs k ≡ None → length xs ≤ k
 get-none [] k e = omega arith
 get-none (y ∷ xs) zero e = absurd (cc)
 get-none (y ∷ xs) (suc k) e = let l = get-none xs k e in omega arith
 
-pub get-index : {X : Type 0} (xs : List X) (k : ℕ) (x d : X) → slice_get xs k ≡ Some x → slice_index_or xs k d ≡ x
-get-index [] k x d e = absurd (cc)
-get-index (y ∷ xs) zero x d e = let g : y ≡ x = cc in g
-get-index (y ∷ xs) (suc k) x d e = get-index xs k x d e
-
-pub get-there : {X : Type 0} (xs : List X) (k : ℕ) (d : X) → k < length xs → slice_get xs k ≡ Some (slice_index_or xs k d)
-get-there [] k d l = absurd (omega arith)
-get-there (y ∷ xs) zero d l = refl
-get-there (y ∷ xs) (suc k) d l = get-there xs k d (omega arith)
-
 pub get-item : {X : Type 0} (xs : List X) (k : ℕ) (d : X) → k < length xs → d ≡ slice_index_or xs k d → slice_get xs k ≡ Some d
-get-item xs k d l e = get-there xs k d l ∙ ap (λ x. Some x) (sym e)
-
-pub some-there : {X : Type 0} (xs : List X) (k : ℕ) → k < length xs → (x : X) × (slice_get xs k ≡ Some x)
-some-there [] k l = absurd (omega arith)
-some-there (y ∷ xs) zero l = (y, refl)
-some-there (y ∷ xs) (suc k) l = some-there xs k (omega arith)
+get-item xs k d l e = slice_get-get_or xs k d l ∙ ap (λ x. Some x) (sym e)
 
 -- ---- the node that a walk reaches
 
@@ -183,7 +154,7 @@ view-get slots (l ∷ ls) zero d e = let g : l ≡ d = cc in ap (λ z. Some (lab
 view-get slots (l ∷ ls) (suc k) d e = view-get slots ls k d e
 
 drop-get : {X : Type 0} (xs : List X) (k : ℕ) (x : X) → slice_get xs k ≡ Some x → drop k xs ≡ x ∷ drop (k + 1) xs
-drop-get xs k x e = drop_more xs k x (get-within xs k x e) ∙ ap (λ y. y ∷ drop (k + 1) xs) (get-index xs k x x e)
+drop-get xs k x e = drop_more xs k x (slice_get_within xs k x e) ∙ ap (λ y. y ∷ drop (k + 1) xs) (get_or_from_slice_get xs k x x e)
 
 pub label-next : (s : Ssu) (k : ℕ) (d : SsuLabel) → slice_get s.labels.items k ≡ Some d → drop k (labels_view s) ≡ label_of s.nodes.slots d ∷ drop (k + 1) (labels_view s)
 label-next s k d e = drop-get (labels_view s) k (label_of s.nodes.slots d) (ap (λ v. slice_get v k) (labels-viewed s) ∙ view-get s.nodes.slots s.labels.items k d e)
@@ -205,14 +176,14 @@ pub body-has : (s : Ssu) (k : ℕ) (d : SsuLabel) → slice_get s.labels.items k
 body-has s k d e = have-body s.nodes.slots s.labels.items k d (bodies_have s.nodes.slots (bodies s.labels.items) s.formed) e
 
 at-some : (s : Ssu) (k : ℕ) (q : Point) → slice_get (points (labels_view s)) k ≡ Some q → point_at (labels_view s) k ≡ q
-at-some s k q e = get-index (points (labels_view s)) k q nowhere e
+at-some s k q e = get_or_from_slice_get (points (labels_view s)) k q nowhere e
 
 pub entry-found : (s : Ssu) (k l left : ℕ) (d : SsuLabel) → slice_get s.labels.items l ≡ Some d → left ≡ 0 → IsLeft s k l left → IsIdOfPointAt s k (EntrySpot l)
 entry-found s k l left d e z h =
     let got = rest-of s k l left d e h ∙ ap (slice_get (points_from l (label_of s.nodes.slots d ∷ drop (l + 1) (labels_view s)))) z in
     let P : Point → Type 0 = λ q. IsEntry s l q in
     record {
-      within = get-within (points (labels_view s)) k _ got;
+      within = slice_get_within (points (labels_view s)) k _ got;
       is = subst P (sym (at-some s k _ got)) (record { label = d; found = e; place = refl; below = refl; has = body-has s l d e });
     }
 
@@ -228,7 +199,7 @@ node-found s k l left m i d x e z xe w h =
     let P : Point → Type 0 = λ q. HasTree s.nodes.slots x.0 × IsNode s.nodes.slots x.0 q in
     let Q : ℕ → Type 0 = λ n. HasTree s.nodes.slots n × IsNode s.nodes.slots n there.point in
     record {
-      within = get-within (points (labels_view s)) k there.point got;
+      within = slice_get_within (points (labels_view s)) k there.point got;
       is = subst P (sym (at-some s k there.point got)) (subst Q (sym xe) (w.has, there.is));
     }
 
@@ -285,11 +256,6 @@ pub sources-step : (s : Ssu) (i : ℕ) (d : SsuLabel) (z : ℕ) → slice_get s.
 sources-step s i d z e = ap (λ ls. source_among (map (λ l. l.body) (map (label_of s.nodes.slots) ls)) z) (drop-get s.labels.items i d e)
 
 -- ---- parameters
-
-pub param-index : (xs : List ℕ) (i : ℕ) → param_at (slice_get xs i) ≡ slice_index_or xs i 0
-param-index [] i = refl
-param-index (x ∷ xs) zero = refl
-param-index (x ∷ xs) (suc i) = param-index xs i
 
 -- ---- as the walks end
 

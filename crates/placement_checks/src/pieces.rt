@@ -1,88 +1,19 @@
-//! What a node defines and uses, and what follows it.
+//! What a node uses, by the number of the operand.
 
-ghost use Rattle.std.specs.Prelude.{◌≡◌, ◌++◌, length, slice_index_or};
-ghost use Rattle.ssu_ir.specs.Slots.{node_of, successors_of};
+ghost use Rattle.std.specs.Prelude.{◌≡◌, length, slice_index_or};
+ghost use Rattle.ssu_ir.specs.Slots.{node_of};
 ghost use Rattle.ssu_ir.specs.Tree as tree;
-ghost use Rattle.placement_checks.specs.inner.NodeLookups.{successor_counts, role_view, node_role};
+ghost use Rattle.placement_checks.specs.inner.NodeLookups.{node_role};
+ghost use Rattle.placement.specs.inner.UseViews.{role_view};
 
-use nv_base::Mem;
-use ssu_ir::{NodeId, SsuNode};
-use std::slice::from_ref;
-
-/// The nodes that follow a node directly.
-pub enum Followers {
-    None,
-    One(NodeId),
-    Two(NodeId, NodeId),
-}
-
-/// What a use is: an operand, an address, a word of a write, the word for a parameter of a label, or a
-/// word of an end.
-#[derive(Clone, Copy)]
-pub enum Role {
-    Operand,
-    Address,
-    Written(Mem, u8),
-    Argument(u32, u8),
-    Ending(u8),
-}
-
-/// The nodes that follow.
-pub fn nodes_behind(n: &SsuNode) -> Followers
-    ensures { successor_counts result ≡ successors_of n.now }
-{
-    match n {
-        SsuNode::Lit(_, _, k) => Followers::One(*k),
-        SsuNode::Una(_, _, _, k) => Followers::One(*k),
-        SsuNode::Bin(_, _, _, _, k) => Followers::One(*k),
-        SsuNode::Clone(_, _, k) => Followers::One(*k),
-        SsuNode::Read(_, _, _, k) => Followers::One(*k),
-        SsuNode::Write(_, _, _, k) => Followers::One(*k),
-        SsuNode::If(_, _, _, first, second) => Followers::Two(*first, *second),
-        SsuNode::Jump(_, _) => Followers::None,
-        SsuNode::Halt(_, _) => Followers::None,
-    }
-}
-
-/// The values that a node defines.
-pub fn node_values(n: &SsuNode) -> &[u32]
-    ensures { result.now ≡ tree.node_values (node_of n.now) }
-{
-    match n {
-        SsuNode::Lit(x, _, _) => from_ref(x),
-        SsuNode::Una(x, _, _, _) => from_ref(x),
-        SsuNode::Bin(x, _, _, _, _) => from_ref(x),
-        SsuNode::Clone(_, _, _) => &[],
-        SsuNode::Read(_, xs, _, _) => xs,
-        SsuNode::Write(_, _, _, _) => &[],
-        SsuNode::If(_, _, _, _, _) => &[],
-        SsuNode::Jump(_, _) => &[],
-        SsuNode::Halt(_, _) => &[],
-    }
-}
-
-/// The names that a node uses, in two pieces.
-fn node_uses(n: &SsuNode) -> (&[u32], &[u32])
-    ensures { result.0.now ++ result.1.now ≡ tree.node_uses (node_of n.now) }
-{
-    match n {
-        SsuNode::Lit(_, _, _) => (&[], &[]),
-        SsuNode::Una(_, _, y, _) => (from_ref(y), &[]),
-        SsuNode::Bin(_, _, y, z, _) => (from_ref(y), from_ref(z)),
-        SsuNode::Clone(_, _, _) => (&[], &[]),
-        SsuNode::Read(_, _, y, _) => (from_ref(y), &[]),
-        SsuNode::Write(_, y, xs, _) => (from_ref(y), xs),
-        SsuNode::If(_, x, y, _, _) => (from_ref(x), from_ref(y)),
-        SsuNode::Jump(_, xs) => (&[], xs),
-        SsuNode::Halt(_, xs) => (&[], xs),
-    }
-}
+use placement::Role;
+use ssu_ir::{SsuNode, uses};
 
 /// How many names a node uses.
 pub fn use_count(n: &SsuNode) -> u128
     ensures { result ≡ length (tree.node_uses (node_of n.now)) }
 {
-    let (front, rest) = node_uses(n);
+    let (front, rest) = uses(n);
     front.len() as u128 + rest.len() as u128
 }
 
@@ -100,7 +31,7 @@ pub fn item(xs: &[u32], i: usize) -> u32
 pub fn use_name(n: &SsuNode, i: usize) -> u32
     ensures { result ≡ slice_index_or (tree.node_uses (node_of n.now)) i 0 }
 {
-    let (front, rest) = node_uses(n);
+    let (front, rest) = uses(n);
     if i < front.len() {
         item(front, i)
     } else {
@@ -122,11 +53,11 @@ pub fn use_role(n: &SsuNode, i: u8) -> Role
             if i == 0 {
                 Role::Address
             } else {
-                Role::Written(*m, i - 1)
+                Role::Written(*m, (i - 1) as u32)
             }
         }
         SsuNode::If(_, _, _, _, _) => Role::Operand,
-        SsuNode::Jump(l, _) => Role::Argument(*l, i),
-        SsuNode::Halt(_, _) => Role::Ending(i),
+        SsuNode::Jump(l, _) => Role::Argument(*l, i as u32),
+        SsuNode::Halt(_, _) => Role::Ending(i as u32),
     }
 }

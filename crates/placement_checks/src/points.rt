@@ -14,8 +14,7 @@ ghost use Rattle.placement_checks.specs.inner.Checks as checks;
 ghost use Rattle.ssu_liveness.specs.inner.Live.{node_source, source_in};
 ghost use Rattle.placement_checks.specs.inner.NodeLookups.{place_at, below_at, place_node, value_in, IsNodeAt, IsAboveAt, IsIdOfPointAt};
 
-use crate::pieces::{Followers, node_values, nodes_behind};
-use ssu_ir::{NodeId, Ssu, SsuNode};
+use ssu_ir::{NextNodes, NodeId, Ssu, SsuNode, successors, values};
 use ssu_liveness::PointId;
 
 /// What stands under a node at a distance: a node, or how far past its last node that is.
@@ -46,10 +45,10 @@ pub fn node_under(s: &Ssu, id: NodeId, k: u128) -> Under
     if k == 0 {
         return Under::Here(id);
     }
-    match nodes_behind(s.node(id)) {
-        Followers::None => Under::Past(k - 1),
-        Followers::One(j) => node_under(s, j, k - 1),
-        Followers::Two(i, j) => match node_under(s, i, k - 1) {
+    match successors(s.node(id)) {
+        NextNodes::None => Under::Past(k - 1),
+        NextNodes::One(j) => node_under(s, j, k - 1),
+        NextNodes::Two(i, j) => match node_under(s, i, k - 1) {
             Under::Here(x) => Under::Here(x),
             Under::Past(m) => node_under(s, j, m),
         },
@@ -91,7 +90,7 @@ pub fn values_at(s: &Ssu, k: u128) -> &[u32]
 {
     match point_id_at(s, k) {
         Some(PointId::Entry(l)) => &s.labels[l].params,
-        Some(PointId::Node(id)) => node_values(s.node(id)),
+        Some(PointId::Node(id)) => values(s.node(id)),
         None => &[],
     }
 }
@@ -145,13 +144,13 @@ fn way_to(s: &Ssu, id: NodeId, k: u128, x: u32) -> Way
         return Way::There(false);
     }
     let n = s.node(id);
-    match nodes_behind(n) {
-        Followers::None => Way::Past(k - 1),
-        Followers::One(j) => match way_to(s, j, k - 1, x) {
-            Way::There(below) => Way::There(has(node_values(n), x) || below),
+    match successors(n) {
+        NextNodes::None => Way::Past(k - 1),
+        NextNodes::One(j) => match way_to(s, j, k - 1, x) {
+            Way::There(below) => Way::There(has(values(n), x) || below),
             Way::Past(m) => Way::Past(m),
         },
-        Followers::Two(i, j) => match way_to(s, i, k - 1, x) {
+        NextNodes::Two(i, j) => match way_to(s, i, k - 1, x) {
             Way::There(below) => Way::There(below),
             Way::Past(m) => way_to(s, j, m, x),
         },
@@ -186,10 +185,10 @@ fn source_under(s: &Ssu, id: NodeId, z: u32) -> Option<u32>
     if let Some(y) = source_at(n, z) {
         return Some(y);
     }
-    match nodes_behind(n) {
-        Followers::None => None,
-        Followers::One(j) => source_under(s, j, z),
-        Followers::Two(i, j) => match source_under(s, i, z) {
+    match successors(n) {
+        NextNodes::None => None,
+        NextNodes::One(j) => source_under(s, j, z),
+        NextNodes::Two(i, j) => match source_under(s, i, z) {
             Some(y) => Some(y),
             None => source_under(s, j, z),
         },

@@ -5,7 +5,7 @@ ghost use Rattle.std.specs.List.{list_any};
 ghost use Rattle.placement.specs.Fits as rules;
 ghost use Rattle.placement.specs.Fits.{read_place, has_place};
 ghost use Rattle.placement.specs.Places.{same_place};
-ghost use Rattle.placement.specs.declared.place.Place.TheVariants.{S as Sreg};
+ghost use Rattle.placement.specs.declared.place.Place.TheVariants.{A as Areg, S as Sreg};
 ghost use Rattle.placement_checks.specs.inner.Checks as checks;
 ghost use Rattle.placement_checks.specs.inner.Checks.{word_place};
 
@@ -16,8 +16,8 @@ use placement::Place;
 /// no written word.
 #[derive(Clone, Copy)]
 pub enum Word {
-    S(u32),
-    SD(u32),
+    S(u64),
+    SD(u64),
     Other,
 }
 
@@ -142,15 +142,15 @@ pub fn in_read_run(q: Place, m: Mem, first: u8, words: usize) -> bool
 {
     match m {
         Mem::Sram => match q {
-            Place::L(j) => is_within(j as u32, first, words),
+            Place::L(j) => is_within(j as u64, first, words),
             _ => false
         },
         Mem::Sdram => match q {
-            Place::LD(j) => is_within(j as u32, first, words),
+            Place::LD(j) => is_within(j as u64, first, words),
             _ => false
         },
         Mem::Scratch => match q {
-            Place::L(j) => is_within(j as u32, first, words),
+            Place::L(j) => is_within(j as u64, first, words),
             _ => false
         },
     }
@@ -177,10 +177,10 @@ pub fn in_write_run(w: Word, m: Mem, first: u8, words: usize) -> bool
 }
 
 /// Whether a register's number is one of so many from the first on.
-fn is_within(j: u32, first: u8, words: usize) -> bool
+fn is_within(j: u64, first: u8, words: usize) -> bool
     ensures { result ≡ checks.is_within j first words }
 {
-    j >= first as u32 && ((j - first as u32) as usize) < words
+    j >= first as u64 && ((j - first as u64) as u128) < words as u128
 }
 
 /// Whether a place is the register of a word.
@@ -189,17 +189,27 @@ pub fn is_at(q: Place, w: Word) -> bool
 {
     match w {
         Word::S(k) => match q {
-            Place::S(j) => j as u32 == k,
+            Place::S(j) => j as u64 == k,
             _ => false
         },
         Word::SD(k) => match q {
-            Place::SD(j) => j as u32 == k,
+            Place::SD(j) => j as u64 == k,
             _ => false
         },
         Word::Other => match q {
             Place::Slot(j) => j == 0,
             _ => false
         },
+    }
+}
+
+/// Whether a place is the register of this number for the words of an end.
+pub fn is_ending_at(q: Place, i: u32) -> bool
+    ensures { result ≡ same_place q (Areg i) }
+{
+    match q {
+        Place::A(j) => j as u32 == i,
+        _ => false,
     }
 }
 
@@ -230,7 +240,7 @@ pub fn is_through(w: Word, s: Option<u8>) -> bool
     match s {
         None => false,
         Some(r) => match w {
-            Word::S(j) => j == r as u32,
+            Word::S(j) => j == r as u64,
             _ => false
         },
     }

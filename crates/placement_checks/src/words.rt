@@ -6,25 +6,17 @@ ghost use Rattle.ssu_ir.specs.View.{labels_view};
 ghost use Rattle.placement.specs.Fits as rules;
 ghost use Rattle.placement.specs.Order.{IsInOrder};
 ghost use Rattle.placement.specs.Plan.{plan_view};
+ghost use Rattle.placement.specs.inner.UseViews.{use_view};
 ghost use Rattle.placement_checks.specs.inner.Checks as checks;
-ghost use Rattle.placement_checks.specs.inner.Checks.{word_place, use_view, found};
+ghost use Rattle.placement_checks.specs.inner.Checks.{word_place, found};
 ghost use Rattle.placement_checks.specs.inner.NodeLookups.{found_use, below_at};
 
-use crate::pieces::{Role, item, use_name, use_role};
+use crate::pieces::{item, use_name, use_role};
 use crate::points::{node_at, reaches, value_of};
-use crate::registers::{Word, among, is_address_at, is_at, is_operand_at};
+use crate::registers::{Word, among, is_address_at, is_at, is_ending_at, is_operand_at};
 use nv_base::Mem;
-use placement::{Place, Placement, Serve};
+use placement::{Place, Placement, Role, Serve, Use};
 use ssu_ir::Ssu;
-
-/// A use: its point, the number of the operand, the value and what it is.
-#[derive(Clone, Copy)]
-pub struct Use {
-    pub point: u32,
-    pub operand: u8,
-    pub value: u32,
-    pub role: Role,
-}
 
 /// The use that a serve is for.
 pub fn use_of(s: &Ssu, serve: &Serve) -> Use
@@ -33,13 +25,13 @@ pub fn use_of(s: &Ssu, serve: &Serve) -> Use
     match node_at(s, serve.point as u128) {
         Some(n) => Use {
             point: serve.point,
-            operand: serve.operand,
+            operand: serve.operand as u32,
             value: value_of(s, use_name(n, serve.operand as usize)),
             role: use_role(n, serve.operand),
         },
         None => Use {
             point: serve.point,
-            operand: serve.operand,
+            operand: serve.operand as u32,
             value: value_of(s, 0),
             role: Role::Operand,
         },
@@ -64,13 +56,13 @@ pub fn word_of(p: &Placement, u: Use) -> Word
     match u.role {
         Role::Operand => Word::Other,
         Role::Address => Word::Other,
-        Role::Written(m, i) => word_at(m, p.first_of(u.point as u128) as u32 + i as u32),
+        Role::Written(m, i) => word_at(m, p.first_of(u.point as u128) as u64 + i as u64),
         Role::Argument(_, _) => Word::Other,
         Role::Ending(_) => Word::Other,
     }
 }
 
-fn word_at(m: Mem, k: u32) -> Word
+fn word_at(m: Mem, k: u64) -> Word
     ensures { word_place result ≡ rules.write_place m k }
 {
     match m {
@@ -208,7 +200,7 @@ fn use_fits(s: &Ssu, p: &Placement, u: Use) -> bool
         Role::Address => home && is_address_at(from, at),
         Role::Written(_, _) => is_at(at, word_of(p, u)) && (home || from.is(at)),
         Role::Argument(l, i) => home && at.is(p.defined_of(parameter(s, l, i))),
-        Role::Ending(i) => home && at.is(Place::A(i)),
+        Role::Ending(i) => home && is_ending_at(at, i),
     }
 }
 
@@ -221,7 +213,7 @@ fn is_home(p: &Placement, x: u32, q: Place) -> bool
 }
 
 /// The parameter of a number of a label.
-fn parameter(s: &Ssu, l: u32, i: u8) -> u32
+fn parameter(s: &Ssu, l: u32, i: u32) -> u32
     ensures { result ≡ rules.parameter (labels_view s.now) l i }
 {
     match s.labels.get(l as usize) {

@@ -14,11 +14,12 @@ use Rattle.placement.specs.declared.place.Home.{Home as KeptHome}
 use Rattle.placement.specs.declared.place.Placement.{Placement}
 use Rattle.placement.specs.Plan.{Home, Plan, home_view}
 use Rattle.placement.specs.Uses.{Value, accesses, Use, uses, uses_of}
+use Rattle.placement.specs.inner.UseViews.{use_view}
 use Rattle.bank_form.specs.declared.column.Bank.TheVariants.{A, B, M}
 use Rattle.bank_form.specs.declared.form.Value.{Value as KeptValue}
 use Rattle.bank_form.specs.Columns.{each_point}
 use Rattle.bank_prog.specs.Meaning.{Chosen}
-use Rattle.bank_form.specs.inner.Form.{value_view, use_view, access_view, summary_view, parts}
+use Rattle.bank_form.specs.inner.Form.{value_view, access_view, summary_view, parts}
 use Rattle.bank_form.proofs.Loops.{each-parts, flat-filter}
 use Rattle.reg_assign.specs.declared.given.AssignmentInputs.{AssignmentInputs}
 use Rattle.bank_assignment.specs.inner.ReadOff.{Numbers, goes_early, word_place, origin_place, place_in, fill_at, fills_of, copies_of, access_first, use_serve, pass_l, pass_s, pass_by, passes_from, read_off}

@@ -18,7 +18,7 @@ use Rattle.bank_prog.proofs.LawsCost.{costs-by-name}
 use Rattle.reg_assign.specs.declared.given.AssignmentInputs.{AssignmentInputs}
 use Rattle.bank_assignment.specs.declared.numbers.BankNumbers.{BankNumbers}
 use Rattle.bank_assignment.specs.declared.reading.Reading.{Reading}
-use Rattle.label_weights.specs.ByLabel.{label_cost}
+use Rattle.placement.specs.ByLabel.{label_cost}
 use Rattle.bank_assignment.specs.ByLabel.{label_price}
 use Rattle.bank_assignment.specs.inner.Facts.{OnlyThere}
 use Rattle.bank_assignment.specs.inner.ReadOff.{Numbers, AreNumbered, read_off}

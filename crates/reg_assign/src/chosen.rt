@@ -3,7 +3,7 @@
 ghost use Rattle.std.specs.Prelude.{◌≡◌, ℕ, true, List, length, map, IfOk};
 ghost use Rattle.ssu_ir.specs.Single.{single};
 ghost use Rattle.ssu_ir.specs.View.{labels_view};
-ghost use Rattle.label_weights.specs.Weighted as under_weights;
+ghost use Rattle.placement.specs.Weighted as under_weights;
 ghost use Rattle.placement.specs.Costs as costs;
 ghost use Rattle.placement.specs.Fits.{Fits};
 ghost use Rattle.placement.specs.Order.{IsInOrder};

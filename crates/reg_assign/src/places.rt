@@ -2,10 +2,11 @@
 
 ghost use Rattle.std.specs.Prelude.{◌≡◌, ◌+◌, ℕ, nat_eq, map, IfOk, OnOk};
 ghost use Rattle.std.specs.HashMap.{get};
-ghost use Rattle.bank_form.specs.inner.Form.{use_view, value_view, origin_view};
+ghost use Rattle.bank_form.specs.inner.Form.{value_view, origin_view};
 ghost use Rattle.bank_assignment.specs.inner.ReadOff as pure;
 ghost use Rattle.reg_assign.specs.inner.AssignmentInputs.{labels_in, says_in, numbers_in};
 ghost use Rattle.bank_assignment.specs.inner.Reading.{says, known_place, numbers_of, place_noted};
+ghost use Rattle.placement.specs.inner.UseViews.{use_view};
 
 use crate::given::AssignmentInputs;
 use bank_assignment::columns::Family;

@@ -6,9 +6,9 @@ ghost use Rattle.ssu_ir.specs.View.{labels_view};
 ghost use Rattle.placement.specs.Order.{IsInOrder};
 ghost use Rattle.placement.specs.Plan.{plan_view};
 ghost use Rattle.placement.specs.Uses.{uses_of};
+ghost use Rattle.placement.specs.inner.UseViews.{role_view, use_view};
 ghost use Rattle.bank_form.specs.Program as program;
 ghost use Rattle.bank_form.specs.declared.column.Bank.TheVariants.{A15};
-ghost use Rattle.bank_form.specs.inner.Form.{role_view, use_view};
 ghost use Rattle.bank_assignment.specs.inner.Chosen as chosen;
 ghost use Rattle.bank_assignment.specs.inner.PlanTables as tables;
 

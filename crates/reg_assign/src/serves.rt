@@ -2,10 +2,11 @@
 
 ghost use Rattle.std.specs.Prelude.{◌≡◌, ◌++◌, map, IfOk, OnOk};
 ghost use Rattle.std.specs.List.{flat_map};
-ghost use Rattle.bank_form.specs.inner.Form.{use_view, access_view, summary_view, role_view};
+ghost use Rattle.bank_form.specs.inner.Form.{access_view, summary_view};
 ghost use Rattle.bank_assignment.specs.inner.ReadOff as pure;
 ghost use Rattle.reg_assign.specs.inner.AssignmentInputs.{labels_in, says_in, numbers_in};
 ghost use Rattle.bank_assignment.specs.inner.Reading.{says, part_pass};
+ghost use Rattle.placement.specs.inner.UseViews.{role_view, use_view};
 
 use crate::given::AssignmentInputs;
 use crate::places::{bank_place, home_place, small, word_place};

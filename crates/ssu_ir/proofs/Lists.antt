@@ -1,5 +1,5 @@
--- Tests of lists of names.
-use Rattle.std.proofs.Common.{◌≡◌, ℕ, ◌+◌, ◌≤◌, Bool, true, false, not, nat_eq, ◌||◌, List, [], ◌∷◌, map, refl, sym, ap, ◌∙◌, subst, ⊎_elim, arith, if◌then◌else◌}
+-- Tests of lists of names, and elements by their place.
+use Rattle.std.proofs.Common.{◌≡◌, ℕ, zero, suc, ◌+◌, ◌<◌, ◌≤◌, Bool, true, false, not, nat_eq, ◌||◌, List, [], ◌∷◌, ◌++◌, Some, length, slice_get, map, refl, sym, ap, ◌∙◌, subst, ⊎_elim, arith, if◌then◌else◌}
 use Rattle.std.specs.List.{list_all, list_any}
 use Rattle.std.proofs.lemmas.Bool.{and_parts, and_from, or_cases, or_left, or_right, or_parts, not-true, not_from_false, false_from_ne_true, false≢true, eq-eqb}
 use Rattle.nv_base.specs.Sets.{is_in, all_different}
@@ -14,6 +14,9 @@ same_tests true true f g = refl
 same_tests true false f g = absurd (false≢true (f refl))
 same_tests false true f g = absurd (false≢true (g refl))
 same_tests false false f g = refl
+
+pub same-order : (a b : ℕ) → nat_eq a b ≡ nat_eq b a
+same-order a b = same_tests (nat_eq a b) (nat_eq b a) (λ e. eq-eqb b a (sym (same-number a b e))) (λ e. eq-eqb a b (sym (same-number b a e)))
 
 -- ---- all of a list
 
@@ -126,3 +129,20 @@ times-different (y ∷ ys) h =
     absurd (omega arith)) in
     and_from (not (is_in y ys)) (all_different ys) (not_from_false (is_in y ys) absent)
     (times-different ys (λ x i. once-rest (nat_eq x y) x y ys refl absent i (h x (or_right (nat_eq x y) (is_in x ys) i))))
+
+-- ---- elements by their place
+
+pub get-left : {X : Type 0} (a b : List X) (k : ℕ) (x : X) → slice_get a k ≡ Some x → slice_get (a ++ b) k ≡ Some x
+get-left [] b k x e = absurd (cc)
+get-left (y ∷ a) b zero x e = e
+get-left (y ∷ a) b (suc k) x e = get-left a b k x e
+
+pub get-right : {X : Type 0} (a b : List X) (k m : ℕ) → k ≡ length a + m → slice_get (a ++ b) k ≡ slice_get b m
+get-right [] b k m e = let same : k ≡ m = omega arith in ap (slice_get b) same
+get-right (y ∷ a) b zero m e = absurd (omega arith)
+get-right (y ∷ a) b (suc k) m e = get-right a b k m (omega arith)
+
+pub some-there : {X : Type 0} (xs : List X) (k : ℕ) → k < length xs → (x : X) × (slice_get xs k ≡ Some x)
+some-there [] k l = absurd (omega arith)
+some-there (y ∷ xs) zero l = (y, refl)
+some-there (y ∷ xs) (suc k) l = some-there xs k (omega arith)

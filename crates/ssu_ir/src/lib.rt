@@ -19,6 +19,7 @@ pub mod walk;
 pub use build::SsuBuild;
 pub use measure::size;
 pub use node::{NodeId, SsuLabel, SsuNode};
+pub use pieces::{NextNodes, successors, uses, values};
 pub use run::enter;
 pub use single_use::single;
 pub use ssu::Ssu;

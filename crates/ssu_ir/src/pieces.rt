@@ -16,6 +16,7 @@ pub enum NextNodes {
     Two(NodeId, NodeId),
 }
 
+/// The nodes that follow.
 pub fn successors(n: &SsuNode) -> NextNodes
     ensures { successor_numbers result ≡ successors_of n.now }
 {

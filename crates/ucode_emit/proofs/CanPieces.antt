@@ -2,7 +2,7 @@
 use Rattle.std.proofs.Common.{◌≡◌, ℕ, zero, suc, ◌+◌, ◌<◌, ◌≤◌, ◌⊎◌, Bool, true, false, ◌&&◌, if◌then◌else◌, List, [], ◌∷◌, ◌++◌, length, Some, None, get_or, refl, sym, ap, ◌∙◌, subst, ⊎_elim, slice_get, arith}
 use Rattle.std.specs.Prelude.{nat_le, nat_lt, nat_eq, ◌/◌, ◌%◌, ◌^◌, ◌*◌}
 use Rattle.std.proofs.lemmas.Bool.{and_parts, leb-true, ltb-true}
-use Rattle.std.proofs.lemmas.Option.{same_Some}
+use Rattle.std.proofs.lemmas.Option.{same_Some, get_or_from_slice_get}
 use Rattle.std.proofs.lemmas.List.Elements.{All-nil, All-append}
 use Rattle.nv_base.specs.declared.term.Cmp.{Cmp}
 use Rattle.ssu_ir.specs.Tree.{Step, Lit, Una, Bin, Clone, Read, Write, Last, Jump, Halt, Tree, Do, If, End, Label, Does, Forks, Ends}
@@ -11,7 +11,6 @@ use Rattle.ssu_ir.specs.Single.{takes_as_many, is_narrow, IsNarrow}
 use Rattle.ssu_ir.proofs.Narrow.{narrow_is}
 use Rattle.placement.specs.declared.place.Serve.{Serve}
 use Rattle.placement.specs.Plan.{Plan, serve, first, pass}
-use Rattle.placement_checks.proofs.Walked.{get-index}
 use Rattle.par_move.specs.Moves.{Move}
 use Rattle.ucode_emit.specs.Pieces.{operands, words, result_place, to_slot, copies, all_copies, single_moves, shift_of, entry_point, Sequences, sequence_at, served_moves, last_moves, entry_moves, label_moves, tree_moves, parallel_moves}
 use Rattle.ucode_emit.specs.Emits.{IsSequence, AreSequences}
@@ -116,7 +115,7 @@ entry_can : (labels : List Label) (p : Plan) (mss : Sequences) (l k : ℕ) (it :
     → Part k (label_moves p k it) (parallel_moves p labels) → CanAll (single_moves None (sequence_at mss k))
 entry_can labels p mss zero zero it h s e n m =
     let q = sequence_here (parallel_moves p labels) mss 0 (entry_moves p 0 it.params) s (m.each 0 (entry_moves p 0 it.params) refl) in
-    let d = (ready_layer labels p h).begins it (sequence_at mss 0) it.params own (given it.params) e refl (λ i x w f g. same_Some x w (sym f ∙ g)) q (λ i w g. get-index it.params i w 0 g) in
+    let d = (ready_layer labels p h).begins it (sequence_at mss 0) it.params own (given it.params) e refl (λ i x w f g. same_Some x w (sym f ∙ g)) q (λ i w g. get_or_from_slice_get it.params i w 0 g) in
     can_moves p.slots (single_moves None (sequence_at mss 0)) h.fits.slots d.0
 entry_can labels p mss (suc l) zero it h s e n m = let z = entry_later labels l it e in absurd (omega (arith, z, n))
 entry_can labels p mss l (suc k) it h s e n m =

@@ -6,7 +6,7 @@ use Rattle.placement.specs.Plan.{Plan, serve}
 use Rattle.placement.specs.Uses.{ValueOrigin, Value, numbered, values_from, values, place_values, Use, uses}
 use Rattle.placement.specs.Fits.{use_operand}
 use Rattle.placement.specs.Costs.{served_cost, value_cost, values_cost}
-use Rattle.label_weights.specs.Weighted.{point_weight, values_weighted, uses_weighted, weighted_cost}
+use Rattle.placement.specs.Weighted.{point_weight, values_weighted, uses_weighted, weighted_cost}
 use Rattle.ucode_emit.specs.inner.Marks.{Mark, marks}
 use Rattle.ucode_emit.specs.inner.Cursors.{place_operands, operands_from, marks_operands}
 use Rattle.ucode_emit.proofs.CostMoves.{operands_cost}

@@ -10,8 +10,8 @@ use Rattle.ssu_ir.specs.Tree.{Label}
 use Rattle.ssu_ir.specs.Points.{own, Entry, nodes, label_points}
 use Rattle.ssu_ir.proofs.PointLemmas.{length-tree_points}
 use Rattle.placement.specs.Plan.{Plan}
-use Rattle.label_weights.specs.ByLabel.{label_from}
-use Rattle.label_weights.specs.Weighted.{point_weight, weighted_cost}
+use Rattle.placement.specs.ByLabel.{label_from}
+use Rattle.placement.specs.Weighted.{point_weight, weighted_cost}
 use Rattle.ucode_emit.specs.inner.Layers.{Placed}
 use Rattle.ucode_emit.specs.inner.Marks.{Mark, mark, tree_marks, marks_from, marks, point_piece, pieces, joined}
 use Rattle.ucode_emit.specs.Pieces.{Item, moved, instr_of, single_moves, all_copies, label_items, starts, Sequences, sequence_at, parallel_moves}

@@ -1,7 +1,7 @@
 -- What the code of a form weighs: no more than what its placement costs.
 use Rattle.std.proofs.Common.{◌≡◌, ℕ, zero, suc, ◌+◌, ◌*◌, ◌≤◌, List, [], ◌∷◌, ◌++◌, map, refl, sym, ap, ◌∙◌, subst, arith}
 use Rattle.std.proofs.lemmas.List.{map-append}
-use Rattle.std.proofs.lemmas.Option.{slice_get_within}
+use Rattle.std.proofs.lemmas.Option.{slice_get_within, get_or_from_slice_get}
 use Rattle.uc_isa.specs.Moves.{weight, moves_from, moves}
 use Rattle.ssu_ir.specs.Tree.{Tree, Do, If, End, Label, Does, Forks, step_values}
 use Rattle.ssu_ir.specs.Points.{Names, own, names_after, PointKind, Entry, At, Point, points, points_from, tree_points}
@@ -9,7 +9,6 @@ use Rattle.placement.specs.Plan.{Plan, serve}
 use Rattle.placement.specs.Uses.{Value, values_from, values, place_values, Use, uses}
 use Rattle.placement.specs.Fits.{use_operand}
 use Rattle.placement.specs.Costs.{served_cost, value_cost, values_cost, uses_cost, cost}
-use Rattle.placement_checks.proofs.Walked.{get-index}
 use Rattle.ucode_emit.specs.Pieces.{Item, Moved, Plain, Branch, instr_of, items, starts, Sequences, sequence_at, parallel_moves}
 use Rattle.ucode_emit.specs.Emits.{AreSequences}
 use Rattle.ucode_emit.specs.inner.Layers.{Placed}
@@ -61,7 +60,7 @@ pub each_light : (labels : List Label) (p : Plan) (mss : Sequences) → Placed l
 each_light labels p mss h r =
     each_of (IsLight labels p mss) (marks labels) (λ k q e.
     let l = slice_get_within (marks labels) k q e in
-    let emit_context = get-index (marks labels) k q (mark (Entry 0 []) 0) e in
+    let emit_context = get_or_from_slice_get (marks labels) k q (mark (Entry 0 []) 0) e in
     subst (IsLight labels p mss k) emit_context
     (place_light labels p k (mark_at labels k).first_arm (mark_at labels k).place (sequence_at mss k) h (stood_at labels p k l) (sequence_there labels p mss k r l)))
 

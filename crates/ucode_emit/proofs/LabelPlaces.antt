@@ -4,15 +4,15 @@ use Rattle.std.specs.Prelude.{slice_index}
 use Rattle.std.specs.List.{AllByRecursion}
 use Rattle.std.proofs.lemmas.List.{length-map, length-append}
 use Rattle.std.proofs.lemmas.List.Elements.{All-from_recursion}
-use Rattle.std.proofs.lemmas.Option.{none-some, same_Some}
+use Rattle.std.proofs.lemmas.Option.{none-some, same_Some, get_or_from_slice_get}
 use Rattle.uc_isa.specs.declared.instruction.Instr.{Instr}
 use Rattle.uc_isa.specs.declared.instruction.Instr.TheVariants as instr
 use Rattle.uc_isa.specs.Lawful.{IsLast}
 use Rattle.uc_executions.specs.Starts.{HasShape, AreInside, AreStarts}
 use Rattle.ssu_ir.specs.Tree.{Label}
 use Rattle.ssu_ir.specs.Points.{nodes}
+use Rattle.ssu_ir.proofs.Lists.{get-left, some-there}
 use Rattle.placement.specs.Plan.{Plan}
-use Rattle.placement_checks.proofs.Walked.{get-index, get-left, some-there}
 use Rattle.ucode_emit.specs.inner.Layers.{Placed, ReadyLayer}
 use Rattle.ucode_emit.specs.Pieces.{Item, Moved, Plain, Branch, instr_of, single_moves, all_copies, entry_point, Sequences, sequence_at, label_items, items_from, items, tree_starts, starts_from, starts, parallel_moves}
 use Rattle.ucode_emit.specs.Emits.{label_starts, entries_from, AreSequences}
@@ -39,7 +39,7 @@ begins_in labels p mss at k (x ∷ ls) places h =
     let j = suc k + nodes x.body in
     let rest = starts_from labels p mss next j ls in
     let long : j ≡ k + length (at ∷ ts) = let a = starts_many labels p mss (at + front) (suc k) x.body in omega (arith, a) in
-    let emit_context : slice_index_or places k 0 ≡ at = get-index places k at 0 (part_head k at ts places (part_left k (at ∷ ts) rest places h)) in
+    let emit_context : slice_index_or places k 0 ≡ at = get_or_from_slice_get places k at 0 (part_head k at ts places (part_left k (at ∷ ts) rest places h)) in
     ap (λ s. s ∷ map (λ i. slice_index_or places i 0) (entries_from j ls)) emit_context ∙ ap (λ l. at ∷ l) (begins_in labels p mss next j ls places (part_right k j (at ∷ ts) rest places long h))
 
 pub starts_by_length : (labels : List Label) (p : Plan) (mss : Sequences) → label_starts labels p mss ≡ label_begins labels p mss 0 0 labels

@@ -2,7 +2,7 @@
 use Rattle.std.proofs.Common.{◌≡◌, ℕ, zero, suc, true, List, [], ◌∷◌, ◌++◌, length, Option, Some, None, refl, sym, ◌∙◌, subst, slice_get, arith}
 use Rattle.std.specs.Prelude.{nat_le, slice_index_or, ◌/◌, ◌^◌}
 use Rattle.std.proofs.lemmas.Bool.{and_parts, false≢true, leb-true}
-use Rattle.std.proofs.lemmas.Option.{same_Some}
+use Rattle.std.proofs.lemmas.Option.{same_Some, get_or_from_slice_get}
 use Rattle.nv_base.specs.Words.{Env}
 use Rattle.nv_base.specs.declared.term.Bin.TheVariants.{Sub}
 use Rattle.nv_base.specs.declared.term.Cmp.{Cmp}
@@ -17,7 +17,6 @@ use Rattle.ssu_ir.specs.Points.{Names, own, Point}
 use Rattle.ssu_ir.specs.Single.{takes_as_many}
 use Rattle.placement.specs.declared.place.Place.TheVariants.{A}
 use Rattle.placement.specs.Plan.{Plan, first, pass}
-use Rattle.placement_checks.proofs.Walked.{get-index}
 use Rattle.par_move.specs.Moves.{Move, Words, StandFor, none}
 use Rattle.ucode_emit.specs.Operations.{Reading, Writing}
 use Rattle.ucode_emit.specs.Pieces.{Plain, Branch, operands, operand_at, words, result_place, to_slot, copies, all_copies, single_moves, un_op, source, target, address_of, shift_of, defines, moved, step_items, fork_items, last_items, entry_point, Sequences, sequence_at, label_moves, tree_moves, parallel_moves, last_moves, entry_moves}
@@ -157,7 +156,7 @@ nothing_moved slots mss k e = subst (λ ms. AreGood slots (moved (single_moves N
 
 first_good : (labels : List Label) (p : Plan) (mss : Sequences) (it : Label) → ReadyLayer labels p → slice_get labels 0 ≡ Some it → IsSequence (entry_moves p 0 it.params) (sequence_at mss 0) → AreGood p.slots (moved (front_moves mss 0))
 first_good labels p mss it r e s =
-    let d = r.begins it (sequence_at mss 0) it.params own (given it.params) e refl (λ i x w f g. same_Some x w (sym f ∙ g)) s (λ i w g. get-index it.params i w 0 g) in
+    let d = r.begins it (sequence_at mss 0) it.params own (given it.params) e refl (λ i x w f g. same_Some x w (sym f ∙ g)) s (λ i w g. get_or_from_slice_get it.params i w 0 g) in
     moves_good p.slots (front_moves mss 0) d.0
 
 pub front_good : (labels : List Label) (p : Plan) (mss : Sequences) (l k : ℕ) (it : Label) → ReadyLayer labels p → AreSequences (parallel_moves p labels) mss → slice_get labels l ≡ Some it → entry_point labels l ≡ k

@@ -3,7 +3,7 @@ use Rattle.std.proofs.Common.{◌≡◌, ℕ, zero, suc, ◌+◌, ◌≤◌, nat
 use Rattle.std.specs.List.{list_all}
 use Rattle.std.proofs.lemmas.Bool.{and_parts}
 use Rattle.std.proofs.lemmas.List.{length-map, length-append}
-use Rattle.std.proofs.lemmas.Option.{slice_get_within}
+use Rattle.std.proofs.lemmas.Option.{slice_get_within, get_or_from_slice_get}
 use Rattle.nv_base.specs.Sets.{all_different}
 use Rattle.ssu_ir.specs.Tree.{Tree, Do, If, End, Label, Does}
 use Rattle.ssu_ir.specs.Points.{Entry, At, place_values as place_variables}
@@ -12,7 +12,6 @@ use Rattle.ssu_ir.specs.Single.{all_defined, is_entry, is_single}
 use Rattle.placement.specs.Plan.{Plan, serve}
 use Rattle.placement.specs.Uses.{Use, uses}
 use Rattle.placement.specs.Fits.{use_operand, is_early}
-use Rattle.placement_checks.proofs.Walked.{get-index}
 use Rattle.ucode_emit.specs.Pieces.{instr_of, items, starts, Sequences, sequence_at, parallel_moves}
 use Rattle.ucode_emit.specs.Emits.{AreSequences}
 use Rattle.ucode_emit.specs.inner.Layers.{Placed}
@@ -60,7 +59,7 @@ each_room : (labels : List Label) (p : Plan) (mss : Sequences) → Placed labels
 each_room labels p mss h r =
     each_of (Fits labels p mss) (marks labels) (λ k q e.
     let l = slice_get_within (marks labels) k q e in
-    let emit_context = get-index (marks labels) k q (mark (Entry 0 []) 0) e in
+    let emit_context = get_or_from_slice_get (marks labels) k q (mark (Entry 0 []) 0) e in
     subst (Fits labels p mss k) emit_context
     (place_room labels p k (mark_at labels k).first_arm (mark_at labels k).place (sequence_at mss k) h (stood_at labels p k l) (sequence_there labels p mss k r l)))
 

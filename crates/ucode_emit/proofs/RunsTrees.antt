@@ -2,6 +2,7 @@
 use Rattle.std.proofs.Common.{◌≡◌, ℕ, zero, suc, ◌+◌, ◌≤◌, nat_eq, nat_le, Bool, true, false, ◌&&◌, List, [], ◌∷◌, ◌++◌, map, length, Option, Some, None, if◌then◌else◌, refl, sym, ap, ◌∙◌, subst, arith, slice_get, slice_index_or}
 use Rattle.std.proofs.lemmas.Bool.{and_parts, or_right, false≢true, leb-true}
 use Rattle.std.proofs.lemmas.List.{length-map, length-append}
+use Rattle.std.proofs.lemmas.Option.{get_or_from_slice_get}
 use Rattle.nv_base.specs.declared.term.Cmp.{Cmp}
 use Rattle.nv_base.specs.declared.term.Bin.TheVariants.{Sub}
 use Rattle.nv_base.specs.Meanings.{IsOver}
@@ -26,7 +27,6 @@ use Rattle.ssu_ir.proofs.Lists.{in-itself}
 use Rattle.placement.specs.declared.place.Place.{Place}
 use Rattle.placement.specs.declared.place.Place.TheVariants.{A}
 use Rattle.placement.specs.Plan.{Plan, pass}
-use Rattle.placement_checks.proofs.Walked.{get-index}
 use Rattle.ssu_liveness.proofs.Scoped.{all-in}
 use Rattle.par_move.specs.Moves.{Words, one_by_one}
 use Rattle.ucode_emit.specs.Pieces.{Plain, Branch, moved, operands, operand_at, source, single_moves, last_moves, step_items, fork_items, tree_items, entry_point, sequence_at, parallel_moves}
@@ -104,7 +104,7 @@ at_second g k at of above c x y t u h =
 second_place : (g : Setting) (k at : ℕ) (of : Names) (above : List ℕ) (c : Cmp) (x y : ℕ) (t u : Tree) → AtTree g k at of above (If c x y t u) → slice_index_or (places_in g) (suc k + nodes t) 0 ≡ second_at g k at c t
 second_place g k at of above c x y t u h =
     let arm = at_second g k at of above c x y t u h in
-    get-index (places_in g) (suc k + nodes t) (second_at g k at c t) 0 (root_begins g.labels g.plan g.mss (places_in g) (second_at g k at c t) (suc k + nodes t) (suc k + nodes t) u arm.tree.begins)
+    get_or_from_slice_get (places_in g) (suc k + nodes t) (second_at g k at c t) 0 (root_begins g.labels g.plan g.mss (places_in g) (second_at g k at c t) (suc k + nodes t) (suc k + nodes t) u arm.tree.begins)
 
 -- neither of a fork's two steps leads to where a label begins
 fork_off : (g : Setting) (base at to goal : ℕ) (c : Cmp) (x y : Place) (e : Words) (w : World) (m : Moment)

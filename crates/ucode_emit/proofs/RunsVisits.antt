@@ -1,6 +1,7 @@
 -- The engine stands where a label begins as often as the form's run has entered the label.
 use Rattle.std.proofs.Common.{◌≡◌, ◌≢◌, ℕ, zero, suc, ◌+◌, ◌-◌, ◌<◌, ◌≤◌, List, length, refl, sym, ap, subst, ◌∙◌, ⊎_elim, arith, slice_get, slice_index_or}
 use Rattle.std.proofs.lemmas.Bool.{cases_lt}
+use Rattle.std.proofs.lemmas.Option.{get_or_from_slice_get}
 use Rattle.std.specs.Prelude.{slice_index}
 use Rattle.nv_base.specs.Memories.{Memories}
 use Rattle.nv_base.specs.World.{World, begun}
@@ -20,7 +21,6 @@ use Rattle.ucode_emit.proofs.LabelPlaces.{start_at, code_starts}
 use Rattle.ucode_emit.proofs.Layer.{ready_layer}
 use Rattle.ucode_emit.proofs.MachineLayers.{machine}
 use Rattle.ucode_emit.proofs.MachineOperations.{got_index}
-use Rattle.placement_checks.proofs.Walked.{get-index}
 use Rattle.ucode_emit.proofs.Placing.{code_of}
 use Rattle.ucode_emit.proofs.RunsResults.{Setting, code_in, places_in, starts_in, Jumps, Leaves}
 use Rattle.ucode_emit.proofs.RunsWhole.{jumped_runs, start_runs, starts_first, label_first}
@@ -111,7 +111,7 @@ start_visited : (g : Setting) (args : List ℕ) (p : Memories) (base m n : ℕ) 
 start_visited g args p base m n h k lt =
     let label = label_first g in
     let place = slice_index_or (places_in g) (entry_point g.labels 0) 0 in
-    let none : place ≡ 0 = get-index (places_in g) (entry_point g.labels 0) 0 0 (starts_first g.labels g.plan g.mss g.labels label.it label.there) in
+    let none : place ≡ 0 = get_or_from_slice_get (places_in g) (entry_point g.labels 0) 0 0 (starts_first g.labels g.plan g.mss g.labels label.it label.there) in
     let there = got_index (starts_in g) 0 place (start_at g.labels g.plan g.mss 0 label.it label.there) in
     h k lt ∙ ap (λ c. c + entered_behind g.labels n (label_exit (slice_get g.labels 0) args (begun p)) k) (start_is g 0 k 0 there.0 lt (sym (there.1 ∙ none)))
 

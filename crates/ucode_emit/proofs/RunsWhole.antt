@@ -2,7 +2,7 @@
 use Rattle.std.proofs.Common.{◌≡◌, ℕ, zero, suc, ◌+◌, ◌<◌, ◌≤◌, ◌⊎◌, ⊎_elim, List, [], ◌∷◌, ◌++◌, map, length, Option, Some, None, All, true, ◌&&◌, refl, sym, ap, ◌∙◌, subst, inl, inr, arith, slice_get, slice_index_or}
 use Rattle.std.specs.List.{list_all}
 use Rattle.std.proofs.lemmas.Bool.{and_parts, false≢true}
-use Rattle.std.proofs.lemmas.Option.{none-some, same_Some}
+use Rattle.std.proofs.lemmas.Option.{none-some, same_Some, get_or_from_slice_get}
 use Rattle.std.proofs.lemmas.List.{length-append}
 use Rattle.std.proofs.lemmas.List.Elements.{All-append}
 use Rattle.nv_base.specs.declared.outcome.Outcome.TheVariants as outcome
@@ -34,7 +34,6 @@ use Rattle.ssu_ir.proofs.Exits.{enter_by_exit, meaning_by_exit}
 use Rattle.ssu_ir.proofs.Growth.{meaning-follows}
 use Rattle.ssu_ir.proofs.Rules.{single_label_parts}
 use Rattle.placement.specs.Plan.{Plan}
-use Rattle.placement_checks.proofs.Walked.{get-index}
 use Rattle.par_move.specs.Moves.{Move, Words, one_by_one, StandFor, none, once, around, at_rest}
 use Rattle.ucode_emit.specs.Pieces.{Sequences, moved, instr_of, items, starts, starts_from, single_moves, all_copies, entry_point, entry_moves, sequence_at, tree_items, label_items, tree_moves, label_moves, moves_from, parallel_moves}
 use Rattle.ucode_emit.specs.Emits.{IsSequence, AreSequences}
@@ -95,7 +94,7 @@ front_of g k to ms = single_moves None ms ++ all_copies g.plan k to.params
 label_clear : (g : Setting) (l : ℕ) (to : Label) → slice_get g.labels l ≡ Some to → (emit_context : AtLabel g (entry_point g.labels l) to)
     → Clear g emit_context.at (emit_context.at + length (label_items g.labels g.plan g.mss (entry_point g.labels l) to))
 label_clear g l to found emit_context x lt le k within same =
-    let begins : slice_get (starts_in g) l ≡ Some emit_context.at = start_at g.labels g.plan g.mss l to found ∙ ap (λ n. Some n) (get-index (places_in g) (entry_point g.labels l) emit_context.at 0 emit_context.begins) in
+    let begins : slice_get (starts_in g) l ≡ Some emit_context.at = start_at g.labels g.plan g.mss l to found ∙ ap (λ n. Some n) (get_or_from_slice_get (places_in g) (entry_point g.labels l) emit_context.at 0 emit_context.begins) in
     ⊎_elim
     (λ low. absurd (omega (arith, low, lt, same)))
     (λ high. absurd (omega (arith, high, le, same)))
@@ -160,7 +159,7 @@ label_runs g base l to ws e w m found fit sizes entered s =
     body_runs g base (suc l) to ws e w m found fit sizes emit_context
     (subst (λ z. AreDirect g.plan.slots (front_of g k to z)) still r.0)
     (subst (λ z. Ready g.labels g.plan (suc k) (root_point own to.params to.body) env (one_by_one (front_of g k to z) e)) still r.1)
-    (subst (λ j. Stands base j e w m) (get-index (places_in g) k emit_context.at 0 emit_context.begins) s)
+    (subst (λ j. Stands base j e w m) (get_or_from_slice_get (places_in g) k emit_context.at 0 emit_context.begins) s)
 
 -- after a jump
 pub jumped_runs : (g : Setting) (base : ℕ) (a : Moment) (l : ℕ) (ws : List ℕ) (w : World) → (r : Jumps g base a l ws w) → Leaves g base r.later (label_exit (slice_get g.labels (suc l)) ws w)

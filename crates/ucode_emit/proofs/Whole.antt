@@ -12,7 +12,7 @@ use Rattle.ssu_ir.specs.Entered.{entered}
 use Rattle.ssu_ir.specs.Measures.{size, code_bound}
 use Rattle.ssu_ir.specs.Meaning.{ssu_meaning, ssu_params}
 use Rattle.ssu_ir.specs.Single.{single}
-use Rattle.label_weights.specs.Weighted.{weighted_cost}
+use Rattle.placement.specs.Weighted.{weighted_cost}
 use Rattle.placement.specs.Costs.{cost}
 use Rattle.placement.specs.Fits.{Fits}
 use Rattle.placement.specs.Plan.{Plan}

@@ -10,7 +10,7 @@ ghost use Rattle.ssu_ir.specs.Measures as measures;
 ghost use Rattle.ssu_ir.specs.Meaning.{ssu_meaning, ssu_params};
 ghost use Rattle.ssu_ir.specs.Single.{single};
 ghost use Rattle.ssu_ir.specs.View.{labels_view};
-ghost use Rattle.label_weights.specs.Weighted.{weighted_cost};
+ghost use Rattle.placement.specs.Weighted.{weighted_cost};
 ghost use Rattle.placement.specs.Costs.{cost};
 ghost use Rattle.placement.specs.Fits.{Fits};
 ghost use Rattle.placement.specs.Plan.{plan_view};

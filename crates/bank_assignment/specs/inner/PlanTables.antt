@@ -9,8 +9,8 @@ use Rattle.placement.specs.Uses as pure
 use Rattle.placement.specs.Uses.{uses_of}
 use Rattle.placement.specs.Fits.{is_read_register, is_write_register}
 use Rattle.bank_form.specs.declared.column.Column.TheVariants.{Def, Dir, Fill, Stay, Ear, First, Srv, PasL, PasS}
-use Rattle.bank_form.specs.declared.form.Use.{Use}
-use Rattle.bank_form.specs.inner.Form.{role_view}
+use Rattle.placement.specs.declared.uses.Use.{Use}
+use Rattle.placement.specs.inner.UseViews.{role_view}
 use Rattle.bank_form.specs.Program.{same_bank}
 use Rattle.bank_prog.specs.Meaning.{Chosen}
 use Rattle.bank_prog.specs.inner.Located.{known_point}

@@ -7,6 +7,7 @@ use Rattle.std.specs.declared.alloc.Global.{Global}
 use Rattle.ssu_ir.specs.Tree.{Label, Node}
 use Rattle.ssu_ir.specs.Points.{Names, PointKind, Entry, At, Point, points}
 use Rattle.placement.specs.inner.Parts.{place_names}
+use Rattle.placement.specs.inner.UseViews.{use_view}
 use Rattle.placement.specs.Uses as pure
 use Rattle.placement.specs.Uses.{values, uses, accesses, uses_of, is_used, place_values, place_roles, reads_at, writes_at}
 use Rattle.bank_form.specs.Columns.{Priced, each_point, origin_of, point_uses, place_words, dir_columns, stay_columns, ear_columns, for_eight, may_begin, has_bank, eight}
@@ -16,10 +17,9 @@ use Rattle.bank_form.specs.declared.column.Service.{Service}
 use Rattle.nv_base.specs.declared.term.Mem.{Mem}
 use Rattle.bank_form.specs.declared.form.Origin.{Origin}
 use Rattle.bank_form.specs.declared.form.Origin.TheVariants.{Parameter, Result, Fetched}
-use Rattle.bank_form.specs.declared.form.Role.{Role}
-use Rattle.bank_form.specs.declared.form.Role.TheVariants.{Operand, Address, Written, Argument, Ending}
+use Rattle.placement.specs.declared.uses.Role.{Role}
 use Rattle.bank_form.specs.declared.form.Value.{Value}
-use Rattle.bank_form.specs.declared.form.Use.{Use}
+use Rattle.placement.specs.declared.uses.Use.{Use}
 use Rattle.bank_form.specs.declared.form.Access.{Access}
 use Rattle.bank_form.specs.declared.form.PointSummary.{PointSummary}
 use Rattle.bank_form.specs.declared.form.Tables.{Tables}
@@ -29,18 +29,8 @@ origin_view (Parameter l i) = pure.Parameter l i
 origin_view Result = pure.Result
 origin_view (Fetched m i) = pure.Fetched m i
 
-abbrev pub role_view : Role → pure.Role
-role_view Operand = pure.Operand
-role_view Address = pure.Address
-role_view (Written m i) = pure.Written m i
-role_view (Argument l i) = pure.Argument l i
-role_view (Ending i) = pure.Ending i
-
 abbrev pub value_view : Value → pure.Value
 value_view v = record { point = v.point; var = v.var; origin = origin_view v.origin }
-
-abbrev pub use_view : Use → pure.Use
-use_view u = record { point = u.point; operand = u.operand; value = u.value; role = role_view u.role }
 
 abbrev pub access_view : Access → pure.Access
 access_view a = record { point = a.point; mem = a.mem; words = a.words }

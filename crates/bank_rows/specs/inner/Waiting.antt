@@ -8,10 +8,11 @@ use Rattle.ssu_ir.specs.Points.{PointKind, Entry, At, Point, points}
 use Rattle.placement.specs.Uses as pure
 use Rattle.bank_form.specs.declared.column.Column.{Column}
 use Rattle.bank_form.specs.declared.column.Column.TheVariants.{PasS}
-use Rattle.bank_form.specs.declared.form.Use.{Use}
+use Rattle.placement.specs.declared.uses.Use.{Use}
+use Rattle.placement.specs.inner.UseViews.{use_view}
 use Rattle.bank_form.specs.Columns.{eight}
 use Rattle.bank_form.specs.Rows.{Line, at_most, role_early, early_at, side_covering, waiting, is_written}
-use Rattle.bank_form.specs.inner.Form.{Part, use_view}
+use Rattle.bank_form.specs.inner.Form.{Part}
 
 -- the written words that wait at each point
 abbrev pub waiting_from : List Label → ℕ → List Point → List (List pure.Use)

@@ -15,8 +15,10 @@ use Rattle.flow_ir.specs.declared.spine.Step.TheVariants as step
 use Rattle.flow_ir.specs.Spine.{put}
 use Rattle.flow_ir.specs.View.{tree_view}
 use Rattle.cps_rules.specs.Rules.{Answers, IsAnswered}
-use Rattle.cps_rules.specs.Substitution.{Names, renamed, all_renamed, prim_renamed, IsNamed}
-use Rattle.cps_rules.specs.Simplified.{is_same, EachLet, uses}
+use Rattle.flow_ir.specs.Substitution.{Names, renamed, all_renamed, prim_renamed, IsNamed}
+use Rattle.flow_ir.specs.Wide.{uses}
+use Rattle.flow_ir.specs.inner.Scoped.{Fits}
+use Rattle.cps_rules.specs.Simplified.{is_same, EachLet}
 use Rattle.cps_rules.specs.inner.Marks.{Set, Adds}
 
 -- ---- what is answered
@@ -88,19 +90,6 @@ AreFirsts S (s ∷ ss) = Covers S (first_uses s) × AreFirsts S ss
 
 -- ---- what the way rests on
 
--- nothing is in both
-abbrev pub Apart : List ℕ → List ℕ → Type 0
-Apart xs ys = (y : ℕ) → is_in y xs ≡ true → is_in y ys ≡ false
-
--- a tree uses what is known to it, defines what isn't, and the parts of an `If` define different variables
-abbrev pub Fits : List ℕ → Tree → Type 0
-Fits known (Let x p t) = Within (prim_vars p) known × HasPrimCount p × (is_in x known ≡ false) × Fits (x ∷ known) t
-Fits known (Read m xs a t) = Within (atom_vars a) known × Apart xs known × Fits (xs ++ known) t
-Fits known (Write m a bs t) = Within (all_vars (a ∷ bs)) known × Fits known t
-Fits known (If c a b t u) = Within (all_vars (a ∷ b ∷ [])) known × Fits known t × Fits known u × Apart (defined t) (defined u)
-Fits known (Jump l bs) = Within (all_vars bs) known
-Fits known (Halt e bs) = Within (all_vars bs) known
-
 -- a tree may be simplified with these names and these marks
 pub record IsScoped (σ : Names) (S : Set) (t : Tree) : Type 0 where
   pub known : List ℕ
@@ -120,10 +109,6 @@ pub record IsDone (A : Answers) (t : Tree) (σ τ : Names) (S T : Set) (u : Tree
   pub used : AreUsed u
 
 -- ---- labels
-
--- a label has all that it uses as parameters or defines it
-abbrev pub IsScopedLabel : Label → Type 0
-IsScopedLabel l = Fits l.params l.body
 
 pub record IsLabelDone (A : Answers) (l m : Label) : Type 0 where
   pub params : m.params ≡ l.params

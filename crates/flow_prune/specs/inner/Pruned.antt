@@ -4,7 +4,7 @@ use Rattle.std.specs.declared.vec.Vec.{Vec}
 use Rattle.std.specs.declared.alloc.Global.{Global}
 use Rattle.nv_base.specs.Sets.{is_in, without}
 use Rattle.flow_ir.specs.Tree.{Tree, Let, Read, Write, If, Jump, Halt, Label}
-use Rattle.cps_rules.specs.Simplified.{uses}
+use Rattle.flow_ir.specs.Wide.{uses}
 
 -- the parameters that go, of each label
 abbrev pub row_of : Option (Vec ℕ Global) → List ℕ

@@ -3,7 +3,8 @@ use Rattle.std.specs.Prelude.{◌≡◌, ℕ, true, false}
 use Rattle.nv_base.specs.declared.term.Primitive.{Primitive}
 use Rattle.nv_base.specs.Sets.{is_in}
 use Rattle.flow_ir.specs.Tree.{Tree, Label}
-use Rattle.cps_rules.specs.Simplified.{EachLet, is_same, uses}
+use Rattle.flow_ir.specs.Wide.{uses}
+use Rattle.cps_rules.specs.Simplified.{EachLet, is_same}
 use Rattle.nova_middle.specs.Rules.{is_answered}
 
 -- no rule answers the primitive of a `Let`, it isn't just another operand, and the variable is used

@@ -13,13 +13,12 @@ use Rattle.placement.specs.declared.place.Pass.{Pass}
 use Rattle.placement.specs.declared.place.Serve.{Serve}
 use Rattle.placement_checks.specs.declared.registers.Word.{Word}
 use Rattle.placement_checks.specs.declared.registers.Word.TheVariants as kept
-use Rattle.placement_checks.specs.declared.words.Use.{Use as KeptUse}
 use Rattle.placement.specs.Places.{same_place}
 use Rattle.placement.specs.Plan.{Plan, home, first, serve, pass}
 use Rattle.placement.specs.Uses.{ValueOrigin, Parameter, Result, Fetched, Value, Role, Operand, Address, Written, Argument, Ending, Use}
 use Rattle.placement.specs.Uses as all_uses
 use Rattle.placement.specs.Fits.{read_place, has_place, is_general, is_slot, is_read_register, same_bank, different_groups, maybe, served, word_register, is_early, is_home, parameter}
-use Rattle.placement_checks.specs.inner.NodeLookups.{role_view, point_at, place_at, below_at, place_node, found_use}
+use Rattle.placement_checks.specs.inner.NodeLookups.{point_at, place_at, below_at, place_node, found_use}
 
 -- ---- quantifiers over numbers
 
@@ -97,9 +96,6 @@ is_first Sdram n f = nat_le (f + n) 8 && ((f % 2) == 0)
 is_first Scratch n f = nat_le (f + n) 8
 
 -- ---- uses
-
-abbrev pub use_view : KeptUse → Use
-use_view u = record { point = u.point; operand = u.operand; value = u.value; role = role_view u.role }
 
 -- the uses that the serves are for
 abbrev pub found : List Label → Plan → List Use

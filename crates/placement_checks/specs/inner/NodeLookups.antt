@@ -1,5 +1,5 @@
 -- Points by their numbers, and of each serve the use that it is for, as the test of a placement finds them.
-use Rattle.std.specs.Prelude.{◌≡◌, ℕ, zero, suc, ◌<◌, Bool, ◌||◌, List, [], ◌∷◌, Option, Some, None, map, length, slice_index_or, slice_get}
+use Rattle.std.specs.Prelude.{◌≡◌, ℕ, zero, suc, ◌<◌, Bool, ◌||◌, List, [], Option, Some, None, map, length, slice_index_or, slice_get}
 use Rattle.nv_base.specs.declared.term.Mem.{Mem}
 use Rattle.nv_base.specs.Sets.{is_in}
 use Rattle.ssu_ir.specs.declared.node.SsuLabel.{SsuLabel}
@@ -10,10 +10,6 @@ use Rattle.ssu_ir.specs.Points.{Names, PointKind, Entry, At, Point, tree_points,
 use Rattle.ssu_ir.specs.Slots.{Slots, slot, node_of}
 use Rattle.ssu_ir.specs.View.{labels_view}
 use Rattle.ssu_ir.specs.inner.Under.{HasTree, tree_at}
-use Rattle.placement_checks.specs.declared.pieces.Followers.{Followers}
-use Rattle.placement_checks.specs.declared.pieces.Followers.TheVariants.{None as NoneBehind, One, Two}
-use Rattle.placement_checks.specs.declared.pieces.Role.{Role as KeptRole}
-use Rattle.placement_checks.specs.declared.pieces.Role.TheVariants as kept
 use Rattle.placement.specs.declared.place.Serve.{Serve}
 use Rattle.ssu_liveness.specs.declared.point_ids.PointId.{PointId}
 use Rattle.ssu_liveness.specs.declared.point_ids.PointId.TheVariants.{Entry as EntrySpot, Node as NodeSpot}
@@ -21,19 +17,6 @@ use Rattle.placement.specs.Uses.{Role, Operand, Address, Written, Argument, Endi
 use Rattle.ssu_liveness.specs.inner.Live.{value_by, source_among}
 
 -- ---- nodes
-
--- the numbers of the nodes that follow
-abbrev pub successor_counts : Followers → List ℕ
-successor_counts NoneBehind = []
-successor_counts (One k) = k.0 ∷ []
-successor_counts (Two j k) = j.0 ∷ k.0 ∷ []
-
-abbrev pub role_view : KeptRole → Role
-role_view kept.Operand = Operand
-role_view kept.Address = Address
-role_view (kept.Written m i) = Written m i
-role_view (kept.Argument l i) = Argument l i
-role_view (kept.Ending i) = Ending i
 
 -- the address, then the words
 abbrev pub write_role : Mem → ℕ → Role

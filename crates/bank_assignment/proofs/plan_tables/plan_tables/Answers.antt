@@ -1,7 +1,8 @@
 use Rattle.std.proofs.Common.{◌∙◌, map, ap, refl}
 use Rattle.ssu_ir.specs.View.{labels_view}
 use Rattle.placement.specs.Uses.{values}
-use Rattle.bank_form.specs.inner.Form.{AreTables, use_view, value_view}
+use Rattle.placement.specs.inner.UseViews.{use_view}
+use Rattle.bank_form.specs.inner.Form.{AreTables, value_view}
 use Rattle.bank_prog.specs.Weighted.{point_in}
 use Rattle.bank_assignment.specs.inner.Chosen.{use_in}
 use Rattle.bank_assignment.proofs.TableSteps.{point-in-value}

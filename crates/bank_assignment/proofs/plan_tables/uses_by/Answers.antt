@@ -1,8 +1,8 @@
 use Rattle.std.proofs.Common.{◌≡◌, ◌+◌, ◌-◌, ◌<◌, ◌&&◌, nat_eq, length, map, refl, arith}
 use Rattle.std.specs.HashMap.{get}
 use Rattle.placement.specs.Uses as pure
-use Rattle.bank_form.specs.declared.form.Use.{Use}
-use Rattle.bank_form.specs.inner.Form.{use_view, role_view}
+use Rattle.placement.specs.declared.uses.Use.{Use}
+use Rattle.placement.specs.inner.UseViews.{role_view, use_view}
 use Rattle.bank_assignment.specs.inner.Chosen.{use_in}
 use Rattle.bank_assignment.specs.inner.PlanTables.{pair_eq, known_value, known_role}
 use Rattle.bank_assignment.proofs.TableSteps.{found-more, if-field}

@@ -1,9 +1,9 @@
 use Rattle.std.proofs.Common.{◌≡◌, ◌≤◌, ℕ, length, map, drop}
 use Rattle.std.specs.HashMap.{get}
-use Rattle.bank_form.specs.inner.Form.{use_view}
 use Rattle.bank_assignment.specs.inner.Chosen.{use_in}
 use Rattle.bank_assignment.specs.inner.PlanTables.{pair_eq, known_value, known_role}
 use Rattle.bank_assignment.proofs.plan_tables.uses_by.Given as goal
+use Rattle.placement.specs.inner.UseViews.{use_view}
 
 abbrev pub invariant-loop-n : goal.invariant-loop-n
 invariant-loop-n l = record {

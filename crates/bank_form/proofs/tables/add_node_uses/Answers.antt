@@ -3,9 +3,9 @@ use Rattle.std.specs.HashMap.{get}
 use Rattle.ssu_ir.specs.Slots.{node_of}
 use Rattle.ssu_ir.specs.Tree.{node_uses}
 use Rattle.placement.specs.Uses as pure
+use Rattle.placement.specs.inner.UseViews.{use_view}
 use Rattle.ssu_liveness.specs.inner.Live.{value_by}
 use Rattle.bank_form.specs.inner.Form as form
-use Rattle.bank_form.specs.inner.Form.{use_view}
 use Rattle.bank_form.proofs.Tabled.{uses-run}
 use Rattle.bank_form.proofs.tables.add_node_uses.Goals as goal
 

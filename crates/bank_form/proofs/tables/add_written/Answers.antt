@@ -1,9 +1,9 @@
 use Rattle.std.proofs.Common.{◌∙◌, ◌++◌, ◌+◌, ℕ, map, ap, nat_eq, get_or, arith}
 use Rattle.std.specs.HashMap.{get}
 use Rattle.placement.specs.Uses as pure
+use Rattle.placement.specs.inner.UseViews.{use_view}
 use Rattle.ssu_liveness.specs.inner.Live.{value_by}
 use Rattle.bank_form.specs.inner.Form as form
-use Rattle.bank_form.specs.inner.Form.{use_view}
 use Rattle.bank_form.proofs.Tabled.{uses-more, uses-all}
 use Rattle.bank_form.proofs.tables.add_written.Goals as goal
 

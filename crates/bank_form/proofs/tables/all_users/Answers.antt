@@ -2,9 +2,10 @@ use Rattle.std.proofs.Common.{◌≡◌, ◌++◌, map, ap, nat_eq, arith}
 use Rattle.std.proofs.Common.{None, rules}
 use Rattle.std.specs.HashMap.{get}
 use Rattle.std.specs.List.{flat_map}
-use Rattle.bank_form.specs.inner.Form.{use_view, known_uses, used_by}
+use Rattle.bank_form.specs.inner.Form.{known_uses, used_by}
 use Rattle.bank_form.proofs.Loops.{out-more, out-all}
 use Rattle.bank_form.proofs.tables.all_users.Goals as goal
+use Rattle.placement.specs.inner.UseViews.{use_view}
 
 pub loop-u-init : goal.loop-u-init
 loop-u-init c = λ x.

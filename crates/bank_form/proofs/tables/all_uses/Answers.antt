@@ -1,8 +1,9 @@
 use Rattle.std.proofs.Common.{◌∙◌, ◌++◌, map, ap, arith}
 use Rattle.std.specs.List.{flat_map}
-use Rattle.bank_form.specs.inner.Form.{use_view, part_uses, summary_view}
+use Rattle.bank_form.specs.inner.Form.{part_uses, summary_view}
 use Rattle.bank_form.proofs.Loops.{out-more, out-all}
 use Rattle.bank_form.proofs.tables.all_uses.Goals as goal
+use Rattle.placement.specs.inner.UseViews.{use_view}
 
 pub loop-summary-preserved : goal.loop-summary-preserved
 loop-summary-preserved c =

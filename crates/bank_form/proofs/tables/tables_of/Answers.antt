@@ -6,10 +6,11 @@ use Rattle.ssu_ir.specs.View.{labels_view}
 use Rattle.placement.specs.Uses as pure
 use Rattle.ssu_liveness.specs.inner.Live.{value_by}
 use Rattle.placement.specs.inner.Parts.{gather}
+use Rattle.placement.specs.inner.UseViews.{use_view}
 use Rattle.placement.proofs.Named.{points-named}
 use Rattle.bank_form.specs.Columns.{origin_in}
 use Rattle.bank_form.specs.inner.Form as form
-use Rattle.bank_form.specs.inner.Form.{summary_view, value_view, use_view, access_view, part_values, part_uses, part_accesses, parts_at, used_by}
+use Rattle.bank_form.specs.inner.Form.{summary_view, value_view, access_view, part_values, part_uses, part_accesses, parts_at, used_by}
 use Rattle.bank_form.proofs.Tabled.{parts-gathered, values-parts, uses-parts, accesses-parts, users-found}
 use Rattle.bank_form.proofs.tables.tables_of.Goals as goal
 

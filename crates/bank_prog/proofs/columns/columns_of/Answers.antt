@@ -3,6 +3,7 @@ use Rattle.std.specs.List.{flat_map}
 use Rattle.ssu_ir.specs.Points.{points}
 use Rattle.ssu_ir.specs.View.{labels_view}
 use Rattle.placement.specs.Uses as pure
+use Rattle.placement.specs.inner.UseViews.{use_view}
 use Rattle.bank_form.specs.Columns as columns
 use Rattle.bank_form.specs.inner.Form as form
 use Rattle.bank_form.proofs.Loops.{spend, spend-last, each-parts}
@@ -25,7 +26,7 @@ returns c =
     let x6 : List columns.Priced = flat_map columns.first_columns (pure.accesses labels) in
     let e6 : flat_map (columns.first_columns) (map form.access_view c.deref-6.result.now) ≡ x6 = ap (λ xs. flat_map (columns.first_columns) (map form.access_view xs)) c.deref-6.ensures.value ∙ ap (flat_map (columns.first_columns)) right.accesses in
     let x7 : List columns.Priced = flat_map (columns.srv_columns labels) (pure.uses labels) in
-    let e7 : flat_map (columns.srv_columns labels) (map form.use_view c.deref-7.result.now) ≡ x7 = ap (λ xs. flat_map (columns.srv_columns labels) (map form.use_view xs)) c.deref-7.ensures.value ∙ ap (flat_map (columns.srv_columns labels)) right.uses in
+    let e7 : flat_map (columns.srv_columns labels) (map use_view c.deref-7.result.now) ≡ x7 = ap (λ xs. flat_map (columns.srv_columns labels) (map use_view xs)) c.deref-7.ensures.value ∙ ap (flat_map (columns.srv_columns labels)) right.uses in
     let x8 : List columns.Priced = columns.all_pas_l labels in
     let e8 : flat_map (form.part_pas_l) (map form.summary_view c.deref-8.result.now) ≡ x8 = ap (λ xs. flat_map (form.part_pas_l) (map form.summary_view xs)) c.deref-8.ensures.value ∙ ap (flat_map (form.part_pas_l)) right.summaries ∙ each-parts (form.part_pas_l) (columns.pas_l_columns) (λ k q. refl) 0 (points labels) in
     let x9 : List columns.Priced = columns.all_pas_s labels in

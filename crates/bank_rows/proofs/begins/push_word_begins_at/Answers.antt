@@ -6,16 +6,17 @@ use Rattle.bank_form.specs.Program.{same_column, row_of}
 use Rattle.bank_form.specs.inner.Form as form
 use Rattle.bank_form.proofs.Loops.{adds-plain-more, adds-plain-all}
 use Rattle.bank_rows.proofs.begins.push_word_begins_at.Goals as goal
+use Rattle.placement.specs.inner.UseViews.{use_view}
 
 pub loop-f-preserved : goal.loop-f-preserved
 loop-f-preserved c =
     let number = get same_column c.args.numbers.now in
-    adds-plain-more number (form.word_begin (form.use_view c.args.u)) c.args.firsts.now c.loop-f.f-index _ c.loop-f.rows.items c.push_word_begin.new.rows.items
-    (map row_contents c.args.rows.now.items ++ map (row_of number) (flat_map (form.word_begin (form.use_view c.args.u)) c.args.firsts.now))
+    adds-plain-more number (form.word_begin (use_view c.args.u)) c.args.firsts.now c.loop-f.f-index _ c.loop-f.rows.items c.push_word_begin.new.rows.items
+    (map row_contents c.args.rows.now.items ++ map (row_of number) (flat_map (form.word_begin (use_view c.args.u)) c.args.firsts.now))
     (omega arith) c.in_ok-push_word_begin.ensures c.loop-f.invariant
 
 pub returns : goal.returns
 returns c =
     let number = get same_column c.args.numbers.now in
-    adds-plain-all number (form.word_begin (form.use_view c.args.u)) c.args.firsts.now c.loop-f.f-index c.loop-f.rows.items
-    (map row_contents c.args.rows.now.items ++ map (row_of number) (flat_map (form.word_begin (form.use_view c.args.u)) c.args.firsts.now)) (omega arith) c.loop-f.invariant
+    adds-plain-all number (form.word_begin (use_view c.args.u)) c.args.firsts.now c.loop-f.f-index c.loop-f.rows.items
+    (map row_contents c.args.rows.now.items ++ map (row_of number) (flat_map (form.word_begin (use_view c.args.u)) c.args.firsts.now)) (omega arith) c.loop-f.invariant

@@ -5,8 +5,9 @@ use Rattle.zo_model.specs.Contents.{row_contents}
 use Rattle.bank_form.specs.Program.{same_column, row_of}
 use Rattle.bank_form.specs.inner.Form as form
 use Rattle.bank_rows.proofs.begins.push_word_begins_at.Given as goal
+use Rattle.placement.specs.inner.UseViews.{use_view}
 
 abbrev pub invariant-loop-f : goal.invariant-loop-f
 invariant-loop-f l =
-    map row_contents l.rows.items ++ map (row_of (get same_column l.numbers)) (flat_map (form.word_begin (form.use_view l.u)) (drop l.f-index l.firsts))
-    ≡ map row_contents l.fn.rows.items ++ map (row_of (get same_column l.numbers)) (flat_map (form.word_begin (form.use_view l.u)) l.firsts)
+    map row_contents l.rows.items ++ map (row_of (get same_column l.numbers)) (flat_map (form.word_begin (use_view l.u)) (drop l.f-index l.firsts))
+    ≡ map row_contents l.fn.rows.items ++ map (row_of (get same_column l.numbers)) (flat_map (form.word_begin (use_view l.u)) l.firsts)

@@ -1,9 +1,9 @@
 use Rattle.std.proofs.Common.{◌++◌, map, arith}
 use Rattle.std.specs.List.{flat_map}
 use Rattle.bank_form.specs.Rows as lines
-use Rattle.bank_form.specs.inner.Form.{use_view}
 use Rattle.bank_form.proofs.Loops.{out-more, out-all}
 use Rattle.bank_rows.proofs.choice.add_dirs.Goals as goal
+use Rattle.placement.specs.inner.UseViews.{use_view}
 
 pub loop-u-preserved : goal.loop-u-preserved
 loop-u-preserved c =

@@ -4,9 +4,9 @@ use Rattle.std.specs.List.{flat_map}
 use Rattle.zo_model.specs.Contents.{row_contents}
 use Rattle.bank_form.specs.Program.{same_column, row_of}
 use Rattle.bank_form.specs.Rows as lines
-use Rattle.bank_form.specs.inner.Form.{use_view}
 use Rattle.ssu_ir.specs.View.{labels_view}
 use Rattle.bank_rows.proofs.cover.push_argument_covers.Given as goal
+use Rattle.placement.specs.inner.UseViews.{use_view}
 
 abbrev pub invariant-loop-u : goal.invariant-loop-u
 invariant-loop-u l =

@@ -5,8 +5,9 @@ use Rattle.zo_model.specs.Contents.{row_contents}
 use Rattle.bank_form.specs.Program.{same_column, row_of}
 use Rattle.bank_form.specs.inner.Form as form
 use Rattle.bank_rows.proofs.passes.push_service_reads.Given as goal
+use Rattle.placement.specs.inner.UseViews.{use_view}
 
 abbrev pub invariant-loop-s : goal.invariant-loop-s
 invariant-loop-s l =
-    map row_contents l.rows.items ++ map (row_of (get same_column l.numbers)) (flat_map (form.service_read (form.use_view l.u)) (drop l.s-index l.services))
-    ≡ map row_contents l.fn.rows.items ++ map (row_of (get same_column l.numbers)) (flat_map (form.service_read (form.use_view l.u)) l.services)
+    map row_contents l.rows.items ++ map (row_of (get same_column l.numbers)) (flat_map (form.service_read (use_view l.u)) (drop l.s-index l.services))
+    ≡ map row_contents l.fn.rows.items ++ map (row_of (get same_column l.numbers)) (flat_map (form.service_read (use_view l.u)) l.services)

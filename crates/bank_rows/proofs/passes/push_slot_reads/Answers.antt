@@ -4,9 +4,9 @@ use Rattle.std.specs.List.{flat_map}
 use Rattle.zo_model.specs.Contents.{row_contents}
 use Rattle.bank_form.specs.Program.{same_column, row_of}
 use Rattle.bank_form.specs.Rows as lines
-use Rattle.bank_form.specs.inner.Form.{use_view}
 use Rattle.bank_form.proofs.Loops.{adds-more, adds-all}
 use Rattle.bank_rows.proofs.passes.push_slot_reads.Goals as goal
+use Rattle.placement.specs.inner.UseViews.{use_view}
 
 pub loop-u-preserved : goal.loop-u-preserved
 loop-u-preserved c =

@@ -4,8 +4,8 @@ use Rattle.std.specs.List.{flat_map}
 use Rattle.zo_model.specs.Contents.{row_contents}
 use Rattle.bank_form.specs.Program.{same_column, row_of}
 use Rattle.bank_form.specs.Rows as lines
-use Rattle.bank_form.specs.inner.Form.{use_view}
 use Rattle.bank_rows.proofs.passes.push_slot_reads.Given as goal
+use Rattle.placement.specs.inner.UseViews.{use_view}
 
 abbrev pub invariant-loop-u : goal.invariant-loop-u
 invariant-loop-u l =

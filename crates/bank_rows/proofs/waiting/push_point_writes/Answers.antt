@@ -4,10 +4,11 @@ use Rattle.std.specs.List.{flat_map}
 use Rattle.ssu_liveness.proofs.RowSteps.{on-ok}
 use Rattle.bank_form.specs.Columns.{eight}
 use Rattle.bank_form.specs.Program.{same_column}
-use Rattle.bank_form.specs.inner.Form.{use_view, access_view}
+use Rattle.bank_form.specs.inner.Form.{access_view}
 use Rattle.bank_rows.specs.inner.Waiting.{write_owner, sdram_write_owner}
 use Rattle.bank_form.proofs.Loops.{adds-both, adds-as}
 use Rattle.bank_rows.proofs.waiting.push_point_writes.Goals as goal
+use Rattle.placement.specs.inner.UseViews.{use_view}
 
 pub returns : goal.returns
 returns c =

@@ -4,8 +4,9 @@ use Rattle.std.specs.List.{flat_map}
 use Rattle.zo_model.specs.Contents.{row_contents}
 use Rattle.bank_form.specs.Program.{same_column, row_of}
 use Rattle.bank_rows.specs.inner.Waiting as waits
-use Rattle.bank_form.specs.inner.Form.{use_view, access_view}
+use Rattle.bank_form.specs.inner.Form.{access_view}
 use Rattle.bank_rows.proofs.waiting.push_sdram_write_owners.Given as goal
+use Rattle.placement.specs.inner.UseViews.{use_view}
 
 abbrev pub invariant-loop-r : goal.invariant-loop-r
 invariant-loop-r l =

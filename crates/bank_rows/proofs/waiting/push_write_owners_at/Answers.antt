@@ -4,9 +4,10 @@ use Rattle.std.specs.List.{flat_map}
 use Rattle.zo_model.specs.Contents.{row_contents}
 use Rattle.bank_form.specs.Program.{same_column, row_of}
 use Rattle.bank_rows.specs.inner.Waiting as waits
-use Rattle.bank_form.specs.inner.Form.{use_view, access_view}
+use Rattle.bank_form.specs.inner.Form.{access_view}
 use Rattle.bank_form.proofs.Loops.{adds-plain-more, adds-plain-all}
 use Rattle.bank_rows.proofs.waiting.push_write_owners_at.Goals as goal
+use Rattle.placement.specs.inner.UseViews.{use_view}
 
 pub loop-r-preserved : goal.loop-r-preserved
 loop-r-preserved c =

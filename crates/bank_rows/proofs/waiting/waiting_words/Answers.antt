@@ -10,8 +10,9 @@ use Rattle.ssu_ir.specs.View.{labels_view}
 use Rattle.placement.specs.Uses as pure
 use Rattle.ssu_liveness.specs.inner.PointIds.{kind_of_point}
 use Rattle.ssu_liveness.proofs.Covering.{once-at-points}
-use Rattle.bank_form.specs.declared.form.Use.{Use}
-use Rattle.bank_form.specs.inner.Form.{use_view, value_view, summary_view}
+use Rattle.placement.specs.declared.uses.Use.{Use}
+use Rattle.placement.specs.inner.UseViews.{use_view}
+use Rattle.bank_form.specs.inner.Form.{value_view, summary_view}
 use Rattle.bank_rows.specs.inner.Waiting.{each_waiting, lists_of, all_waiting, point_in, written_only}
 use Rattle.bank_rows.proofs.Waits.{all-words, each-written, length-parts}
 use Rattle.bank_rows.proofs.waiting.waiting_words.Goals as goal

@@ -1,10 +1,10 @@
 use Rattle.std.proofs.Common.{nat_eq, map, arith}
 use Rattle.std.specs.HashMap.{get}
 use Rattle.std.specs.List.{flat_map}
-use Rattle.bank_form.specs.inner.Form.{use_view}
 use Rattle.bank_rows.specs.inner.Waiting.{kept_waiting}
 use Rattle.bank_form.proofs.Loops.{out-more, out-all}
 use Rattle.bank_rows.proofs.waiting.words_of_point.Goals as goal
+use Rattle.placement.specs.inner.UseViews.{use_view}
 
 pub loop-u-preserved : goal.loop-u-preserved
 loop-u-preserved c =

@@ -1,9 +1,9 @@
 use Rattle.std.proofs.Common.{◌≡◌, ◌++◌, nat_eq, map, drop}
 use Rattle.std.specs.HashMap.{get}
 use Rattle.std.specs.List.{flat_map}
-use Rattle.bank_form.specs.inner.Form.{use_view}
 use Rattle.bank_rows.specs.inner.Waiting.{kept_waiting}
 use Rattle.bank_rows.proofs.waiting.words_of_point.Given as goal
+use Rattle.placement.specs.inner.UseViews.{use_view}
 
 abbrev pub invariant-loop-u : goal.invariant-loop-u
 invariant-loop-u l =

@@ -4,8 +4,8 @@ use Rattle.std.specs.HashMap.{get}
 use Rattle.std.specs.List.{flat_map}
 use Rattle.std.specs.declared.vec.Vec.{Vec}
 use Rattle.std.specs.declared.alloc.Global.{Global}
-use Rattle.bank_form.specs.declared.form.Use.{Use}
-use Rattle.bank_form.specs.inner.Form.{use_view}
+use Rattle.placement.specs.declared.uses.Use.{Use}
+use Rattle.placement.specs.inner.UseViews.{use_view}
 use Rattle.bank_rows.specs.inner.Waiting.{each_waiting, lists_of, kept_waiting}
 use Rattle.bank_rows.proofs.Waits.{each-more, each-all}
 use Rattle.bank_rows.proofs.waiting.words_of_points.Goals as goal

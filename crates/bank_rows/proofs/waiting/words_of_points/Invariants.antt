@@ -1,8 +1,8 @@
 use Rattle.std.proofs.Common.{◌≡◌, ◌++◌, nat_eq, map, drop}
 use Rattle.std.specs.HashMap.{get}
-use Rattle.bank_form.specs.inner.Form.{use_view}
 use Rattle.bank_rows.specs.inner.Waiting.{each_waiting, lists_of}
 use Rattle.bank_rows.proofs.waiting.words_of_points.Given as goal
+use Rattle.placement.specs.inner.UseViews.{use_view}
 
 abbrev pub invariant-loop-k : goal.invariant-loop-k
 invariant-loop-k l =

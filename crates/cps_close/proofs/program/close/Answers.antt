@@ -2,8 +2,8 @@ use Rattle.std.proofs.Common.{map, ◌∙◌, arith}
 use Rattle.cps_ir.specs.View.{fun_view}
 use Rattle.nv_base.proofs.Measures.{most-trans}
 use Rattle.flow_ir.specs.View.{label_view}
-use Rattle.cps_close.proofs.Leading.{pruned-led}
-use Rattle.cps_close.proofs.Left.{pruned-at, pruned-formed, pruned-params, pruned-means, pruned-wide, pruned-bulk}
+use Rattle.flow_ir.proofs.Leading.{pruned-led}
+use Rattle.flow_ir.proofs.Left.{pruned-at, pruned-formed, pruned-params, pruned-means, pruned-wide, pruned-bulk}
 use Rattle.cps_close.proofs.Whole.{main-within, main-at, whole-formed, whole-params, whole-equal, whole-narrow, whole-bulk}
 use Rattle.cps_close.proofs.program.close.Goals as goal
 

@@ -1,7 +1,9 @@
 use Rattle.std.proofs.Common.{◌∙◌}
-use Rattle.cps_rules.proofs.Along.{along_let, along_read, along_write, along_if, jump_done, halt_done, if_ok_both, renamed_at, all_at, named_at, adds_at}
+use Rattle.cps_rules.proofs.Along.{along_let, along_read, along_write, along_if, jump_done, halt_done, adds_at}
 use Rattle.cps_rules.proofs.Down.{last_firsts}
 use Rattle.cps_rules.proofs.fold.+simplify_tree.Goals as goal
+use Rattle.flow_ir.proofs.Results.{if_ok_both}
+use Rattle.flow_ir.proofs.Renaming.{renamed_at, all_at, named_at}
 
 pub spine-preserved-in-Let : goal.spine-preserved-in-Let
 spine-preserved-in-Let g t c =

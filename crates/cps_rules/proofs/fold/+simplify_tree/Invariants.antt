@@ -1,5 +1,5 @@
 use Rattle.cps_rules.specs.inner.Marked.{is_marked}
-use Rattle.cps_rules.specs.Substitution.{look}
+use Rattle.flow_ir.specs.Substitution.{look}
 use Rattle.cps_rules.specs.inner.Way.{Counted}
 use Rattle.cps_rules.proofs.Along.{Along}
 use Rattle.cps_rules.proofs.fold.+simplify_tree.Given as goal

@@ -1,7 +1,7 @@
 use Rattle.std.proofs.Common.{◌∙◌}
-use Rattle.cps_rules.proofs.Along.{named_at}
 use Rattle.cps_rules.proofs.Flows.{label_scoped, label_done}
 use Rattle.flow_ir.specs.View.{label_view}
+use Rattle.flow_ir.proofs.Renaming.{named_at}
 use Rattle.cps_rules.proofs.program.simplify_label.Goals as goal
 
 pub simplify_tree-requires-clause-scoped : goal.simplify_tree-requires-clause-scoped

@@ -1,7 +1,7 @@
 use Rattle.std.proofs.Common.{◌+◌, Some, length, refl, sym, ap, ◌∙◌}
 use Rattle.std.specs.List.{range_with_len}
-use Rattle.cps_rules.specs.Substitution.{look}
-use Rattle.cps_rules.proofs.Along.{renamed_at, all_at}
+use Rattle.flow_ir.specs.Substitution.{look}
+use Rattle.flow_ir.proofs.Renaming.{renamed_at, all_at}
 use Rattle.flow_contract.specs.inner.Copied.{numbered, all_named}
 use Rattle.flow_contract.proofs.Walk.{along_let, along_read, along_write, along_if, along_negated, along_first, along_second, along_inside, room_inside, jump_copied, halt_copied, prim_at}
 use Rattle.flow_contract.proofs.copying.+copied.Goals as goal

@@ -1,4 +1,4 @@
-use Rattle.cps_rules.specs.Substitution.{look}
+use Rattle.flow_ir.specs.Substitution.{look}
 use Rattle.flow_contract.specs.inner.Numbered.{numbering}
 use Rattle.flow_contract.proofs.Walk.{Along, room}
 use Rattle.flow_contract.proofs.copying.+copied.Given as goal

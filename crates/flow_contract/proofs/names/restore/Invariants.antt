@@ -1,5 +1,5 @@
 use Rattle.std.proofs.Common.{◌≡◌, vec_len}
-use Rattle.cps_rules.specs.Substitution.{look}
+use Rattle.flow_ir.specs.Substitution.{look}
 use Rattle.flow_contract.specs.inner.Copied.{undone}
 use Rattle.flow_contract.proofs.names.restore.Given as goal
 

@@ -1,6 +1,6 @@
 use Rattle.std.proofs.Common.{ap, ◌∙◌}
 use Rattle.std.proofs.lemmas.Result.{on_ok_weaker}
-use Rattle.cps_rules.specs.Substitution.{look}
+use Rattle.flow_ir.specs.Substitution.{look}
 use Rattle.flow_contract.proofs.Naming.{saved_one}
 use Rattle.flow_contract.proofs.names.set.Goals as goal
 

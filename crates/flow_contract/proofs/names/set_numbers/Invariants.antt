@@ -1,5 +1,5 @@
 use Rattle.std.proofs.Common.{take}
-use Rattle.cps_rules.specs.Substitution.{look}
+use Rattle.flow_ir.specs.Substitution.{look}
 use Rattle.flow_contract.proofs.Naming.{Set}
 use Rattle.flow_contract.proofs.names.set_numbers.Given as goal
 

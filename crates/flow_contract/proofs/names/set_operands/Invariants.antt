@@ -1,5 +1,5 @@
 use Rattle.std.proofs.Common.{◌≡◌, take}
-use Rattle.cps_rules.specs.Substitution.{look}
+use Rattle.flow_ir.specs.Substitution.{look}
 use Rattle.flow_contract.specs.inner.Copied.{all_named, undone}
 use Rattle.flow_contract.proofs.names.set_operands.Given as goal
 

@@ -1,7 +1,7 @@
 use Rattle.std.proofs.Common.{le_trans}
-use Rattle.cps_rules.proofs.Along.{if_ok_both}
 use Rattle.flow_contract.proofs.Whole.{then_equal}
 use Rattle.flow_contract.proofs.program.contract_round.Goals as goal
+use Rattle.flow_ir.proofs.Results.{if_ok_both}
 
 pub returns-clause-kept : goal.returns-clause-kept
 returns-clause-kept c = if_ok_both c.drop_unreached.result _ _ _ (λ g params equal. then_equal _ _ _ c.in_ok-g.ensures.kept params equal) c.drop_unreached.ensures.params c.drop_unreached.ensures.equal

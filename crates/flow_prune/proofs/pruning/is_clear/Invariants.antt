@@ -1,7 +1,7 @@
 use Rattle.std.proofs.Common.{◌≡◌, ℕ, true, false, take}
 use Rattle.nv_base.specs.Sets.{is_in}
 use Rattle.flow_ir.specs.View.{tree_view}
-use Rattle.cps_rules.specs.Simplified.{uses}
+use Rattle.flow_ir.specs.Wide.{uses}
 use Rattle.flow_prune.proofs.pruning.is_clear.Given as goal
 
 abbrev pub invariant-loop-x : goal.invariant-loop-x

@@ -1,9 +1,9 @@
 use Rattle.std.proofs.Common.{le_trans}
 use Rattle.nv_base.proofs.Measures.{most-trans}
 use Rattle.nv_base.proofs.Same.{keeps-trans}
-use Rattle.cps_rules.proofs.Along.{if_ok_both}
 use Rattle.nova_middle.proofs.Whole.{equal_kept, if_ok}
 use Rattle.nova_middle.proofs.program.contract_and_prune.Goals as goal
+use Rattle.flow_ir.proofs.Results.{if_ok_both}
 
 pub returns-clause-kept : goal.returns-clause-kept
 returns-clause-kept c = if_ok_both c.prune.result _ _ _ (λ g params equal. keeps-trans _ _ _ _ _ _ c.in_ok-contracted.ensures.kept (equal_kept _ _ _ _ params equal)) c.prune.ensures.params c.prune.ensures.equal

@@ -1,9 +1,9 @@
 use Rattle.std.proofs.Common.{map, le_trans}
 use Rattle.flow_ir.specs.View.{label_view}
+use Rattle.flow_ir.proofs.Results.{if_ok_both}
 use Rattle.nova_middle.proofs.Single.{tidy_labels, made_kept, more_size, more_length}
 use Rattle.nova_middle.proofs.Whole.{if_ok}
 use Rattle.nova_middle.proofs.program.middle.Goals as goal
-use Rattle.cps_rules.proofs.Along.{if_ok_both}
 
 pub make-requires : goal.make-requires
 make-requires c = tidy_labels _ c.in_ok-flow.ensures.tidy

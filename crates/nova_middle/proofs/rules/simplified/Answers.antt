@@ -1,9 +1,9 @@
 use Rattle.std.proofs.Common.{◌≡◌, rules, Some}
-use Rattle.cps_rules.proofs.Along.{if_ok_both}
 use Rattle.nova_middle.specs.Rules.{value_rule, operand_rule, nothing_rule}
 use Rattle.nova_middle.proofs.Rest.{three, labels_at_rest}
 use Rattle.nova_middle.proofs.Sound.{value_sound, operand_sound, nothing_sound}
 use Rattle.nova_middle.proofs.rules.simplified.Goals as goal
+use Rattle.flow_ir.proofs.Results.{if_ok_both}
 
 pub new-values-requires-clause-sound : goal.new-values-requires-clause-sound
 new-values-requires-clause-sound c = λ p q count h. value_sound p q count (let e : value_rule p ≡ Some q = search rules in e)

@@ -20,13 +20,13 @@ way_to-requires-in-Past-way_to t c = let o = two_kids _ _ _ _ _ c.requires c.nod
 
 pub returns-then-has-clause-there : goal.returns-then-has-clause-there
 returns-then-has-clause-there t c = λ b e.
-    above-behind-one _ _ _ _ c.args.k (c.args.k - 1) c.args.x c.node_values.result.now c.in-There.below b (one_kid _ _ _ _ c.requires c.node-n.ensures c.in-One.ensures) (omega (arith, c.if-k-eq0.false)) c.node_values.ensures
-    (sym (or-then (is_in c.args.x c.node_values.result.now) c.in-There.below c.has.result c.has.ensures c.if-has.true) ∙ there-same _ _ e) (c.in-There.ensures.there c.in-There.below refl)
+    above-behind-one _ _ _ _ c.args.k (c.args.k - 1) c.args.x c.values.result.now c.in-There.below b (one_kid _ _ _ _ c.requires c.node-n.ensures c.in-One.ensures) (omega (arith, c.if-k-eq0.false)) c.values.ensures
+    (sym (or-then (is_in c.args.x c.values.result.now) c.in-There.below c.has.result c.has.ensures c.if-has.true) ∙ there-same _ _ e) (c.in-There.ensures.there c.in-There.below refl)
 
 pub returns-else-has-clause-there : goal.returns-else-has-clause-there
 returns-else-has-clause-there t c = λ b e.
-    above-behind-one _ _ _ _ c.args.k (c.args.k - 1) c.args.x c.node_values.result.now c.in-There.below b (one_kid _ _ _ _ c.requires c.node-n.ensures c.in-One.ensures) (omega (arith, c.if-k-eq0.false)) c.node_values.ensures
-    (sym (or-else (is_in c.args.x c.node_values.result.now) c.in-There.below c.has.result c.has.ensures c.if-has.false) ∙ there-same _ _ e) (c.in-There.ensures.there c.in-There.below refl)
+    above-behind-one _ _ _ _ c.args.k (c.args.k - 1) c.args.x c.values.result.now c.in-There.below b (one_kid _ _ _ _ c.requires c.node-n.ensures c.in-One.ensures) (omega (arith, c.if-k-eq0.false)) c.values.ensures
+    (sym (or-else (is_in c.args.x c.values.result.now) c.in-There.below c.has.result c.has.ensures c.if-has.false) ∙ there-same _ _ e) (c.in-There.ensures.there c.in-There.below refl)
 
 pub returns-in-Past-clause-past : goal.returns-in-Past-clause-past
 returns-in-Past-clause-past t c = λ m e.

@@ -10,8 +10,8 @@ use Rattle.zo_model.specs.Program.{vector, costs_of}
 use Rattle.bank_form.specs.Columns.{costs}
 use Rattle.bank_prog.specs.Meaning.{IsFeasible}
 use Rattle.bank_prog.specs.Weighted.{weighted_costs}
-use Rattle.label_weights.specs.ByLabel.{label_cost}
-use Rattle.label_weights.specs.Weighted.{weighted_cost}
+use Rattle.placement.specs.ByLabel.{label_cost}
+use Rattle.placement.specs.Weighted.{weighted_cost}
 use Rattle.bank_assignment.specs.ByLabel.{label_price}
 use Rattle.reg_assign.specs.Assigned.{IsAssigned, IsReadFrom}
 use Rattle.reg_assign.proofs.Promised.{assigned-of}

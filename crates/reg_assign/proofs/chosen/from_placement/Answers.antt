@@ -11,7 +11,7 @@ use Rattle.zo_model.specs.Program.{vector, costs_of}
 use Rattle.bank_form.specs.Columns.{columns, costs}
 use Rattle.bank_prog.specs.Meaning.{IsFeasible}
 use Rattle.bank_prog.specs.Weighted.{weighted_costs}
-use Rattle.label_weights.specs.Weighted.{weighted_cost}
+use Rattle.placement.specs.Weighted.{weighted_cost}
 use Rattle.bank_assignment.specs.inner.Chosen.{chosen}
 use Rattle.reg_assign.specs.Assigned.{IsVectorOf}
 use Rattle.reg_assign.proofs.chosen.from_placement.Goals as goal

@@ -7,7 +7,7 @@ use Rattle.ssu_ir.specs.Entered.{entered}
 use Rattle.ssu_ir.specs.Meaning.{ssu_params}
 use Rattle.ssu_ir.specs.Measures.{code_bound}
 use Rattle.ssu_ir.specs.View.{labels_view}
-use Rattle.label_weights.specs.Weighted.{weighted_cost}
+use Rattle.placement.specs.Weighted.{weighted_cost}
 use Rattle.placement.specs.Costs.{cost}
 use Rattle.placement.specs.Plan.{plan_view}
 use Rattle.ucode_emit.specs.Operations.{code_operations, form_operations}

@@ -1,8 +1,8 @@
 use Rattle.std.proofs.Common.{◌≡◌, true, ◌||◌, sym, ap, ◌∙◌}
 use Rattle.std.specs.Prelude.{is_some}
 use Rattle.bank_form.specs.Rows.{is_written}
-use Rattle.bank_form.specs.declared.form.Role.{Role}
-use Rattle.bank_form.specs.inner.Form.{use_view, role_view}
+use Rattle.placement.specs.declared.uses.Role.{Role}
+use Rattle.placement.specs.inner.UseViews.{role_view, use_view}
 use Rattle.bank_assignment.specs.inner.Reading.{says}
 use Rattle.bank_assignment.proofs.Readings.{dir_first, ear_first, early-written}
 use Rattle.bank_assignment.proofs.reading.Reading.goes_early.Goals as goal

@@ -1,9 +1,9 @@
 use Rattle.std.proofs.Common.{sym, ◌∙◌, arith}
-use Rattle.bank_form.specs.inner.Form.{use_view}
 use Rattle.bank_assignment.specs.inner.ReadOff.{service_on}
 use Rattle.bank_assignment.specs.inner.Reading.{says}
 use Rattle.bank_assignment.proofs.Readings.{service-more, service-here, service-none}
 use Rattle.bank_assignment.proofs.reading.Reading.service_on.Goals as goal
+use Rattle.placement.specs.inner.UseViews.{use_view}
 
 pub loop-s-preserved : goal.loop-s-preserved
 loop-s-preserved c =

@@ -2,7 +2,7 @@ use Rattle.std.proofs.Common.{◌∙◌, ◌==◌, ap, sym, not, length}
 use Rattle.std.proofs.lemmas.List.{length-map}
 use Rattle.ssu_ir.specs.View.{labels_view}
 use Rattle.placement.specs.Uses.{uses}
-use Rattle.bank_form.specs.inner.Form.{use_view}
+use Rattle.placement.specs.inner.UseViews.{use_view}
 use Rattle.bank_form.proofs.FormLemmas.{used-of}
 use Rattle.bank_form.proofs.form.Form.is_used.Goals as goal
 

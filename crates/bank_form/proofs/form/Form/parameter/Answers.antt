@@ -1,7 +1,7 @@
 use Rattle.std.proofs.Common.{◌∙◌, ap, sym, get_or, unwrap_or, Some, None, arith}
 use Rattle.ssu_ir.proofs.Keeps.{view_at, some_from, none_from}
 use Rattle.placement.specs.Fits.{label_param}
-use Rattle.placement_checks.proofs.Walked.{param-index}
+use Rattle.placement.proofs.PartSteps.{param-index}
 use Rattle.bank_form.proofs.form.Form.parameter.Goals as goal
 
 pub returns-in-Some : goal.returns-in-Some

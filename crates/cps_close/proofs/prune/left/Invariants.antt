@@ -1,6 +1,0 @@
-use Rattle.std.specs.Prelude.{slice_index_or}
-use Rattle.cps_close.proofs.Leaving.{Leaves}
-use Rattle.cps_close.proofs.prune.left.Given as goal
-
-abbrev pub invariant-loop-i : goal.invariant-loop-i
-invariant-loop-i l = Leaves l.out (λ j. slice_index_or l.to j 0) l.labels l.i l.v.items

@@ -1,6 +1,0 @@
-use Rattle.std.proofs.Common.{◌≡◌, take}
-use Rattle.cps_rules.specs.Substitution.{all_renamed, look}
-use Rattle.cps_rules.proofs.names.renamed_all.Given as goal
-
-abbrev pub invariant-loop-a : goal.invariant-loop-a
-invariant-loop-a l = l.v.items ≡ all_renamed (look l.names) (take l.a-index l.atoms)

@@ -1,5 +1,0 @@
-use Rattle.label_weights.proofs.Labels.{weighted_by_labels}
-use Rattle.label_weights.proofs.laws.weights_go_by_labels.Goals as goal
-
-pub returns : goal.returns
-returns c = weighted_by_labels
