@@ -20,7 +20,7 @@ use Rattle.uc_isa.specs.Code.{CodeView}
 use Rattle.uc_isa.specs.Engine.{engine}
 use Rattle.nova_back.specs.LeftOut.{LeavesOut}
 use Rattle.nova_back.specs.LeftOut.LeavesOut.{Empty, Kept, Needless}
-use Rattle.nova_commands.specs.Forms.{banks_bound, HasLargeBanks, HasSmallBanks, IsCodeFor, IsFormOf}
+use Rattle.nova_compile.specs.Forms.{banks_bound, HasLargeBanks, HasSmallBanks, IsCodeFor, IsFormOf}
 use Rattle.nova_commands.proofs.Complete.{compiles}
 use Rattle.command_laws.specs.Forms.{acts, NoOtherEnd, OneMeaning, OnlyComputationsAreLeftOut, SumBounds}
 

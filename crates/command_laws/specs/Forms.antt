@@ -16,9 +16,9 @@ use Rattle.uc_isa.specs.Engine.{engine}
 use Rattle.command_line.specs.declared.status.Status.{Status}
 use Rattle.command_line.specs.declared.status.Status.TheVariants.{Done}
 use Rattle.nova_back.specs.LeftOut.{LeavesOut}
-use Rattle.nova_commands.specs.Forms.{banks_bound, form_bound, HasLargeBanks, HasSmallBanks, IsCodeFor, IsFormOf}
+use Rattle.nova_compile.specs.Forms.{banks_bound, form_bound, HasLargeBanks, HasSmallBanks, IsCodeFor, IsFormOf}
 use Rattle.nova_commands.specs.Headline.{IsCompilable, IsEndOf}
-use Rattle.nova_commands.specs.Reading.{HasTyped}
+use Rattle.nova_compile.specs.Programs.{HasTyped}
 use Rattle.nv_outside.specs.Holding.{Holding}
 
 -- The expanded size of a sum is 9 and its room 18, so 48 * 9 * 26 bounds its form and its code, and 64 times this its banks, which fit with any

@@ -6,8 +6,9 @@ use Rattle.nova_front.specs.Sources.{IsCause, IsSource, IsTypedSource}
 use Rattle.nova_front.specs.declared.error.FrontError.{FrontError}
 use Rattle.command_line.specs.declared.refusal.Refusal.{Refusal}
 use Rattle.command_line.specs.declared.refusal.Refusal.TheVariants.{SourceType}
-use Rattle.nova_commands.specs.Naming.{source_exceptions}
-use Rattle.nova_commands.specs.Reading.{HasTyped, SourceRefuses}
+use Rattle.nova_compile.specs.Naming.{source_exceptions}
+use Rattle.nova_compile.specs.Programs.{HasTyped}
+use Rattle.nova_commands.specs.Reading.{SourceRefuses}
 
 -- A text is at most one program's, and has at most one cause of refusal, as the front end and as the commands tell it. It has none where
 -- it is that of a typed program, not too large. The empty text is a program without a main.

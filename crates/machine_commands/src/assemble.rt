@@ -5,8 +5,8 @@ ghost use Rattle.command_line.specs.Limits.{assembly_limit};
 ghost use Rattle.command_line.specs.Lines.{IsUncaused};
 ghost use Rattle.machine_commands.specs.inner.Files.{files_of, AreTold};
 
-use crate::save::{Made, Product};
-use command_line::Refusal;
+use crate::save::Made;
+use command_line::{Refusal, Status, counted_line};
 use std::alloc::Global;
 use uc_asm::{AsmError, assemble};
 use uc_object::encode_code;
@@ -22,14 +22,15 @@ pub fn assemble_bytes<'a>(
     ensures told { IfOk result (λ m. AreTold m.outputs) }
     ensures refused { IfErr result (λ e. IsUncaused e ⊎ AsmRefuses bytes.now e) }
 {
-    let product = object_of(alloc, bytes)?;
-    Ok(Made::object(alloc, object, b"assembled ", product)?)
+    let (encoded, instructions) = object_of(alloc, bytes)?;
+    let text = counted_line(alloc, b"assembled ", instructions)?;
+    Ok(Made::one(alloc, Status::Done, text, object, encoded)?)
 }
 
-// The object of an assembly text.
-fn object_of<'a>(alloc: Global, text: &[u8]) -> Result<Product, Refusal<'a>>
+// The object of an assembly text, and the number of its instructions.
+fn object_of<'a>(alloc: Global, text: &[u8]) -> Result<(Vec<u8>, u64), Refusal<'a>>
     requires { length text.now ≤ assembly_limit }
-    ensures assembled { IfOk result (λ p. IsAssembledTo text.now p.object.items p.instructions) }
+    ensures assembled { IfOk result (λ p. IsAssembledTo text.now p.0.items p.1) }
     ensures refused { IfErr result (λ e. IsUncaused e ⊎ AsmRefuses text.now e) }
 {
     let code = match assemble(alloc, text) {
@@ -41,8 +42,5 @@ fn object_of<'a>(alloc: Global, text: &[u8]) -> Result<Product, Refusal<'a>>
     };
     let object = encode_code(alloc, &code)?;
     let instructions = code.list().len() as u64;
-    Ok(Product {
-        object,
-        instructions,
-    })
+    Ok((object, instructions))
 }

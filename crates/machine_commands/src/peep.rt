@@ -9,7 +9,7 @@ ghost use Rattle.machine_commands.specs.Peeping.{IsWithoutNeedless, PeepMakes};
 ghost use Rattle.machine_commands.specs.inner.Files.{files_of, AreTold};
 
 use crate::object::{check_lawful, object_of};
-use crate::save::{Made, Output, Outputs};
+use crate::save::Made;
 use command_line::{Refusal, Status, peeped_line};
 use nv_base::NoMemory;
 use std::alloc::Global;
@@ -30,12 +30,8 @@ pub fn peep_bytes<'a>(alloc: Global, bytes: &[u8], name: &'a str) -> Result<Made
     let before = code.list().len() as u64;
     let shorter = shorter_object(alloc, &object)?;
     let text = peeped_line(alloc, before, shorter.code().list().len() as u64)?;
-    let output = Output::new(alloc, name, encode(alloc, &shorter)?)?;
-    Ok(Made {
-        status: Status::Done,
-        text,
-        outputs: Outputs::One(output),
-    })
+    let bytes = encode(alloc, &shorter)?;
+    Ok(Made::one(alloc, Status::Done, text, name, bytes)?)
 }
 
 // The object with shorter code in place of its own, and the starts in that code.

@@ -1,13 +1,13 @@
 //! What a command makes, saved.
 ghost use Rattle.std.specs.Prelude.{◌≡◌, ◌⊎◌, ◌≤◌, ◌∷◌, [], IfOk};
 ghost use Rattle.nv_outside.specs.Causes.{Rose};
-ghost use Rattle.command_line.specs.Lines.{counted, cannot_write};
+ghost use Rattle.command_line.specs.Lines.{cannot_write};
 ghost use Rattle.nv_outside.specs.Calls.{Save, Asked, AsksAtMost};
 ghost use Rattle.machine_commands.specs.Saving.{file, saves_of, AreSaved, IsCut};
 ghost use Rattle.machine_commands.specs.inner.Files.{file_of, files_of, AreTold, IsTold};
 ghost use Rattle.command_line.specs.declared.status.Status.{Status};
 
-use command_line::{Reply, Status, counted_line, named_line};
+use command_line::{Reply, Status, named_line};
 use nv_base::NoMemory;
 use nv_outside::{Files, Saved};
 use std::alloc::Global;
@@ -34,13 +34,6 @@ pub struct Made<'a> {
     pub status: Status,
     pub text: Vec<u8>,
     pub outputs: Outputs<'a>,
-}
-
-/// An object, and the number of its instructions.
-#[derive(Drop)]
-pub struct Product {
-    pub object: Vec<u8>,
-    pub instructions: u64,
 }
 
 impl<'a> Output<'a> {
@@ -70,22 +63,22 @@ impl<'a> Output<'a> {
 }
 
 impl<'a> Made<'a> {
-    /// An object that is to be saved, and its number of instructions told after this text.
-    pub fn object(
+    /// One file that is to be saved, and this status and text.
+    pub fn one(
         alloc: Global,
+        status: Status,
+        text: Vec<u8>,
         name: &'a str,
-        text: &[u8],
-        product: Product,
+        bytes: Vec<u8>,
     ) -> Result<Made<'a>, NoMemory>
-        ensures done { IfOk result (λ m. m.status ≡ Status.Done) }
-        ensures saves { IfOk result (λ m. files_of m.outputs ≡ file name.now product.object.items ∷ []) }
-        ensures line { IfOk result (λ m. m.text.items ≡ counted text.now product.instructions) }
+        ensures status { IfOk result (λ m. m.status ≡ status) }
+        ensures text { IfOk result (λ m. m.text.items ≡ text.items) }
+        ensures saves { IfOk result (λ m. files_of m.outputs ≡ file name.now bytes.items ∷ []) }
         ensures told { IfOk result (λ m. AreTold m.outputs) }
     {
-        let text = counted_line(alloc, text, product.instructions)?;
-        let output = Output::new(alloc, name, product.object)?;
+        let output = Output::new(alloc, name, bytes)?;
         Ok(Made {
-            status: Status::Done,
+            status,
             text,
             outputs: Outputs::One(output),
         })

@@ -1,7 +1,6 @@
 -- What a source that isn't refused comes to, as what `compile` makes of it.
-use Rattle.std.proofs.Common.{◌≡◌, ℕ, ◌≤◌, ◌^◌, List, [], ◌∷◌, length, refl, ap, sym, ◌∙◌, subst, Result, Ok, Err, IfOk, arith}
+use Rattle.std.proofs.Common.{◌≡◌, ℕ, ◌≤◌, List, [], ◌∷◌, length, refl, ap, sym, ◌∙◌, subst, Result, Ok, Err, IfOk}
 use Rattle.nv_ast.specs.TypedView.{typed_program}
-use Rattle.uc_isa.specs.Code.{CodeView}
 use Rattle.uc_object.specs.Object.{IsTaggedObject}
 use Rattle.uc_object.specs.Tagged.{TaggedView}
 use Rattle.zo_cert.specs.declared.report.Report.{Report}
@@ -9,25 +8,22 @@ use Rattle.zo_cert.specs.declared.report.Verdict.{Verdict}
 use Rattle.zo_cert.specs.declared.report.Verdict.TheVariants as verdict
 use Rattle.nova_back.specs.Causes.{report_cost}
 use Rattle.nova_commands.specs.Checking.{IsReportOf}
-use Rattle.nova_commands.specs.Naming.{source_exceptions}
-use Rattle.nova_commands.proofs.Begun.{starts-few}
+use Rattle.nova_compile.specs.Naming.{source_exceptions}
+use Rattle.nova_compile.proofs.Objects.{built-parts, with_exceptions}
 use Rattle.nova_commands.specs.Headline.{CompiledMakes, WithoutMakes, CompileMakes}
 use Rattle.command_line.specs.Limits.{store_limit}
 use Rattle.command_line.specs.Lines.{compiled_text, infeasible_text, spent_text}
 use Rattle.machine_commands.specs.Saving.{File, file}
 use Rattle.machine_commands.specs.inner.Files.{files_of}
-use Rattle.nova_commands.specs.inner.CompileOutcome.{HasParts, IsBuilt, IsCompileOutcome, IsSavable, IsWithoutBanks}
-use Rattle.nova_commands.specs.declared.build.Compiled.{Compiled}
+use Rattle.nova_compile.specs.inner.Parts.{IsBuilt, IsWithoutBanks}
+use Rattle.nova_commands.specs.inner.CompileOutcome.{IsCompileOutcome, IsSavable}
+use Rattle.nova_compile.specs.declared.build.Compiled.{Compiled}
 use Rattle.nova_commands.specs.declared.compile.CompileOutcome.{CompileOutcome}
 use Rattle.nova_commands.specs.declared.compile.CompileOutcome.TheVariants as found
 use Rattle.machine_commands.specs.declared.save.Made.{Made}
 use Rattle.nv_base.specs.declared.error.NoMemory.{NoMemory}
 use Rattle.command_line.specs.declared.status.Status.{Status}
 use Rattle.command_line.specs.declared.status.Status.TheVariants as status
-
--- code with these starts and exceptions
-abbrev pub with_exceptions : CodeView → List ℕ → List (ℕ × List ℕ) → TaggedView
-with_exceptions c starts exceptions = record { code = c; exceptions = exceptions; starts = starts }
 
 -- the object of what was compiled
 abbrev tagged_of : List ℕ → Compiled → TaggedView
@@ -72,18 +68,6 @@ without-made text report_name report slots ws budget v r files h reports saves =
 }
 
 -- its parts are as they can be saved
-few-enough : (a b c : ℕ) → a ≤ b → b ≤ c → c ≤ store_limit → a ≤ 2 ^ 20
-few-enough a b c h k l = omega (arith, h, k, l)
-
-built-parts : (text : List ℕ) (slots : ℕ) (ws : List ℕ) (budget store : ℕ) (t : Compiled) → store ≤ store_limit → IsBuilt text slots ws budget store t → HasParts t
-built-parts text slots ws budget store t low h =
-    let begin = h.banks.labels_start.starts_are in
-    record {
-      report = h.banks.report.valid;
-      starts = few-enough (length t.built.starts.items) (length t.built.code.list) store (starts-few t.built.code.list t.built.starts.items begin.shape begin.inside) h.short low;
-      inside = begin.inside;
-    }
-
 pub found-savable : (text : List ℕ) (slots : ℕ) (ws : List ℕ) (budget store : ℕ) (f : CompileOutcome) → store ≤ store_limit → IsCompileOutcome text slots ws budget store f → IsSavable f
 found-savable text slots ws budget store (found.Code t) low h = built-parts text slots ws budget store t low h
 found-savable text slots ws budget store (found.Infeasible r) low h = h.without.without.report.valid

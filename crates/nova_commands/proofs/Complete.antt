@@ -15,7 +15,7 @@ use Rattle.command_line.specs.declared.refusal.Refusal.TheVariants.{SourceLarge,
 use Rattle.command_line.specs.declared.status.Status.{Status}
 use Rattle.command_line.specs.declared.status.Status.TheVariants as status
 use Rattle.nova_commands.specs.Answers.{CanEnd}
-use Rattle.nova_commands.specs.Forms.{form_bound, banks_bound, HasSmallBanks, HasLargeBanks}
+use Rattle.nova_compile.specs.Forms.{form_bound, banks_bound, HasSmallBanks, HasLargeBanks}
 use Rattle.nova_commands.specs.Generating.{IsSmallMade, GenRefuses}
 use Rattle.nova_commands.specs.Headline.{IsUnfit, IsEndOf, IsCompilable}
 

@@ -14,7 +14,7 @@ use Rattle.machine_commands.specs.Saving.{file}
 use Rattle.machine_commands.specs.inner.Files.{files_of}
 use Rattle.machine_commands.specs.declared.save.Made.{Made}
 use Rattle.nova_commands.specs.Entries.{CountsMake}
-use Rattle.nova_commands.specs.Forms.{IsBoundedFormOf}
+use Rattle.nova_compile.specs.Forms.{IsBoundedFormOf}
 use Rattle.nova_commands.proofs.Agreeing.{words-small}
 
 pub counts-made : (text memory name : List ℕ) (jumps : ℕ) (program : ProgramTree) (form : List Label) (packet : Memories) (args counts : List ℕ) (m : Made) → IsTypedSource text program → IsBoundedFormOf program form → Gives (main_words program) memory packet args → HasSizes packet

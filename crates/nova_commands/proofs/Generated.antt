@@ -22,17 +22,17 @@ use Rattle.nova_front.proofs.OneSource.{source-program}
 use Rattle.source_generator.specs.Laws.{HasProgram}
 use Rattle.source_generator.specs.Made.{made}
 use Rattle.source_generator.proofs.Programs.{each_has_program}
-use Rattle.nova_commands.specs.Forms.{IsCodeFor}
+use Rattle.nova_compile.specs.Forms.{IsCodeFor}
 use Rattle.nova_back.specs.Causes.{report_cost}
 use Rattle.nova_commands.specs.Generating.{GenRefuses, IsGenerated, MeansWord, generated_text}
 use Rattle.nova_commands.specs.Headline.{CompileRefuses, IsUnfit}
 use Rattle.command_line.specs.Limits.{slots_limit, budget_default, store_limit}
 use Rattle.command_line.specs.Lines.{IsUncaused}
 use Rattle.machine_commands.specs.Machine.{spill_base}
-use Rattle.nova_commands.specs.Reading.{HasTyped}
+use Rattle.nova_compile.specs.Programs.{HasTyped}
 use Rattle.command_line.specs.declared.refusal.Refusal.{Refusal}
-use Rattle.nova_commands.specs.declared.build.Compiled.{Compiled}
-use Rattle.nova_commands.specs.inner.CompileOutcome.{IsBuilt, IsWithoutBanks}
+use Rattle.nova_compile.specs.declared.build.Compiled.{Compiled}
+use Rattle.nova_compile.specs.inner.Parts.{IsBuilt, IsWithoutBanks}
 use Rattle.nova_commands.specs.inner.Generated.{HasRoom, HasWord, AreWord}
 use Rattle.nova_commands.proofs.OneSource.{source-good}
 

@@ -2,15 +2,12 @@ pub mod Printing
 pub mod Completeness
 pub mod Ending
 pub mod Errors
-pub mod Formed
 pub mod OneSource
 pub mod OneReport
 pub mod OneAnswer
 pub mod Generated
 pub mod Loads
 pub mod Saves
-pub mod Named
-pub mod Begun
 pub mod CompileResults
 pub mod Complete
 pub mod Asked

@@ -27,12 +27,12 @@ use Rattle.nv_ast.specs.Sizes.{main_words}
 use Rattle.nv_ast.specs.Tree.{ProgramTree}
 use Rattle.nv_meaning.specs.Meaning.{source as meaning}
 use Rattle.ssu_ir.specs.Meaning.{ssu_meaning}
-use Rattle.nova_commands.proofs.Formed.{fewer}
+use Rattle.nova_compile.proofs.Formed.{fewer}
 use Rattle.nova_commands.specs.Answers.{Makes, Prints, CanMake, CanEnd, Refuses, MustRefuse}
 use Rattle.machine_commands.specs.Assembly.{AsmRefuses, IsListed}
 use Rattle.command_line.specs.Command.{Command, Compile, Run, Exec, Asm, Dis, Lint, Check, Gen, Contexts, Peep, Trace, Counts}
 use Rattle.nova_commands.specs.Executing.{ExecRefuses, IsExecuted}
-use Rattle.nova_commands.specs.Forms.{form_bound}
+use Rattle.nova_compile.specs.Forms.{form_bound}
 use Rattle.nova_commands.specs.Headline.{CompileMakes, IsUnfit, IsEndOf}
 use Rattle.nova_commands.specs.Weighing.{AreWeighed, WeightsRefuse, TextsRefuse}
 use Rattle.weights_text.proofs.Exact.{bad_answer}

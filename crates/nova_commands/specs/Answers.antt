@@ -15,7 +15,7 @@ use Rattle.machine_commands.specs.Machine.{HasCode, IsBadObjectFor, LintRefuses,
 use Rattle.nv_base.specs.declared.outcome.Outcome.{Outcome}
 use Rattle.command_line.specs.Status.{outcome_status}
 use Rattle.uc_isa.specs.Lawful.{IsLawful}
-use Rattle.nova_commands.specs.Reading.{HasTyped}
+use Rattle.nova_compile.specs.Programs.{HasTyped}
 use Rattle.machine_commands.specs.Peeping.{PeepMakes}
 use Rattle.machine_commands.specs.Saving.{File, AreSaved, IsCut}
 use Rattle.machine_commands.specs.Scheduled.{ContextsRefuse, IsScheduled}

@@ -10,7 +10,7 @@ use Rattle.ssu_ir.specs.Meaning.{ssu_meaning}
 use Rattle.ssu_ir.specs.Tree.{Label}
 use Rattle.entry_counts.specs.Counting.{AreCounted}
 use Rattle.nova_front.specs.Sources.{IsTypedSource}
-use Rattle.nova_commands.specs.Forms.{IsBoundedFormOf}
+use Rattle.nova_compile.specs.Forms.{IsBoundedFormOf}
 use Rattle.machine_commands.specs.Machine.{full_text}
 use Rattle.machine_commands.specs.Saving.{File, file}
 use Rattle.command_line.specs.Status.{outcome_status}

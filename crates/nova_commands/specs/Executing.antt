@@ -7,7 +7,8 @@ use Rattle.nv_memtext.specs.MemoryText.{Gives}
 use Rattle.nv_meaning.specs.Meaning.{source}
 use Rattle.machine_commands.specs.Machine.{IsMemoryRefusedFor, full_text}
 use Rattle.nova_front.specs.Sources.{IsTypedSource}
-use Rattle.nova_commands.specs.Reading.{HasTyped, SourceRefuses}
+use Rattle.nova_compile.specs.Programs.{HasTyped}
+use Rattle.nova_commands.specs.Reading.{SourceRefuses}
 use Rattle.command_line.specs.Status.{outcome_status}
 use Rattle.command_line.specs.declared.refusal.Refusal.{Refusal}
 use Rattle.command_line.specs.declared.status.Status.{Status}

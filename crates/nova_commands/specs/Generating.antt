@@ -11,11 +11,11 @@ use Rattle.nova_front.specs.Sources.{IsTypedSource}
 use Rattle.zo_cert.specs.declared.report.Report.{Report}
 use Rattle.zo_cert.specs.declared.report.Verdict.{Verdict}
 use Rattle.nova_back.specs.Causes.{report_cost}
-use Rattle.nova_commands.specs.Forms.{form_bound, banks_bound, IsCodeFor, HasBanks}
+use Rattle.nova_compile.specs.Forms.{form_bound, banks_bound, IsCodeFor, HasBanks}
 use Rattle.nova_commands.specs.Headline.{IsUnfit}
 use Rattle.command_line.specs.Limits.{slots_limit, budget_default, store_limit}
 use Rattle.command_line.specs.Lines.{verdict_name, refusal_status, refusal_text}
-use Rattle.nova_commands.specs.Reading.{HasTyped}
+use Rattle.nova_compile.specs.Programs.{HasTyped}
 use Rattle.command_line.specs.declared.refusal.Refusal.{Refusal}
 use Rattle.command_line.specs.declared.status.Status.{Status}
 use Rattle.command_line.specs.declared.status.Status.TheVariants.{Done, WriteFault, NoMemory}

@@ -14,11 +14,12 @@ use Rattle.zo_cert.specs.declared.report.Verdict.TheVariants as verdict
 use Rattle.nova_back.specs.Causes.{report_cost}
 use Rattle.nova_front.specs.Sources.{IsTypedSource}
 use Rattle.nova_commands.specs.Checking.{IsReportOf}
-use Rattle.nova_commands.specs.Naming.{source_exceptions}
-use Rattle.nova_commands.specs.Forms.{form_bound, HasBanks, HasSmallBanks, HasLargeBanks, HasNoBanks, HasLongCode}
+use Rattle.nova_compile.specs.Naming.{source_exceptions}
+use Rattle.nova_compile.specs.Forms.{form_bound, HasBanks, HasSmallBanks, HasLargeBanks, HasNoBanks, HasLongCode}
 use Rattle.command_line.specs.Lines.{compiled_text, infeasible_text, spent_text}
 use Rattle.command_line.specs.Limits.{source_limit}
-use Rattle.nova_commands.specs.Reading.{HasTyped, SourceRefuses}
+use Rattle.nova_compile.specs.Programs.{HasTyped}
+use Rattle.nova_commands.specs.Reading.{SourceRefuses}
 use Rattle.nova_commands.specs.Weighing.{AreWeighed, HasWeights, TextsRefuse}
 use Rattle.machine_commands.specs.Saving.{File, file, IsSameBut}
 use Rattle.command_line.specs.declared.refusal.Refusal.{Refusal}

@@ -2,10 +2,7 @@ pub mod Exits
 pub mod Loading
 pub mod Calling
 pub mod Reading
-pub mod Forms
-pub mod Naming
 pub mod Headline
-pub mod Building
 pub mod Executing
 pub mod Entries
 pub mod Generating

@@ -1,9 +1,8 @@
 -- Why a source is refused, as the commands tell it.
 use Rattle.std.specs.Prelude.{ℕ, List}
-use Rattle.nv_ast.specs.Tree.{ProgramTree}
 use Rattle.nv_text.specs.Program.{FaultOf}
 use Rattle.nv_text.specs.declared.error.TextError.TheVariants.{Char, Number, Name, Syntax, Deep}
-use Rattle.nova_front.specs.Sources.{IsTypedSource, IsUntyped, IsLarge}
+use Rattle.nova_front.specs.Sources.{IsUntyped, IsLarge}
 use Rattle.command_line.specs.declared.refusal.Refusal.{Refusal}
 use Rattle.command_line.specs.declared.refusal.Refusal.TheVariants.{SourceChar, SourceNumber, SourceName, SourceSyntax, SourceDeep, SourceType, SourceLarge}
 
@@ -17,7 +16,3 @@ SourceRefuses text (SourceDeep at) = FaultOf text (Deep at)
 SourceRefuses text (SourceType kind place) = IsUntyped text kind place
 SourceRefuses text (SourceLarge size) = IsLarge text size
 SourceRefuses text _ = ⊥
-
--- the text is that of a typed program, not too large, of which this holds
-abbrev pub HasTyped : List ℕ → (ProgramTree → Type 0) → Type 0
-HasTyped text P = (program : ProgramTree) × IsTypedSource text program × P program

@@ -20,7 +20,8 @@ use Rattle.uc_object.specs.declared.object.Object.{Object}
 use Rattle.nv_outside.specs.Holding.{Holding}
 use Rattle.nova_front.specs.Sources.{IsTypedSource}
 use Rattle.machine_commands.specs.Machine.{HasCode, IsMemoryRefusedFor, LintRefuses, spill_base}
-use Rattle.nova_commands.specs.Reading.{HasTyped, SourceRefuses}
+use Rattle.nova_compile.specs.Programs.{HasTyped}
+use Rattle.nova_commands.specs.Reading.{SourceRefuses}
 use Rattle.command_line.specs.declared.refusal.Refusal.{Refusal}
 use Rattle.command_line.specs.declared.refusal.Refusal.TheVariants.{TraceParams, TraceWrite}
 use Rattle.command_line.specs.declared.status.Status.{Status}

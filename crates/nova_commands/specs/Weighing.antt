@@ -5,7 +5,8 @@ use Rattle.weights_text.specs.WeightsText.{Gives, IsBad, clamped}
 use Rattle.command_line.specs.Limits.{weights_limit}
 use Rattle.command_line.specs.declared.refusal.Refusal.{Refusal}
 use Rattle.command_line.specs.declared.refusal.Refusal.TheVariants.{BadWeights}
-use Rattle.nova_commands.specs.Reading.{HasTyped, SourceRefuses}
+use Rattle.nova_compile.specs.Programs.{HasTyped}
+use Rattle.nova_commands.specs.Reading.{SourceRefuses}
 
 -- these are the weights of a text: a label's count, raised to 1 or lowered to 1,023
 abbrev pub IsWeighedBy : List ℕ → List ℕ → Type 0

@@ -1,7 +1,5 @@
 //! The command `compile`.
-ghost use Rattle.std.specs.Prelude.{◌≡◌, ◌⊎◌, ◌≤◌, ◌<◌, ◌^◌, ◌∷◌, [], ℕ, List, All, length, IfOk, IfErr};
-ghost use Rattle.nv_ast.specs.ProgramView.{program_of};
-ghost use Rattle.uc_object.specs.Object.{IsTaggedObject};
+ghost use Rattle.std.specs.Prelude.{◌≡◌, ◌⊎◌, ◌≤◌, ◌<◌, ◌∷◌, [], ℕ, List, length, IfOk, IfErr};
 ghost use Rattle.zo_cert.specs.Contents.{report_contents};
 ghost use Rattle.zo_cert.specs.Report.{IsValidReport};
 ghost use Rattle.zo_cert.specs.ReportText.{report_text};
@@ -9,28 +7,24 @@ ghost use Rattle.nova_commands.specs.Checking.{IsReportOf};
 ghost use Rattle.nova_back.specs.Causes.{report_cost};
 ghost use Rattle.nova_commands.specs.Headline.{CompileMakes, CompileRefuses, WeighedMakes, WeighedRefuses};
 ghost use Rattle.nova_commands.specs.Weighing.{IsWeighedBy, TextsRefuse};
-ghost use Rattle.nova_commands.specs.Naming.{source_exceptions};
 ghost use Rattle.command_line.specs.Limits.{source_limit};
 ghost use Rattle.command_line.specs.Lines.{IsUncaused, compiled_text};
 ghost use Rattle.command_line.specs.declared.status.Status.{Status};
 ghost use Rattle.zo_cert.specs.declared.report.Verdict.{Verdict};
 ghost use Rattle.machine_commands.specs.Saving.{file};
 ghost use Rattle.machine_commands.specs.inner.Files.{file_of, files_of, AreTold, IsTold};
-ghost use Rattle.nova_commands.specs.inner.CompileOutcome.{HasParts, IsBuilt, IsCompileOutcome, IsSavable, IsSortedAs, IsWithoutBanks};
+ghost use Rattle.nova_compile.specs.inner.Parts.{HasParts, IsBuilt, IsWithoutBanks};
+ghost use Rattle.nova_commands.specs.inner.CompileOutcome.{IsCompileOutcome, IsSavable, IsSortedAs};
 ghost use Rattle.command_line.specs.inner.Words.{AreInLimits};
 
-use crate::build::{CompileError, Compiled, compile_text};
-use crate::naming::exceptions_of;
 use crate::source::{source_of, text_refusal};
 use command_line::{Options, Refusal, Status, compiled_line, counted_line, line};
 use label_weights::Weights;
 use machine_commands::{Made, Output, Outputs};
 use nova_back::Built;
-use nv_ast::Program;
+use nova_compile::{CompileError, Compiled, compile_text, no_weights, object_of};
 use nv_base::NoMemory;
 use std::alloc::Global;
-use uc_isa::Code;
-use uc_object::{Object, Tagged, encode};
 use weights_text::{WeightsError, read_weights};
 use zo_cert::{Report, print_report};
 use zo_model::cost;
@@ -174,13 +168,6 @@ fn spent_made<'a>(
     report_made(alloc, Status::BudgetSpent, text, name, without)
 }
 
-// Where there are no weights, each label weighs 1.
-fn no_weights(alloc: Global) -> Weights
-    ensures { result ≡ [] }
-{
-    Weights::new(Vec::new(alloc))
-}
-
 /// The code of a source and the report on its banks, or the report alone, where each label weighs 1.
 pub fn outcome_evenly<'a>(
     alloc: Global,
@@ -256,25 +243,6 @@ fn code_made<'a>(
     let made = both_made(alloc, bytes, instructions, &found, object, report);
     drop(found);
     made
-}
-
-/// The object of the code of a source, with the names of its exceptions, and where its labels start.
-pub fn object_of(
-    alloc: Global,
-    text: &[u8],
-    program: &Program,
-    code: Code,
-    starts: Vec<u32>,
-) -> Result<Vec<u8>, NoMemory>
-    requires text { length text.now ≤ source_limit }
-    requires starts { length starts.items ≤ 2 ^ 20 }
-    requires inside { All (λ start. start < length code.list) starts.items }
-    ensures { IfOk result (λ bytes. IsTaggedObject bytes.items (record { code = code; exceptions = source_exceptions text.now (program_of program.now); starts = starts.items })) }
-{
-    let exceptions = exceptions_of(alloc, text, program)?;
-    let tagged = Tagged::new(code, exceptions, starts);
-    let object = Object::Two(tagged);
-    encode(alloc, &object)
 }
 
 // The bytes of an object and a report, with the line that tells the object's length and the report's verdict.

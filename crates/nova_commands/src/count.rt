@@ -4,7 +4,7 @@ ghost use Rattle.nv_ast.specs.TypedView.{typed_program};
 ghost use Rattle.nova_front.specs.Sources.{IsTypedSource};
 ghost use Rattle.nova_commands.specs.Entries.{CountsMake};
 ghost use Rattle.nova_commands.specs.Executing.{ExecRefuses};
-ghost use Rattle.nova_commands.specs.Forms.{IsBoundedFormOf};
+ghost use Rattle.nova_compile.specs.Forms.{IsBoundedFormOf};
 ghost use Rattle.nova_commands.specs.Reading.{SourceRefuses};
 ghost use Rattle.command_line.specs.Limits.{source_limit, memory_limit};
 ghost use Rattle.command_line.specs.Lines.{IsUncaused};

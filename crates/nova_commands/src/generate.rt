@@ -3,20 +3,20 @@ ghost use Rattle.std.specs.Prelude.{◌≡◌, ◌≤◌, ◌⊎◌, [], length,
 ghost use Rattle.nv_ast.specs.TypedView.{typed_program};
 ghost use Rattle.zo_cert.specs.Report.{IsValidReport};
 ghost use Rattle.nova_back.specs.Causes.{report_cost};
-ghost use Rattle.nova_commands.specs.Forms.{IsCodeFor};
+ghost use Rattle.nova_compile.specs.Forms.{IsCodeFor};
 ghost use Rattle.nova_commands.specs.Generating.{MeansWord, IsGenerated, GenRefuses, generated_text};
 ghost use Rattle.nova_commands.specs.Headline.{CompileRefuses};
 ghost use Rattle.command_line.specs.Limits.{source_limit, slots_limit, budget_default, store_limit};
 ghost use Rattle.command_line.specs.Lines.{IsUncaused};
 ghost use Rattle.command_line.specs.declared.status.Status.{Status};
-ghost use Rattle.nova_commands.specs.inner.CompileOutcome.{IsBuilt};
+ghost use Rattle.nova_compile.specs.inner.Parts.{IsBuilt};
 ghost use Rattle.nova_commands.specs.inner.Generated.{HasRoom, HasWord, AreWord, TellsOf};
 
-use crate::build::Compiled;
 use crate::compile::{CompileOutcome, outcome_evenly};
 use command_line::limits::{DEFAULT_BUDGET, MOST_SLOTS, MOST_STORE, SPILL_BASE};
 use command_line::{Options, Refusal, Reply, Status, push_verdict};
 use line_text::{push_decimal, push_word};
+use nova_compile::Compiled;
 use nv_ast::Typed;
 use nv_base::{Mem, NoMemory, Outcome, Packet, Words, WriteLog};
 use nv_meaning::exec;

@@ -1,18 +1,18 @@
 //! The command `build`.
 ghost use Rattle.std.specs.Prelude.{◌≡◌, ◌≤◌, length};
 ghost use Rattle.command_line.specs.Limits.{source_limit};
-ghost use Rattle.nova_commands.specs.inner.CompileOutcome.{HasParts};
+ghost use Rattle.nova_compile.specs.inner.Parts.{HasParts};
 ghost use Rattle.nova_words.specs.Limits.{AreInLimits};
 ghost use Rattle.zo_cert.specs.Report.{IsValidReport};
 
 use crate::check::fault_form;
-use crate::compiled::{compile, no_weights, object_in, save_report};
+use crate::compiled::{compile, object_in, save_report};
 use code_kinds::{Counts, counts_of};
 use command_line::limits::{SOURCE_LIMIT, WEIGHTS_LIMIT};
 use label_weights::Weights;
 use line_text::Message;
 use nova_answers::{Answer, Ending, Saving, add_saving, load};
-use nova_commands::Compiled;
+use nova_compile::{Compiled, no_weights};
 use nova_words::Build;
 use nv_outside::Files;
 use std::alloc::Global;

@@ -1,21 +1,19 @@
 //! Sources, compiled.
-ghost use Rattle.std.specs.Prelude.{◌≡◌, ◌≤◌, [], length, IfSome};
+ghost use Rattle.std.specs.Prelude.{◌≤◌, length, IfSome};
 ghost use Rattle.nv_ast.specs.TypedView.{typed_program};
-ghost use Rattle.command_line.specs.Limits.{source_limit};
-ghost use Rattle.command_line.specs.inner.Words.{AreInLimits as AreOptions};
-ghost use Rattle.nova_commands.specs.Naming.{source_exceptions};
-ghost use Rattle.nova_commands.specs.inner.CompileOutcome.{HasParts, IsSavable};
+ghost use Rattle.nv_text.specs.Limits.{source_limit};
+ghost use Rattle.nova_compile.specs.Naming.{source_exceptions};
+ghost use Rattle.nova_compile.specs.inner.Parts.{HasParts, HasValidReport};
 ghost use Rattle.nova_words.specs.Limits.{AreInLimits};
 ghost use Rattle.uc_object.specs.Object.{IsTaggedObject};
 ghost use Rattle.zo_cert.specs.Report.{IsValidReport};
 
-use command_line::{Options, Refusal};
 use explain_parts::finding::Code;
 use explain_source::push_fault_as;
 use label_weights::Weights;
 use nova_answers::{Answer, Ending, Saving, add_saving};
 use nova_back::Built;
-use nova_commands::{CompileOutcome, Compiled, object_of, outcome_of_report};
+use nova_compile::{CompileError, Compiled, compile_text, no_weights, object_of};
 use nova_words::Build;
 use nv_base::NoMemory;
 use nv_text::MOST_BYTES;
@@ -28,13 +26,6 @@ const SLOTS: u32 = 128;
 const BUDGET: u32 = 2_000;
 
 const STORE: u32 = 1_048_576;
-
-/// Where there are no weights, each label weighs 1.
-pub fn no_weights(alloc: Global) -> Weights
-    ensures { result ≡ [] }
-{
-    Weights::new(Vec::new(alloc))
-}
 
 /// The object of a source, compiled as `build` does it without options; where there is none, the answer says why.
 pub fn object_of_source(
@@ -69,21 +60,6 @@ pub fn words_for(name: &str) -> Build<'_>
     }
 }
 
-// The numbers of a compilation.
-fn options_of(words: Build) -> Options
-    requires { AreInLimits words }
-    ensures limits { AreOptions result }
-    ensures slots { result.slots ≡ words.entry.slots }
-    ensures budget { result.budget ≡ words.entry.budget }
-    ensures store { result.store ≡ words.entry.store }
-{
-    Options {
-        slots: words.slots,
-        budget: words.budget,
-        store: words.store,
-    }
-}
-
 /// The code of a source and the report on its banks; where there is none, the answer says why, and the report that says so is
 /// saved if it is asked for.
 pub fn compile(
@@ -98,39 +74,42 @@ pub fn compile(
     requires text { length bytes.now ≤ source_limit }
     ensures { IfSome result HasParts }
 {
-    let options = options_of(words);
-    match outcome_of_report(alloc, bytes, options, w) {
-        Ok(outcome) => code_in(alloc, words, outcome, savings, answer),
-        Err(refusal) => {
-            push_refusal(alloc, words, bytes, refusal, answer);
+    match compile_text(alloc, bytes, words.slots, words.budget, words.store, w) {
+        Ok(compiled) => Some(compiled),
+        Err(error) => {
+            push_error(alloc, words, bytes, error, savings, answer);
             None
         }
     }
 }
 
-fn code_in(
+// Says why a source isn't compiled, and saves the report that says so if it is asked for.
+fn push_error(
     alloc: Global,
     words: Build,
-    outcome: CompileOutcome,
+    bytes: &[u8],
+    error: CompileError,
     savings: &mut Vec<Saving>,
     answer: &mut Answer,
-) -> Option<Compiled>
-    requires { IsSavable outcome }
-    ensures { IfSome result HasParts }
+)
+    requires { HasValidReport error }
 {
-    match outcome {
-        CompileOutcome::Code(compiled) => Some(compiled),
-        CompileOutcome::Infeasible(report) => {
+    match error {
+        CompileError::NoMemory => answer.fail(),
+        CompileError::Text(_) | CompileError::Fault(_, _) => {
+            push_refused(alloc, words.source, bytes, answer)
+        }
+        CompileError::TooLarge(size) => push_large(alloc, words.source, bytes, size, answer),
+        CompileError::StoreFull(length) => push_store(words, length, answer),
+        CompileError::Infeasible(report) => {
             push_slots(words, answer);
             save_report(alloc, words, &report, savings, answer);
-            drop(report);
-            None
+            drop(report)
         }
-        CompileOutcome::Spent(report) => {
+        CompileError::Spent(report) => {
             push_budget(words, answer);
             save_report(alloc, words, &report, savings, answer);
-            drop(report);
-            None
+            drop(report)
         }
     }
 }
@@ -188,16 +167,6 @@ pub fn save_report(
 pub fn push_refused(alloc: Global, name: &str, bytes: &[u8], answer: &mut Answer) {
     if push_fault_as(alloc, &mut answer.err, answer.form, name, bytes) {
         answer.ending = Ending::Failed;
-    }
-}
-
-// Says why a source isn't compiled.
-fn push_refusal(alloc: Global, words: Build, bytes: &[u8], refusal: Refusal, answer: &mut Answer) {
-    match refusal {
-        Refusal::NoMemory => answer.fail(),
-        Refusal::StoreFull(length) => push_store(words, length, answer),
-        Refusal::SourceLarge(size) => push_large(alloc, words.source, bytes, size, answer),
-        _ => push_refused(alloc, words.source, bytes, answer),
     }
 }
 

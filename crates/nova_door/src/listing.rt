@@ -1,10 +1,11 @@
 //! The command `list`.
 ghost use Rattle.std.specs.Prelude.{◌≡◌};
 
-use crate::compiled::{compile, no_weights, object_in, push_refused, words_for};
+use crate::compiled::{compile, object_in, push_refused, words_for};
 use command_line::limits::OBJECT_LIMIT;
 use ir_printer::{Page, print_single_use};
 use nova_answers::{Answer, list_object, load};
+use nova_compile::no_weights;
 use nv_outside::Files;
 use nv_text::MOST_BYTES;
 use ssu_ir::{Ssu, single};

@@ -1,11 +1,11 @@
 //! The command `page`.
 ghost use Rattle.std.specs.Prelude.{◌≡◌, ◌≤◌, length, IfSome};
 ghost use Rattle.command_line.specs.Limits.{memory_limit, source_limit};
-ghost use Rattle.nova_commands.specs.inner.CompileOutcome.{HasParts};
+ghost use Rattle.nova_compile.specs.inner.Parts.{HasParts};
 
 use crate::banks::push_banks;
 use crate::build::push_summary;
-use crate::compiled::{compile, no_weights, object_in, words_for};
+use crate::compiled::{compile, object_in, words_for};
 use crate::listing::form_of;
 use crate::simulation::run_object;
 use code_kinds::counts_of;
@@ -13,7 +13,7 @@ use command_line::limits::{MEMORY_LIMIT, SOURCE_LIMIT};
 use explain_source::push_sizes;
 use line_text::Message;
 use nova_answers::{Answer, Ending, Saving, add_saving, list_object, load};
-use nova_commands::Compiled;
+use nova_compile::{Compiled, no_weights};
 use nova_page::{push_page_block, push_page_end, push_page_head};
 use nova_words::{Page, Run};
 use nv_outside::Files;

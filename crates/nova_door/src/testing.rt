@@ -3,16 +3,18 @@ ghost use Rattle.std.specs.Prelude.{◌≡◌, ◌≤◌, length};
 ghost use Rattle.command_line.specs.Limits.{memory_limit, object_limit, source_limit};
 
 use crate::compare::{push_difference, push_plain};
-use crate::compiled::object_of_source;
+use crate::compiled::{object_of_source, push_refused};
 use crate::folders::Folders;
 use crate::found::{Folder, folder_at, split_path};
 use command_line::limits::{MEMORY_LIMIT, OBJECT_LIMIT, SOURCE_LIMIT};
 use command_line::{Refusal, Reply};
 use line_text::Message;
-use machine_commands::run_bytes;
+use machine_commands::{exec_job, job_of, run_bytes};
 use nova_answers::{Answer, Ending, load, push_refusal};
-use nova_commands::exec_bytes;
+use nova_front::{FrontError, typed};
 use nova_words::Test;
+use nv_ast::Typed;
+use nv_base::NoMemory;
 use nv_outside::Files;
 use std::alloc::{AllocError, Global};
 
@@ -145,9 +147,12 @@ fn test_source<F: Files>(
     let Some(object) = object_of_source(alloc, path, &source, answer) else {
         return tally.miss();
     };
+    let Some(typed) = typed_in(alloc, path, &source, answer) else {
+        return tally.miss();
+    };
     let program = Program {
         path,
-        source: &source,
+        typed: &typed,
         object: &object,
         steps,
     };
@@ -159,11 +164,28 @@ fn test_source<F: Files>(
     }
 }
 
-// A source, the object of its code, and the steps that each run may take.
+// The typed program of a source.
+fn typed_in(alloc: Global, path: &str, source: &[u8], answer: &mut Answer) -> Option<Typed>
+    requires { length source.now ≤ source_limit }
+{
+    match typed(alloc, source) {
+        Ok(program) => Some(program),
+        Err(FrontError::NoMemory) => {
+            answer.fail();
+            None
+        }
+        Err(_) => {
+            push_refused(alloc, path, source, answer);
+            None
+        }
+    }
+}
+
+// The program of a source, the object of its code, and the steps that each run may take.
 #[derive(Clone, Copy)]
 struct Program<'a> {
     path: &'a str,
-    source: &'a [u8],
+    typed: &'a Typed,
     object: &'a [u8],
     steps: u32,
 }
@@ -178,7 +200,6 @@ fn test_program<F: Files>(
     answer: &mut Answer,
 )
     requires steps { program.steps ≤ 100000000 }
-    requires source { length program.source.now ≤ source_limit }
     requires object { length program.object.now ≤ object_limit }
     ensures held { F.held files.new ≡ F.held files.old }
 {
@@ -212,7 +233,6 @@ fn test_memory<F: Files>(
     answer: &mut Answer,
 )
     requires steps { program.steps ≤ 100000000 }
-    requires source { length program.source.now ≤ source_limit }
     requires object { length program.object.now ≤ object_limit }
     ensures held { F.held files.new ≡ F.held files.old }
 {
@@ -251,17 +271,11 @@ fn outcomes_on(
     answer: &mut Answer,
 ) -> Option<(Vec<u8>, Vec<u8>)>
     requires steps { program.steps ≤ 100000000 }
-    requires source { length program.source.now ≤ source_limit }
     requires object { length program.object.now ≤ object_limit }
     requires memory { length text.now ≤ memory_limit }
 {
     let steps = u64::from(program.steps);
-    let meant = text_of(
-        program,
-        path,
-        exec_bytes(alloc, program.source, text, steps),
-        answer,
-    )?;
+    let meant = text_of(program, path, reply_of(alloc, program, text), answer)?;
     let done = text_of(
         program,
         path,
@@ -277,6 +291,15 @@ fn outcomes_on(
             None
         }
     }
+}
+
+// What the interpreter answers.
+fn reply_of<'a>(alloc: Global, program: Program, text: &[u8]) -> Result<Reply, Refusal<'a>>
+    requires memory { length text.now ≤ memory_limit }
+{
+    let job = job_of(alloc, text, program.typed.params())?;
+    let steps = u64::from(program.steps);
+    Ok(exec_job(alloc, program.typed, job, steps)?)
 }
 
 fn text_of(

@@ -6,7 +6,7 @@ use Rattle.nv_ast.specs.TypedView.{typed_program}
 use Rattle.nova_front.specs.Sources.{IsTypedSource}
 use Rattle.nova_back.specs.Causes.{report_cost}
 use Rattle.nova_commands.specs.Generating.{MeansWord, generated_text}
-use Rattle.nova_commands.specs.declared.build.Compiled.{Compiled}
+use Rattle.nova_compile.specs.declared.build.Compiled.{Compiled}
 
 -- the program takes two words, and means some word on the arguments 1 and 2
 pub record HasWord (program : ProgramTree) : Type 0 where

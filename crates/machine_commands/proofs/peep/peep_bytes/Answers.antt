@@ -1,9 +1,8 @@
-use Rattle.std.proofs.Common.{◌≡◌, [], ◌∷◌, ℕ, length, refl, ap, ◌∙◌, subst}
+use Rattle.std.proofs.Common.{◌≡◌, ℕ, length, ap, ◌∙◌, subst}
 use Rattle.uc_isa.specs.Code.{CodeView}
 use Rattle.uc_isa.specs.Lawful.{IsLawful}
 use Rattle.uc_object.specs.Object.{code_of}
 use Rattle.command_line.specs.Lines.{peeped_text}
-use Rattle.machine_commands.specs.Saving.{File}
 use Rattle.machine_commands.proofs.peep.peep_bytes.Goals as goal
 
 pub shorter_object-requires : goal.shorter_object-requires
@@ -19,9 +18,9 @@ returns-clause-made c =
       lawful = subst (λ (v : CodeView). IsLawful v.list) c.code-code.ensures c.in_ok-check_lawful.ensures.lawful;
       q = c.in_ok-shorter.shorter;
       peeped = c.in_ok-shorter.ensures;
-      saved = c.in_ok-encode.field-0.items;
-      encoded = c.in_ok-encode.ensures.object;
-      done = refl;
-      saves = ap (λ (f : File). f ∷ []) c.in_ok-output.ensures.file;
-      told = c.in_ok-text.ensures ∙ ap (λ (n : ℕ). peeped_text n (length c.list-2.result.now)) before ∙ ap (λ (n : ℕ). peeped_text (length (code_of c.in_ok-object.object).list) n) after;
+      saved = c.in_ok-bytes.bytes.items;
+      encoded = c.in_ok-bytes.ensures.object;
+      done = c.in_ok-one.ensures.status;
+      saves = c.in_ok-one.ensures.saves;
+      told = c.in_ok-one.ensures.text ∙ c.in_ok-text.ensures ∙ ap (λ (n : ℕ). peeped_text n (length c.list-2.result.now)) before ∙ ap (λ (n : ℕ). peeped_text (length (code_of c.in_ok-object.object).list) n) after;
     }

@@ -3,7 +3,7 @@ use Rattle.nv_ast.specs.Tree.{ProgramTree}
 use Rattle.uc_object.specs.Object.{IsTaggedObject}
 use Rattle.zo_cert.specs.Contents.{report_contents}
 use Rattle.zo_cert.specs.ReportText.{report_text}
-use Rattle.nova_commands.specs.Naming.{source_exceptions}
+use Rattle.nova_compile.specs.Naming.{source_exceptions}
 use Rattle.nova_commands.proofs.CompileResults.{code-found}
 use Rattle.nova_commands.proofs.compile.code_made.Goals as goal
 

@@ -1,4 +1,4 @@
-use Rattle.nova_commands.proofs.Formed.{form-of}
+use Rattle.nova_compile.proofs.Formed.{form-of}
 use Rattle.nova_commands.proofs.OneSource.{pass-front}
 use Rattle.nova_commands.proofs.count.form_of.Goals as goal
 

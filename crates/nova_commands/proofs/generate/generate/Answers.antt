@@ -2,7 +2,7 @@ use Rattle.std.proofs.Common.{List, [], ℕ, ◌∙◌, length, refl, subst}
 use Rattle.std.proofs.lemmas.Result.{err_from_is_err_and}
 use Rattle.nv_ast.specs.TypedView.{typed_program}
 use Rattle.command_line.specs.Limits.{slots_limit, budget_default, store_limit}
-use Rattle.nova_commands.specs.inner.CompileOutcome.{IsBuilt}
+use Rattle.nova_compile.specs.inner.Parts.{IsBuilt}
 use Rattle.nova_commands.proofs.Generated.{made-short, made-refused, made-room, made-word, generated-by}
 use Rattle.nova_commands.proofs.generate.generate.Goals as goal
 

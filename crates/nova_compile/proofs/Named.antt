@@ -11,8 +11,8 @@ use Rattle.nv_ast.specs.Exceptions.{exceptions}
 use Rattle.nv_ast.specs.ProgramView.{decl_tree}
 use Rattle.nv_ast.specs.Tree.{DeclTree}
 use Rattle.nv_ast.proofs.Items.{next_item}
-use Rattle.command_line.specs.Limits.{source_limit}
-use Rattle.nova_commands.specs.Naming.{exceptions_in}
+use Rattle.nv_text.specs.Limits.{source_limit}
+use Rattle.nova_compile.specs.Naming.{exceptions_in}
 
 -- a declaration further
 pub exceptions-turn : (text : List ℕ) (decls : List Decl) (i : ℕ) (d : Decl) (now new whole : List (ℕ × List ℕ)) → i < length decls → d ≡ get_or decls i d

@@ -1,6 +1,6 @@
 use Rattle.std.proofs.Common.{arith}
-use Rattle.nova_commands.proofs.Named.{exceptions-turn, exceptions-done}
-use Rattle.nova_commands.proofs.naming.declared.Goals as goal
+use Rattle.nova_compile.proofs.Named.{exceptions-turn, exceptions-done}
+use Rattle.nova_compile.proofs.naming.declared.Goals as goal
 
 pub loop-decl-preserved : goal.loop-decl-preserved
 loop-decl-preserved c = (

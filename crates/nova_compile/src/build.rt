@@ -1,5 +1,5 @@
 //! From the text of a program to its code.
-ghost use Rattle.std.specs.Prelude.{◌≡◌, ◌≤◌, ◌⊎◌, length, IfOk, IfErr, MatchResult};
+ghost use Rattle.std.specs.Prelude.{◌≡◌, ◌≤◌, ◌⊎◌, [], length, IfOk, IfErr, MatchResult};
 ghost use Rattle.nv_text.specs.Limits.{source_limit};
 ghost use Rattle.nv_ast.specs.Tree.{ProgramTree};
 ghost use Rattle.nv_ast.specs.TypedView.{typed_program};
@@ -12,8 +12,8 @@ ghost use Rattle.nova_back.specs.Memory.{IsWithinBound};
 ghost use Rattle.nova_back.specs.Placed.{IsPlacedBy};
 ghost use Rattle.nova_front.specs.Sources.{IsTypedSource};
 ghost use Rattle.nova_middle.specs.Reduced.{IsMadeOfReduced};
-ghost use Rattle.nova_commands.specs.Building.{IsCompileCause, IsFormCause, IsTextCause};
-ghost use Rattle.nova_commands.specs.Forms.{form_bound, IsCodeFor, IsBoundedFormOf, HasBanks};
+ghost use Rattle.nova_compile.specs.Building.{IsCompileCause, IsFormCause, IsTextCause};
+ghost use Rattle.nova_compile.specs.Forms.{form_bound, IsCodeFor, IsBoundedFormOf, HasBanks};
 
 use label_weights::Weights;
 use nova_back::{BackError, Built, back};
@@ -52,7 +52,7 @@ pub enum CompileError {
 }
 
 impl From<NoMemory> for CompileError {
-    ghost use Rattle.nova_commands.specs.declared.build.CompileError.TheVariants.{NoMemory as WantOfMemory};
+    ghost use Rattle.nova_compile.specs.declared.build.CompileError.TheVariants.{NoMemory as WantOfMemory};
 
     ghost from_gives = { λ _ e. e ≡ WantOfMemory };
 
@@ -62,7 +62,7 @@ impl From<NoMemory> for CompileError {
 }
 
 impl From<FrontError> for CompileError {
-    ghost use Rattle.nova_commands.specs.inner.Telling.{IsPassedAs};
+    ghost use Rattle.nova_compile.specs.inner.Passing.{IsPassedAs};
 
     ghost from_gives = { IsPassedAs };
 
@@ -77,7 +77,7 @@ impl From<FrontError> for CompileError {
 }
 
 impl From<BackError> for CompileError {
-    ghost use Rattle.nova_commands.specs.inner.Telling.{IsHandedAs};
+    ghost use Rattle.nova_compile.specs.inner.Passing.{IsHandedAs};
 
     ghost from_gives = { IsHandedAs };
 
@@ -90,6 +90,13 @@ impl From<BackError> for CompileError {
             BackError::StoreFull(length) => CompileError::StoreFull(length),
         }
     }
+}
+
+/// Where there are no weights, each label weighs 1.
+pub fn no_weights(alloc: Global) -> Weights
+    ensures { result ≡ [] }
+{
+    Weights::new(Vec::new(alloc))
 }
 
 /// Compiles a text of at most 262,144 bytes to code of at most `store` instructions, with each value in the banks that the

@@ -40,11 +40,11 @@ use Rattle.nova_back.proofs.Cheapest.{cheapest-of}
 use Rattle.nova_back.specs.Causes.{IsCodeOf, AreStartsOf, IsReportOn, IsCheapFor, IsWithout, HasLargeProgram, IsCause, IsLong, HasVector, report_cost}
 use Rattle.nova_back.specs.declared.error.BackError.{BackError}
 use Rattle.nova_back.specs.declared.error.BackError.TheVariants as back
-use Rattle.nova_commands.specs.Building.{IsFormCause}
-use Rattle.nova_commands.specs.Forms.{form_bound, IsCodeFor, IsBoundedFormOf, HasBanks, HasLargeBanks, HasNoBanks, HasLongCode}
-use Rattle.nova_commands.specs.inner.Telling.{IsHandedAs}
-use Rattle.nova_commands.specs.declared.build.CompileError.{CompileError}
-use Rattle.nova_commands.specs.declared.build.CompileError.TheVariants as compile
+use Rattle.nova_compile.specs.Building.{IsFormCause}
+use Rattle.nova_compile.specs.Forms.{form_bound, IsCodeFor, IsBoundedFormOf, HasBanks, HasLargeBanks, HasNoBanks, HasLongCode}
+use Rattle.nova_compile.specs.inner.Passing.{IsHandedAs}
+use Rattle.nova_compile.specs.declared.build.CompileError.{CompileError}
+use Rattle.nova_compile.specs.declared.build.CompileError.TheVariants as compile
 
 -- ---- a program's main counts, so its size is at least 1
 

@@ -4,10 +4,10 @@ use Rattle.nv_ast.specs.Tree.{ProgramTree}
 use Rattle.nv_text.specs.Program.{FaultOf}
 use Rattle.nova_front.specs.Sources.{IsUntyped, IsLarge}
 use Rattle.zo_cert.specs.declared.report.Verdict.TheVariants as verdict
-use Rattle.nova_commands.specs.Forms.{HasLargeBanks, HasNoBanks, HasLongCode}
-use Rattle.nova_commands.specs.Reading.{HasTyped}
-use Rattle.nova_commands.specs.declared.build.CompileError.{CompileError}
-use Rattle.nova_commands.specs.declared.build.CompileError.TheVariants as compile
+use Rattle.nova_compile.specs.Forms.{HasLargeBanks, HasNoBanks, HasLongCode}
+use Rattle.nova_compile.specs.Programs.{HasTyped}
+use Rattle.nova_compile.specs.declared.build.CompileError.{CompileError}
+use Rattle.nova_compile.specs.declared.build.CompileError.TheVariants as compile
 
 -- the text has this fault, or its program has a fault of its types or is too large
 abbrev pub IsTextCause : List ℕ → CompileError → Type 0

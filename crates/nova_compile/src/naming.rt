@@ -3,8 +3,8 @@ ghost use Rattle.std.specs.Prelude.{◌≡◌, ◌≤◌, ◌<◌, ◌^◌, ◌�
 ghost use Rattle.nv_ast.specs.ProgramView.{decl_tree, program_of};
 ghost use Rattle.nv_ast.specs.Tree.{DeclTree};
 ghost use Rattle.line_text.specs.LineColumn.{line_at};
-ghost use Rattle.command_line.specs.Limits.{source_limit};
-ghost use Rattle.nova_commands.specs.Naming.{exceptions_in, source_exceptions};
+ghost use Rattle.nv_text.specs.Limits.{source_limit};
+ghost use Rattle.nova_compile.specs.Naming.{exceptions_in, source_exceptions};
 
 use line_text::line_after;
 use nv_ast::{Decl, Name, Program};

@@ -1,8 +1,8 @@
 use Rattle.std.proofs.Common.{◌≡◌, ◌++◌, map, drop}
 use Rattle.nv_ast.specs.ProgramView.{decl_tree}
 use Rattle.line_text.specs.LineColumn.{line_at}
-use Rattle.nova_commands.specs.Naming.{exceptions_in}
-use Rattle.nova_commands.proofs.naming.declared.Given as goal
+use Rattle.nova_compile.specs.Naming.{exceptions_in}
+use Rattle.nova_compile.proofs.naming.declared.Given as goal
 
 abbrev pub invariant-loop-decl : goal.invariant-loop-decl
 invariant-loop-decl l =

@@ -1,8 +1,8 @@
 use Rattle.std.proofs.Common.{◌∙◌, ap, subst, IfOk}
 use Rattle.uc_object.specs.Object.{IsTaggedObject}
 use Rattle.uc_object.specs.Tagged.{TaggedView}
-use Rattle.nova_commands.proofs.CompileResults.{with_exceptions}
-use Rattle.nova_commands.proofs.compile.object_of.Goals as goal
+use Rattle.nova_compile.proofs.Objects.{with_exceptions}
+use Rattle.nova_compile.proofs.object.object_of.Goals as goal
 
 pub returns : goal.returns
 returns c =

@@ -1,0 +1,5 @@
+pub mod Building
+pub mod Forms
+pub mod Naming
+pub mod Programs
+pub mod inner

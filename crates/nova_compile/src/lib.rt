@@ -1,0 +1,11 @@
+//! The driver of the compiler: `compile_text` leads from a text to its code and the report on its banks, `object_of` from
+//! code to its object.
+#![tactic(auto)]
+
+mod build;
+mod naming;
+mod object;
+
+pub use build::{CompileError, Compiled, compile_text, no_weights};
+pub use label_weights::Weights;
+pub use object::object_of;
