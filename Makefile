@@ -1,6 +1,6 @@
 # What people type. The proofs are checked by Rattle's command `rt`, which has to be on the path.
 PREFIX ?= /usr/local
-PROGRAMS = nova novac nova_forms
+PROGRAMS = nova novac
 BUILT = $(foreach it,$(PROGRAMS),crates/$(it)/out/$(it))
 
 .PHONY: all test rows check bench install clean

@@ -23,6 +23,7 @@ pub fn push_help(out: &mut Message, verb: Option<Verb>) {
         Some(Verb::Check) => push_lines(out, &CHECK),
         Some(Verb::Test) => push_lines(out, &TEST),
         Some(Verb::Page) => push_lines(out, &PAGE),
+        Some(Verb::Forms) => push_lines(out, &FORMS),
         Some(Verb::Explain) => push_lines(out, &EXPLAIN),
         Some(Verb::Help) => out.line(
             "nova help [COMMAND]: prints the options of a command, or all commands.",
@@ -39,7 +40,7 @@ fn push_lines(out: &mut Message, lines: &[&str]) {
     }
 }
 
-const USAGE: [&str; 20] = [
+const USAGE: [&str; 21] = [
     "nova compiles, runs, tests and explains programs of Nova, a language for packets.",
     "",
     "  nova build SRC [-o OBJ] ..     compiles a source and saves its object",
@@ -48,6 +49,7 @@ const USAGE: [&str; 20] = [
     "  nova check SRC ..              prints where sources are refused, what may be wrong with them, and how large they are",
     "  nova test SRC-or-FOLDER ..     runs sources on the memory texts beside them, and compares the outcomes",
     "  nova page SRC [MEM]            makes a page of HTML on a source and its code",
+    "  nova forms SRC [FORM]          prints the forms between the source and its code",
     "  nova explain CODE              prints what a refusal means, as `nova explain type 14`",
     "  nova help [COMMAND]            prints the options of a command",
     "  nova --version                 prints the version",
@@ -145,6 +147,18 @@ const PAGE: [&str; 11] = [
     "  --steps N        how many steps the run may take, 1 to 100000000; by default 1000000",
     "",
     "The status is 1 where the source or the memory text is refused. How the run ended doesn't change it.",
+];
+
+const FORMS: [&str; 9] = [
+    "nova forms SRC [FORM]",
+    "",
+    "Prints the forms that the compiler makes of the source SRC one after the other, or one of them: `flat` (words and",
+    "functions), `lowered` (each place that code goes on to has a label), `inlined` (one function), `closed` (labels that see",
+    "their parameters alone), `contracted` (labels are merged), `simplified` (after all passes on flows), `single` (each value",
+    "is used once; beside each line are its point and what is live there), or `measures` (the points of the single-use form,",
+    "and its greatest numbers).",
+    "",
+    "The status is 1 where the source is refused.",
 ];
 
 const EXPLAIN: [&str; 4] = [

@@ -9,8 +9,8 @@ use nova_words::Check;
 use nv_outside::Files;
 use std::alloc::Global;
 
-// The most bytes of a source that are looked at: more than a source may have, so that it is told as a fault of the source.
-const MOST: u64 = 16_777_216;
+/// The most bytes of a source that are looked at: more than a source may have, so that it is told as a fault of the source.
+pub const MOST: u64 = 16_777_216;
 
 /// Says of sources where they are refused, or what may be wrong with them and how large they are.
 pub fn check<F: Files>(alloc: Global, files: &mut F, words: &Check, answer: &mut Answer)

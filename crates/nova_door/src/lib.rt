@@ -8,6 +8,7 @@ mod check;
 mod compare;
 mod compiled;
 mod folders;
+mod forms;
 mod found;
 mod listing;
 mod page;

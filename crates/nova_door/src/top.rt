@@ -5,6 +5,7 @@ ghost use Rattle.nova_words.specs.Limits.{HasLimits, MaySave, Saves};
 use crate::build::build;
 use crate::check::check;
 use crate::folders::Folders;
+use crate::forms::print_forms;
 use crate::listing::list;
 use crate::page::make_page;
 use crate::simulation::simulate_program;
@@ -72,6 +73,7 @@ fn perform<F: Files, D: Folders>(
         Command::Run(words) => return simulate_program(alloc, files, words, answer),
         Command::Page(words) => return make_page(alloc, files, words, answer),
         Command::List(name) => list(alloc, files, name, answer),
+        Command::Forms(words) => print_forms(alloc, files, words, answer),
         Command::Check(words) => {
             check(alloc, files, &words, answer);
             drop(words)

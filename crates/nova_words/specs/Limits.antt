@@ -2,7 +2,7 @@
 use Rattle.std.specs.Prelude.{◌≡◌, ◌≢◌, ◌≤◌, ◌⊎◌, ℕ, All, List, MatchOption, None, Some, String, slice_get, string_bytes, codes, ⊤}
 use Rattle.std.specs.Global.{Global}
 use Rattle.nova_words.specs.declared.command.Command.{Command}
-use Rattle.nova_words.specs.declared.command.Command.TheVariants.{Build, Run, List as ListCommand, Check, Test, Page, Explain, Help, Version}
+use Rattle.nova_words.specs.declared.command.Command.TheVariants.{Build, Run, List as ListCommand, Check, Test, Page, Forms, Explain, Help, Version}
 use Rattle.nova_words.specs.declared.command.Build.{Build as BuildWords}
 use Rattle.nova_words.specs.declared.verb.Verb.{Verb}
 use Rattle.nova_words.specs.declared.verb.Verb.TheVariants as verb
@@ -49,6 +49,7 @@ name_of verb.List = codes "list"
 name_of verb.Check = codes "check"
 name_of verb.Test = codes "test"
 name_of verb.Page = codes "page"
+name_of verb.Forms = codes "forms"
 name_of verb.Explain = codes "explain"
 name_of verb.Help = codes "help"
 name_of verb.Version = codes "version"
@@ -69,6 +70,7 @@ IsCalled word (ListCommand name) = word ≡ codes "list"
 IsCalled word (Check c) = word ≡ codes "check"
 IsCalled word (Test t) = word ≡ codes "test"
 IsCalled word (Page p) = word ≡ codes "page"
+IsCalled word (Forms f) = word ≡ codes "forms"
 IsCalled word (Explain words) = word ≡ codes "explain"
 IsCalled word (Help None) = AsksHelp word ⊎ (word ≡ codes "help")
 IsCalled word (Help (Some verb)) = (word ≡ name_of verb) ⊎ (word ≡ codes "help")

@@ -78,6 +78,14 @@ pub struct Page<'a> {
     pub steps: u32,
 }
 
+/// What `forms` is asked for.
+#[derive(Clone, Copy)]
+pub struct Forms<'a> {
+    pub source: &'a str,
+    /// The name of one form, or all are printed.
+    pub form: Option<&'a str>,
+}
+
 /// What `test` is asked for.
 #[derive(Drop)]
 pub struct Test<'a> {
@@ -97,6 +105,7 @@ pub enum Command<'a> {
     Check(Check<'a>),
     Test(Test<'a>),
     Page(Page<'a>),
+    Forms(Forms<'a>),
     /// The words that a page is called by.
     Explain(&'a [String]),
     /// Of one command, or of all.
@@ -190,6 +199,7 @@ fn command_in<'a>(
         Verb::Check => check_in(alloc, parts),
         Verb::Test => test_in(alloc, parts),
         Verb::Page => page_in(parts),
+        Verb::Forms => forms_in(parts),
         Verb::Explain => explain_in(parts, words),
         Verb::Help => help_in(parts),
         Verb::Version => Ok(Command::Version),
@@ -286,6 +296,23 @@ fn page_in<'a>(parts: &Parts<'a>) -> Result<Command<'a>, WordFault<'a>>
         output: parts.value(Setting::Output),
         steps,
     }))
+}
+
+fn forms_in<'a>(parts: &Parts<'a>) -> Result<Command<'a>, WordFault<'a>>
+    ensures limits { IfOk result HasLimits }
+    ensures some { IfOk result AllowsSome }
+    ensures numbers { IfOk result (HasNumbers parts.now.given.items) }
+    ensures called { IfOk result (IsCalled (codes "forms")) }
+    ensures asks { IfOk result (λ c. IsHelp c → ⊥) }
+    ensures refused { IfErr result (IsFaultAt (name_of parts.now.verb)) }
+{
+    parts.check_names(2)?;
+    let source = parts.name(0, "SRC")?;
+    let form = match parts.names.get(1) {
+        Some(name) => Some(*name),
+        None => None,
+    };
+    Ok(Command::Forms(Forms { source, form }))
 }
 
 fn test_in<'a>(alloc: Global, parts: &Parts<'a>) -> Result<Command<'a>, WordFault<'a>>

@@ -14,19 +14,21 @@ pub enum Verb {
     Check,
     Test,
     Page,
+    Forms,
     Explain,
     Help,
     Version,
 }
 
 /// All commands, in the order of the help.
-pub const VERBS: [Verb; 9] = [
+pub const VERBS: [Verb; 10] = [
     Verb::Build,
     Verb::Run,
     Verb::List,
     Verb::Check,
     Verb::Test,
     Verb::Page,
+    Verb::Forms,
     Verb::Explain,
     Verb::Help,
     Verb::Version,
@@ -44,6 +46,7 @@ impl Verb {
             Verb::Check => "check",
             Verb::Test => "test",
             Verb::Page => "page",
+            Verb::Forms => "forms",
             Verb::Explain => "explain",
             Verb::Help => "help",
             Verb::Version => "version",
@@ -73,7 +76,7 @@ impl Verb {
             Verb::Check => &CHECK,
             Verb::Test => &TEST,
             Verb::Page => &PAGE,
-            Verb::List | Verb::Explain | Verb::Help | Verb::Version => &OTHER,
+            Verb::List | Verb::Forms | Verb::Explain | Verb::Help | Verb::Version => &OTHER,
         }
     }
 

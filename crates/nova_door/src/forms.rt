@@ -1,66 +1,26 @@
-// From a source to the pages of its forms.
+//! The command `forms`: from a source to the text of its forms.
 
-ghost use Rattle.std.specs.Prelude.{◌≡◌, ◌≤◌, length, IfSome};
-ghost use Rattle.nova_forms.specs.Exit.{exit_code};
+ghost use Rattle.std.specs.Prelude.{◌≡◌};
 
+use crate::check::MOST;
+use crate::compiled::push_refused;
 use cps_close::close;
 use cps_inline::inline;
 use cps_lower::lower;
 use flat_ir::FlatProgram;
 use flow_contract::contract;
 use ir_printer::{Page, print_cps, print_flat, print_flow, print_measures, print_single_use};
+use nova_answers::{Answer, Ending, load};
 use nova_front::{FrontError, front};
 use nova_middle::{middle, to_flow};
+use nova_words::Forms;
 use nv_base::NoMemory;
-use nv_outside::{Files, Loaded};
-use nv_text::MOST_BYTES;
-use std::alloc::{AllocError, Global};
+use nv_outside::Files;
+use std::alloc::Global;
 
-/// Why nothing was printed.
-#[derive(Clone, Copy, Drop)]
-pub enum Failure {
-    /// The words are no command.
-    Words,
-    /// The source can't be read.
-    Read,
-    /// The output failed.
-    Output,
-    /// Memory ran out.
-    Memory,
-    /// The text isn't a typed program of limited size.
-    Source,
-}
-
-impl Failure {
-    /// The program's exit code.
-    pub fn code(self) -> u8
-        ensures { result ≡ exit_code self }
-    {
-        match self {
-            Failure::Words => 2,
-            Failure::Read => 3,
-            Failure::Output => 4,
-            Failure::Memory => 5,
-            Failure::Source => 6,
-        }
-    }
-}
-
-impl From<NoMemory> for Failure {
-    fn from(_error: NoMemory) -> Failure {
-        Failure::Memory
-    }
-}
-
-impl From<AllocError> for Failure {
-    fn from(_error: AllocError) -> Failure {
-        Failure::Memory
-    }
-}
-
-/// Which forms are to be printed.
-#[derive(Clone, Copy, Drop)]
-pub enum PrintedForms {
+// Which forms are to be printed.
+#[derive(Clone, Copy, PartialEq, Eq)]
+enum PrintedForms {
     All,
     Flat,
     Lowered,
@@ -72,17 +32,9 @@ pub enum PrintedForms {
     Measures,
 }
 
-/// What the words ask for, if they are a command: the first word is then a source.
-pub fn printed_forms_of(words: &[String]) -> Option<PrintedForms>
-    ensures { IfSome result (λ wanted. 1 ≤ length words.now) }
-{
-    if words.len() == 1 {
-        return Some(PrintedForms::All);
-    }
-    if words.len() != 2 {
-        return None;
-    }
-    match words[1].as_str() {
+// The form of this name.
+fn form_named(name: &str) -> Option<PrintedForms> {
+    match name {
         "flat" => Some(PrintedForms::Flat),
         "lowered" => Some(PrintedForms::Lowered),
         "inlined" => Some(PrintedForms::Inlined),
@@ -95,24 +47,40 @@ pub fn printed_forms_of(words: &[String]) -> Option<PrintedForms>
     }
 }
 
-/// The text of the wanted forms of the source of a file.
-pub fn pages<F: Files>(
-    alloc: Global,
-    files: &mut F,
-    source: &str,
-    wanted: PrintedForms,
-) -> Result<Vec<u8>, Failure> {
-    let mut bytes = Vec::new(alloc);
-    match files.load(source, MOST_BYTES as u64, &mut bytes) {
-        Loaded::Done => {}
-        Loaded::TooLong => return Err(Failure::Source),
-        Loaded::Failed => return Err(Failure::Read),
-        Loaded::NoMemory => return Err(Failure::Memory),
+/// Prints the forms of a source that the words ask for.
+pub fn print_forms<F: Files>(alloc: Global, files: &mut F, words: Forms, answer: &mut Answer)
+    ensures { F.held files.new ≡ F.held files.old }
+{
+    let wanted = match words.form {
+        None => Some(PrintedForms::All),
+        Some(name) => form_named(name),
+    };
+    let Some(wanted) = wanted else {
+        return push_no_form(words.form, answer);
+    };
+    if let Some(bytes) = load(alloc, files, words.source, MOST, answer) {
+        push_forms(alloc, words.source, &bytes, wanted, answer);
     }
-    match front(alloc, &bytes) {
-        Ok((_typed, program)) => forms_of(alloc, &program, wanted),
-        Err(FrontError::NoMemory) => Err(Failure::Memory),
-        Err(_) => Err(Failure::Source),
+}
+
+fn push_no_form(name: Option<&str>, answer: &mut Answer) {
+    answer.ending = Ending::BadWords;
+    answer.err.put("nova: error: there is no form ");
+    if let Some(name) = name {
+        answer.err.quoted(name.as_bytes());
+    }
+    answer.err.line("");
+    answer.err.line("`nova help forms` names them.")
+}
+
+fn push_forms(alloc: Global, name: &str, bytes: &[u8], wanted: PrintedForms, answer: &mut Answer) {
+    match front(alloc, bytes) {
+        Ok((_typed, program)) => match forms_of(alloc, &program, wanted) {
+            Ok(text) => answer.out.bytes(&text),
+            Err(NoMemory) => answer.fail(),
+        },
+        Err(FrontError::NoMemory) => answer.fail(),
+        Err(_) => push_refused(alloc, name, bytes, answer),
     }
 }
 
@@ -133,7 +101,7 @@ fn forms_of(
     alloc: Global,
     program: &FlatProgram,
     wanted: PrintedForms,
-) -> Result<Vec<u8>, Failure> {
+) -> Result<Vec<u8>, NoMemory> {
     let mut page = Page::new(alloc);
     if is_wanted(PrintedForms::Flat, wanted) {
         heading(&mut page, "flat", program.main);
@@ -160,7 +128,7 @@ fn put_continuations(
     page: &mut Page,
     program: &FlatProgram,
     wanted: PrintedForms,
-) -> Result<(), Failure> {
+) -> Result<(), NoMemory> {
     if !has_continuations(wanted) {
         return Ok(());
     }
