@@ -3,7 +3,7 @@ PREFIX ?= /usr/local
 PROGRAMS = nova novac
 BUILT = $(foreach it,$(PROGRAMS),crates/$(it)/out/$(it))
 
-.PHONY: all test rows check bench install clean
+.PHONY: all test rows try check bench install clean
 
 # Proves and builds the programs.
 all: $(BUILT)
@@ -16,9 +16,13 @@ $(BUILT):
 test:
 	.ci/run
 
-# The rows of tests/ on the programs as they are built.
+# The rows of tests/ on the programs as they are built; --build has rt build those that are lacking.
 rows: all
-	tests/run
+	tests/run --build
+
+# The programs without proof, for trying rows and for measuring: tests/run --programs out/unproved. This is no verdict.
+try:
+	bench/unproved
 
 # Proves one crate over what earlier checks kept: make check CRATE=uc_isa
 check:
@@ -36,4 +40,4 @@ install: all
 	install -m 644 editors/nova.bash $(DESTDIR)$(PREFIX)/share/bash-completion/completions/nova
 
 clean:
-	rm -rf crates/*/out
+	rm -rf crates/*/out out

@@ -72,9 +72,9 @@ def examples(top):
         text, output = read(top, f"examples/{file}"), read(top, f"examples/{name}.out")
         memory = "" if kind == ".report" else read(top, f"examples/{name}.mem")
         if kind == ".nova":
-            found.append(executed("examples", file, text, memory, 1000, status_of(output), output))
+            found.append(executed(f"examples/{file}", file, text, memory, 1000, status_of(output), output))
             continue
-        row = Row("examples", file)
+        row = Row(f"examples/{file}", file)
         row.files = {"t": text.encode(), "m": memory.encode()}
         row.calls = [Call(["check", "t"], 0, output.encode())]
         if kind == ".asm":
@@ -97,7 +97,7 @@ def handwritten(top):
             continue
         text, output = read(top, f"bench/handwritten/{file}"), read(top, f"examples/{name}.out")
         length = sum(not it.endswith(":") for it in text.split("\n")[1:-1])
-        row = Row("bench/handwritten", file)
+        row = Row(f"bench/handwritten/{file}", file)
         row.files = {"t": text.encode(), "m": read(top, f"examples/{name}.mem").encode()}
         row.calls = [Call(["asm", "t", "o"], 0, f"assembled {length}\n".encode(), {"o": ANY}), Call(["lint", "o"], 0, f"lawful {length}\n".encode())]
         row.calls.append(Call(["run", "o", "m", "steps=1000"], status_of(output), output.encode()))

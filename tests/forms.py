@@ -1,11 +1,13 @@
-"""Rows on `nova_forms`: what it prints of the examples is as kept in tests/forms/, and the printed flow and single-use form, run by
+"""Rows on `nova forms`: what it prints of the examples is as kept in tests/forms/, and the printed flow and single-use form, run by
 the interpreter below, come to the outcome of each example; and what is said of a few small sources."""
 import os
 import re
 import resource
 import subprocess
 
+from difference import difference
 from documents import blocks, read
+from rows import BESIDE
 
 MASK = 0xFFFFFFFF
 FORMS = ("flat", "lowered", "inlined", "closed", "contracted", "simplified", "single", "measures")
@@ -26,7 +28,7 @@ FORTY = "fun main[]: word { " + "".join(
 
 
 class FormsRow:
-    where = "tests/forms.py"
+    where, wants = "tests/forms.py", ("nova",)
 
     def __init__(self, name, body):
         self.name, self.body = name, body
@@ -35,19 +37,15 @@ class FormsRow:
         return self.body(at)
 
 
-def built(top):
-    """The program that the gate left, or else builds it."""
-    crate = os.path.join(top, "crates", "nova_forms")
-    program = os.path.join(crate, "out", "nova_forms")
-    if not os.path.isfile(program):
-        subprocess.run(["rt", "run", "--", "absent"], cwd=crate, capture_output=True)
-    return program
+def command(*words):
+    """The command line that prints the forms of a source, or one of them."""
+    return [BESIDE["nova"], "forms", *words]
 
 
-def printed(top, source, form=None):
-    ran = subprocess.run([built(top), source] + ([form] if form else []), capture_output=True, text=True, timeout=60)
+def printed(_top, source, form=None):
+    ran = subprocess.run(command(source, *([form] if form else [])), capture_output=True, text=True, timeout=60)
     if ran.returncode or ran.stderr:
-        raise OSError(f"nova_forms ends with {ran.returncode} {ran.stderr}")
+        raise OSError(f"nova forms ends with {ran.returncode} {ran.stderr}")
     return ran.stdout
 
 
@@ -178,8 +176,9 @@ def example(top, name):
     def differences(at):
         source, found = os.path.join(top, "examples", name + ".nova"), []
         with open(os.path.join(top, "tests", "forms", name + ".txt"), encoding="utf-8") as it:
-            if it.read() != printed(top, source):
-                found.append(f"the forms differ from tests/forms/{name}.txt")
+            kept, forms = it.read(), printed(top, source)
+        if kept != forms:
+            found.append(difference(f"the forms, of which tests/forms/{name}.txt is kept", kept.encode(), forms.encode(), is_exact=True))
         with open(os.path.join(top, "examples", name + ".mem"), encoding="utf-8") as it:
             text = it.read()
         with open(os.path.join(top, "examples", name + ".out"), encoding="utf-8") as it:
@@ -204,7 +203,10 @@ def worked(top):
         found = blocks(read(top, "docs/ARCHITECTURE.md"))
         source = [text for _, kind, text in found if kind == "nova"]
         forms = "".join(text for _, kind, text in found if kind == "forms")
-        return [] if len(source) == 1 and forms == of_text(top, at, source[0]) else ["the forms in docs/ARCHITECTURE.md differ"]
+        if len(source) != 1:
+            return [f"docs/ARCHITECTURE.md has {len(source)} sources"]
+        have = of_text(top, at, source[0])
+        return [] if forms == have else [difference("the forms in docs/ARCHITECTURE.md", forms.encode(), have.encode(), is_exact=True)]
 
     return differences
 
@@ -282,7 +284,7 @@ def deepest(top, text):
         with open(path, "w", encoding="utf-8") as it:
             it.write(text)
         for form in FORMS:
-            ran = subprocess.run([built(top), path, form], capture_output=True, timeout=60, preexec_fn=limited)
+            ran = subprocess.run(command(path, form), capture_output=True, timeout=60, preexec_fn=limited)
             if ran.returncode or ran.stderr or not ran.stdout:
                 found.append(f"{form}: status {ran.returncode}")
         return found
@@ -296,8 +298,8 @@ def refusals(top):
         with open(bad, "w", encoding="utf-8") as it:
             it.write("fun main[]: word {")
         found = []
-        for words, status in [([], 2), ([bad, "other"], 2), ([os.path.join(at, "absent")], 3), ([bad], 6)]:
-            ran = subprocess.run([built(top), *words], capture_output=True, timeout=60)
+        for words, status in [([], 2), ([bad, "other"], 2), ([os.path.join(at, "absent")], 1), ([bad], 1)]:
+            ran = subprocess.run(command(*words), capture_output=True, timeout=60)
             if ran.returncode != status or ran.stdout:
                 found.append(f"{words}: {ran.returncode}")
         return found

@@ -4,7 +4,10 @@ import re
 import shlex
 import subprocess
 
-SECONDS = 120
+from difference import difference, is_like
+
+# How long a call may take. On a busy machine a call of ten processor seconds took over a hundred.
+SECONDS = 600
 ABSENT, ANY = object(), object()
 
 
@@ -43,44 +46,27 @@ def value(text, top):
     return unescaped(text)
 
 
-def shown(data, limit=600):
-    """Bytes for a person."""
-    if data is ABSENT:
-        return "absent"
-    text = data[:limit].decode("utf-8", "backslashreplace")
-    text = text if text.endswith("\n") else text + " (no line's end)"
-    return ("\n| " + text.rstrip("\n").replace("\n", "\n| ") + ("\n| .." if len(data) > limit else "")).rstrip()
+# Programs beside novac that a call may name as its first word, and where those are that are built.
+NAMED = ("nova", "zo_bench")
+BESIDE = {}
 
 
-def is_like(wanted, found):
-    """Whether an output is as wanted: a line that ends with ' ..' goes on freely, elsewhere in a line '..' is any word, and after
-    a line '..' anything follows."""
-    if b".." not in wanted:
-        return wanted == found
-    pattern = b""
-    for line in wanted.split(b"\n")[:-1]:
-        if line == b"..":
-            return re.match(pattern + b"(.|\n)*", found) is not None
-        *words, last = line.split(b" ")
-        pattern += b"".join((b"[^ \n]+" if it == b".." else re.escape(it)) + b" " for it in words)
-        pattern += (b"[^\n]*" if words and last == b".." else re.escape(last)) + b"\n"
-    return re.fullmatch(pattern, found) is not None
-
-
-# Programs beside novac that a call may name as its first word: where they are.
-BESIDE = {"nova": "nova"}
+def program_of(words):
+    """The program that a call runs."""
+    return words[0] if words and words[0] in NAMED else "novac"
 
 
 def command(novac, words):
     """The command line of a call's words."""
-    beside = BESIDE.get(words[0]) if words else None
-    return [beside, *words[1:]] if beside else [novac, *words]
+    name = program_of(words)
+    return [novac, *words] if name == "novac" else [BESIDE.get(name, name), *words[1:]]
 
 
 class Call:
     """One run of the program and what has to come of it."""
 
-    def __init__(self, words, status=None, output=b"", saved=None, errors=b""):
+    def __init__(self, words, status=None, output=b"", saved=None, errors=b"", line=None):
+        self.line = line
         self.given = words[-1] if words[-2:-1] == ["<"] else None
         self.words = words[:-2] if self.given else words
         self.status, self.output, self.saved, self.errors = status, output, saved or {}, errors
@@ -89,8 +75,13 @@ class Call:
 class Row:
     """Files, and calls one after the other in a new folder that holds them."""
 
-    def __init__(self, where, name):
-        self.where, self.name, self.files, self.calls = where, name, {}, []
+    def __init__(self, where, name, line=None):
+        self.where, self.name, self.line, self.files, self.calls = where, name, line, {}, []
+
+    @property
+    def wants(self):
+        """The programs without which the row can't be tried."""
+        return {program_of(it.words) for it in self.calls}
 
     def differences(self, novac, folder):
         wanted = {name: data for name, data in self.files.items() if data is not ABSENT}
@@ -100,7 +91,8 @@ class Row:
         for call in self.calls:
             found = self.of_call(call, novac, folder, wanted)
             if found:
-                return [shlex.join(command("novac", call.words)), *found]
+                words = call.words if program_of(call.words) != "novac" else ["novac", *call.words]
+                return [f"$ {shlex.join(words)}" + (f" (line {call.line})" if call.line else ""), *found]
         return []
 
     def of_call(self, call, novac, folder, wanted):
@@ -110,9 +102,9 @@ class Row:
         if ran.returncode != call.status:
             found.append(f"status {ran.returncode}, wanted {call.status}")
         if call.output is not ANY and not is_like(call.output, ran.stdout):
-            found.append(f"output:{shown(ran.stdout)}\nwanted:{shown(call.output)}")
+            found.append(difference("output", call.output, ran.stdout))
         if call.errors is not ANY and not is_like(call.errors, ran.stderr):
-            found.append(f"standard error:{shown(ran.stderr)}\nwanted:{shown(call.errors)}")
+            found.append(difference("standard error", call.errors, ran.stderr))
         for name, data in call.saved.items():
             if data is ANY:
                 data = contents(folder).get(name, ABSENT)
@@ -125,8 +117,10 @@ class Row:
         have = contents(folder)
         for name in sorted({*wanted, *have}):
             one, other = have.get(name, ABSENT), wanted.get(name, ABSENT)
-            if one != other:
-                found.append(f"file {name}:{shown(one)}\nwanted:{shown(other)}")
+            if one is ABSENT or other is ABSENT:
+                found += [] if one is other else [f"file {name}: it {'is' if other is ABSENT else 'is not'} there"]
+            elif one != other:
+                found.append(difference(f"file {name}", other, one, is_exact=True))
         return found
 
 
@@ -179,7 +173,7 @@ class Reader:
         if not row.calls and not self.head.calls:
             self.refuse("a status without a call")
         if not row.calls:
-            row.calls.append(Call(self.head.calls[0].words))
+            row.calls.append(Call(self.head.calls[0].words, line=self.at))
         call = row.calls[-1]
         call.status = int(status)
         call.output = ANY if rest == ".." else ((unescaped(rest) + b"\n" if rest else b"") + self.block())
@@ -188,9 +182,9 @@ class Reader:
         match = re.match(r"(saved )?('[^']*'|[^ ':]+):(.*)", line)
         status = re.match(r"([0-9]+)(?: (.*))?$", line)
         if line.startswith("$ "):
-            row.calls.append(Call(shlex.split(line[2:])))
+            row.calls.append(Call(shlex.split(line[2:]), line=self.at))
         elif line == "$":
-            row.calls.append(Call([]))
+            row.calls.append(Call([], line=self.at))
         elif status:
             self.answer(row, status[1], status[2] or "")
         elif re.match(r"!( |$)", line):
@@ -207,7 +201,7 @@ class Reader:
         while self.at < len(self.lines):
             line = self.take()
             if line.startswith("== "):
-                row = Row(self.where, line[3:])
+                row = Row(self.where, line[3:], self.at)
                 row.files = dict(self.head.files)
                 found.append(row)
             elif line and not line.startswith("#"):
@@ -219,9 +213,10 @@ class Reader:
 
 
 def all_rows(top):
-    """The rows of tests/*.txt."""
+    """The rows of tests/*.txt, and those of tests/made/, which were made at random."""
     found = []
-    for name in sorted(it for it in os.listdir(os.path.join(top, "tests")) if it.endswith(".txt")):
-        with open(os.path.join(top, "tests", name), encoding="utf-8", newline="\n") as it:
-            found += Reader(f"tests/{name}", top, it.read()).rows()
+    for folder in ("tests", "tests/made"):
+        for name in sorted(it for it in os.listdir(os.path.join(top, folder)) if it.endswith(".txt")):
+            with open(os.path.join(top, folder, name), encoding="utf-8", newline="\n") as it:
+                found += Reader(f"{folder}/{name}", top, it.read()).rows()
     return found

@@ -8,6 +8,8 @@ import subprocess
 import threading
 import time
 
+from difference import difference
+
 SECONDS = 300
 NOBODY = 65534
 HALT = bytes.fromhex("0600000000000000")
@@ -63,9 +65,9 @@ class Folder:
         if ran.returncode != status:
             self.found.append(f"novac {words}: status {ran.returncode}, wanted {status}")
         if output is not None and ran.stdout != output.encode():
-            self.found.append(f"novac {words}: output {ran.stdout[:200]!r}, wanted {output[:200]!r}")
+            self.found.append(difference(f"novac {words}: output", output.encode(), ran.stdout, is_exact=True))
         if ran.stderr:
-            self.found.append(f"novac {words}: standard error {ran.stderr[:200]!r}")
+            self.found.append(difference(f"novac {words}: standard error", b"", ran.stderr, is_exact=True))
         return ran.stdout
 
     def holds(self, fact, what):
@@ -79,14 +81,14 @@ class Folder:
 
 
 class SystemRow:
-    where = "tests/system.py"
+    where, wants = "tests/system.py", ("novac",)
 
-    def __init__(self, name, body):
-        self.name, self.body = name, body
+    def __init__(self, name, body, given):
+        self.name, self.body, self.given = name, body, given
 
     def differences(self, novac, at):
         folder = Folder(novac, at)
-        self.body(folder)
+        self.body(folder, *self.given)
         return folder.found
 
 
@@ -95,7 +97,7 @@ ROWS = []
 
 def row(name, *given):
     def add(body):
-        ROWS.append(SystemRow(name, lambda it: body(it, *given)))
+        ROWS.append(SystemRow(name, body, given))
         return body
 
     return add

@@ -13,12 +13,14 @@ import tempfile
 import types
 import zipfile
 
+import edits
 import pages
+from difference import difference
 from rows import BESIDE, contents
 
 
 class ToolRow:
-    where = "tests/tools.py"
+    where, wants = "tests/tools.py", ()
 
     def __init__(self, name, body, top):
         self.name, self.body, self.top = name, body, top
@@ -30,7 +32,7 @@ class ToolRow:
 class ReportRow:
     """The report on an example's banks: a second checker says of it what novac says, and the moves of the code cost no more."""
 
-    where = "tests/tools.py"
+    where, wants = "tests/tools.py", ("novac",)
 
     def __init__(self, example, top):
         self.name, self.example, self.top = f"the report on {example}", os.path.join(top, "examples", example), top
@@ -50,7 +52,7 @@ class SameRow:
     """The object and the report that `nova build` saves of an example are those of `compile`, its summary counts what the listing
     marks, and `nova run` prints of the source and of the object what `run` does."""
 
-    where = "tests/tools.py"
+    where, wants = "tests/tools.py", ("novac", "nova")
 
     def __init__(self, example, top):
         self.name, self.example, self.top = f"nova on {example} as novac", os.path.join(top, "examples", example), top
@@ -69,7 +71,7 @@ class SameRow:
         counted = [f"{n} {what}{'' if n == 1 else 's'}" for n, what in zip(marks, ("move", "move", "literal", "spill"))]
         wanted = f"p: {compiled[1]} instructions, moves between banks cost {compiled[3]}, {verdict}\n"
         wanted += f"  of these {counted[0]} between banks, {counted[1]} within a bank, {counted[2]}, {counted[3]}\n"
-        found += [] if built == wanted else [f"{built!r}, wanted {wanted!r}"]
+        found += [] if built == wanted else [difference("the summary", wanted.encode(), built.encode(), is_exact=True)]
         alone = "".join(it for it in listing.splitlines(True) if not it.startswith("        ; "))
         found += [] if alone == said(nova, "list", "o") else ["the listing of the source isn't that of the object"]
         ran = said(novac, "run", "o", memory, "steps=1000000")
@@ -80,7 +82,7 @@ class PageRow:
     """The page that `nova page` saves of an example and its memory text has the source, the listing and the outcome. A browser, where one
     is there, runs its script without a fault, and colours as many moves, literals and spills as the listing has."""
 
-    where = "tests/tools.py"
+    where, wants = "tests/tools.py", ("nova",)
 
     def __init__(self, example, top):
         self.name, self.example = f"the page on {example}", os.path.join(top, "examples", example)
@@ -96,7 +98,7 @@ class PageRow:
         blocks = {name: html.unescape(text) for name, text in re.findall(r'<pre id="(\w+)">(.*?)</pre>', page, re.S)}
         with open(self.example, encoding="utf-8") as it:
             wanted = {"name": self.example, "source": it.read(), "listing": said(nova, "list", "o"), "outcome": said(nova, "run", "o", memory)}
-        found = [f"{name}: {blocks.get(name)!r}, wanted {text!r}" for name, text in wanted.items() if blocks.get(name) != text]
+        found = [difference(f"the page's {name}", text.encode(), blocks.get(name, "").encode(), is_exact=True) for name, text in wanted.items() if blocks.get(name) != text]
         return found + self.in_browser(blocks, at)
 
     def in_browser(self, blocks, at):
@@ -115,7 +117,7 @@ class PageRow:
 class SumRow:
     """The report on a sum has the sizes, costs, rows and vector that docs/CERTIFICATES.md tells of it."""
 
-    where, name = "tests/tools.py", "the report of docs/CERTIFICATES.md on a sum"
+    where, wants, name = "tests/tools.py", ("novac",), "the report of docs/CERTIFICATES.md on a sum"
 
     def __init__(self, top):
         self.top = top
@@ -142,7 +144,7 @@ class MadeRow:
     """What `gen` says of a made source is what `compile` says of its text, and what `run` and `exec` come to on 1 and 2; and it says so
     twice."""
 
-    where = "tests/tools.py"
+    where, wants = "tests/tools.py", ("novac",)
 
     def __init__(self, seed, size, top):
         self.name, self.seed, self.size, self.top = f"gen {seed} {size} as by compile", seed, size, top
@@ -167,7 +169,7 @@ class CrowdedRow:
     """More words are held at once than fit registers, and there is one branch: the report says that there are no banks, or that they
     weren't found. Which of the two no contract fixes."""
 
-    where, name = "tests/tools.py", "one branch for forty words without slots"
+    where, wants, name = "tests/tools.py", ("novac",), "one branch for forty words without slots"
 
     def __init__(self, top):
         self.top = top
@@ -192,7 +194,7 @@ class CrowdedRow:
 class PacketRow:
     """The code of a program of bench/packets comes to the outcome of its meaning, and the report on it is true."""
 
-    where = "tests/tools.py"
+    where, wants = "tests/tools.py", ("novac",)
 
     def __init__(self, source, top):
         self.name, self.source = f"the code of bench/packets/{source}", os.path.join(top, "bench", "packets", source)
@@ -225,15 +227,14 @@ class SearchRow:
     """The verdict of a 0-1 program, its cost, and at how many branches. No contract fixes how long a search is; a change of it has to be
     seen."""
 
-    where = "tests/tools.py"
+    where, wants = "tests/tools.py", ("zo_bench", "novac")
 
     def __init__(self, program, top):
         self.name, self.program, self.top = f"the search of {program}", program, top
 
     def differences(self, novac, at):
-        solver = os.path.join(self.top, "crates", "zo_bench", "out", "zo_bench")
         program = os.path.join(self.top, "bench", "programs", f"{self.program}.zo")
-        status = subprocess.run([solver, program, "r"], cwd=at, capture_output=True, timeout=60).returncode
+        status = subprocess.run([BESIDE["zo_bench"], program, "r"], cwd=at, capture_output=True, timeout=60).returncode
         said = subprocess.run([novac, "check", "r"], cwd=at, capture_output=True, text=True, timeout=60).stdout.strip()
         with open(os.path.join(at, "r")) as it:
             branches = sum(row.startswith("b ") for row in it)
@@ -452,7 +453,7 @@ def named_files(top):
         text = without_blocks(read(top, name))
         for match in NAMED_FILE.finditer(text):
             it = (match[1] or match[2]).rstrip(".")
-            if it not in ends and "/out/" not in it and "-*" not in it:
+            if it not in ends and "/out/" not in it and not it.startswith("out/"):
                 found.append(f"{name}: {it} isn't there")
         sections = {re.sub(r"[^\w -]", "", it.lower()).replace(" ", "-") for it in re.findall(r"^#+ (.*)", text, re.M)}
         found += [f"{name}: #{it} isn't there" for it in re.findall(r"\]\(#([^)]*)\)", text) if it not in sections]
@@ -489,6 +490,24 @@ def walks_and_recipes(top):
         if not files and not recipe.startswith(("A form", "A rule")):
             found.append(f"a recipe without files: {recipe[:30]}")
     return found
+
+
+# What is wanted and what came, and lines that the difference has to show one below the other.
+SHOWN = [
+    (b"a\nbcd\n", b"a\nbxd\n", ["output: line 2, character 2 (- wanted, + found)", "  a", "- bcd", "+ bxd", "   ^"]),
+    (b"a .. c\n..\n", b"a b d\ne\n", ["output: line 1, character 5 (- wanted, + found)", "- a .. c", "+ a b d", "      ^"]),
+    (b"a ..\nb\n", b"a 1\n", ["output: line 2 (- wanted, + found)", "  a 1", "- b", "  ^"]),
+    (b"a\n", b"a", ["output: line 1, character 2 (- wanted, + found)", "- a", "+ a (no line's end)", "   ^"]),
+    (b"x\n" * 500 + b"a\n", b"x\n" * 500 + b"b\n", ["output: line 501, character 1 (- wanted, + found)", "  (497 lines alike)", "  x", "  x", "  x", "- a", "+ b", "  ^"]),
+    (b"x" * 500 + b"a\n", b"x" * 500 + b"b\n", ["output: line 1, character 501 (- wanted, + found)", "- (447 characters) .. " + "x" * 53 + "a", "+ (447 characters) .. " + "x" * 53 + "b", " " * 75 + "^"]),
+    (b"\0\1", b"\0\2", ["output: byte 1 of 2, wanted 2 (- wanted, + found)", "- 00000000  00 01", "+ 00000000  00 02", " " * 16 + "^"]),
+]
+
+
+def shown_differences(_top):
+    """A difference begins with its place, has both lines whole or their parts round the place, and a mark below it."""
+    said = [(difference("output", wanted, found).split("\n"), lines) for wanted, found, lines in SHOWN]
+    return [f"{have}, wanted {lines}" for have, lines in said if have != lines]
 
 
 def there_and_back(top):
@@ -584,6 +603,8 @@ def all_rows(top):
     rows += [("what has to be believed is listed in docs/PROOFS.md", believed_as_made), ("each public function has a clause or a reason", pinned_or_told)]
     rows += [("README has short lines and sentences", readable), ("the files that the pages name are there", named_files), ("the walks and recipes of docs/ARCHITECTURE.md", walks_and_recipes)]
     rows += [("a packet's hex dump and back", there_and_back), ("forms of hex dumps", dumps), ("nothing stands twice that didn't", nothing_new_twice), ("capture files", captures), ("tables from a CSV file", tables)]
+    rows += [("each must-fail edit has its old text once", edits.stale), ("the gate's edits are few", edits.too_many), ("tests/mutants has edits of crates that are there", edits.misplaced)]
+    rows += [("a difference is shown with its place", shown_differences)]
     sources = sorted(it for it in os.listdir(os.path.join(top, "examples")) if it.endswith(".nova"))
     packets = sorted(it for it in os.listdir(os.path.join(top, "bench", "packets")) if it.endswith(".nova"))
     made = [PacketRow(it, top) for it in packets] + [MadeRow(seed, size, top) for seed, size in ((0, 2), (1, 60), (0, 500))]
