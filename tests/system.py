@@ -157,6 +157,46 @@ def sizes():
 
 sizes()
 
+
+def lets():
+    """Blocks of many lets. The first kind has an expanded size of 3 for each let, and 5 besides; the second one of 7 for each, and 8
+    besides."""
+
+    def tried(it, text, size, given):
+        it.put("s", text.encode())
+        it.put("m", NO_MEMORY)
+        if size <= 4096:
+            outcome = f"ended {given:08x}\nwrites 0\nmemory 0 0\n"
+            it.runs("exec s m steps=1", 0, outcome)
+            it.runs("compile s o r", 0)
+            it.runs("run o m steps=10000", 0, outcome)
+        else:
+            it.runs("exec s m steps=1", 8, f"too large {size}\n")
+            it.runs("compile s o r", 8, f"too large {size}\n")
+
+    for count, size in ((1363, 4094), (1364, 4097)):
+        text = "fun main[]: word {" + " let _ = 7;" * count + " 8 }"
+        row(f"{count:,} lets that bind nothing", text, size, 8)(tried)
+    for count, size in ((580, 4068), (600, 4208)):
+        text = "fun main[]: word { let x = 1;" + " let x = x + 1;" * count + " x }"
+        row(f"{count:,} lets of one name", text, size, 1 + count)(tried)
+
+
+lets()
+
+
+@row("of 70 writes the first 64 are shown, and all are counted")
+def many_writes(it):
+    it.put("s", b"fun put[i: word]: word { if (i == 70) i else sram(i) <- i; put[i + 1] } fun main[]: word { put[0] }")
+    it.put("m", b"memory 70 0\nargs\n")
+    shown = "".join(f"write sram {at} {at:08x}\n" for at in range(64))
+    held = "".join(f"sram {at} " + " ".join(f"{k:08x}" for k in range(at, min(at + 8, 70))) + "\n" for at in range(0, 70, 8))
+    outcome = f"ended 00000046\nwrites 70\n{shown}memory 70 0\n{held}"
+    it.runs("exec s m steps=100", 0, outcome)
+    it.runs("compile s o r", 0)
+    it.runs("run o m steps=10000", 0, outcome)
+
+
 # Megabytes
 
 
