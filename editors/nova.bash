@@ -1,7 +1,7 @@
 # Completion of nova's words for bash.
 _nova() {
     local word=${COMP_WORDS[COMP_CWORD]} before=${COMP_WORDS[COMP_CWORD - 1]} command=${COMP_WORDS[1]}
-    local commands="build check explain help list page run test version"
+    local commands="build check explain forms help list page run test version"
     COMPREPLY=()
     if [ "$COMP_CWORD" -eq 1 ]; then
         COMPREPLY=($(compgen -W "$commands --help --version" -- "$word"))

@@ -289,28 +289,76 @@ def add_nova_call(row, base, words, output):
     row.calls[-1].errors = ANY
 
 
+# Pages whose command lines are called.
+CALLED = ("README.md", "docs/COMMANDS.md")
+
+
 def command_lines(top):
-    """README: each line of a block of kind `sh` that calls the program, built or by `rt`; a block of kind `outcome` is the
-    whole output of the last one."""
+    """Each block of kind `sh` of these pages is a row: its lines that call the program, built or by `rt`, one after the other; a block
+    of kind `outcome` is the whole output of the last one."""
     found = []
-    for first, kind, text in blocks(read(top, "README.md")):
-        if kind == "outcome":
-            found[-1].calls[-1].output = text.encode()
-        for line in text.split("\n") if kind == "sh" else []:
-            call = re.search(r"(?:out/(novac|nova)|cd crates/(novac|nova) && rt (?:run|try) --) ([^)]*)", line)
-            if not call:
-                continue
-            row = Row(f"README.md:{first}", call[3])
-            # `rt` runs in the folder of the program's crate.
-            base = os.path.join(top, "crates", call[2]) if call[2] else top
-            add = add_nova_call if "nova" in (call[1], call[2]) else add_call
-            add(row, base, [it.removeprefix("$PWD/") for it in call[3].split()], ANY)
-            if row.calls[-1].words[1:2] == ["list"]:
-                row.calls = found[-1].calls + row.calls
-                row.files = found[-1].files
-            found.append(row)
+    for name in CALLED:
+        for first, kind, text in blocks(read(top, name)):
+            if kind == "outcome":
+                found[-1].calls[-1].output = text.encode()
+            row = Row(f"{name}:{first}", "command lines")
+            for line in text.split("\n") if kind == "sh" else []:
+                call = re.search(r"(?:out/(novac|nova)|cd crates/(novac|nova) && rt (?:run|try) --) ([^)]*)", line)
+                if call:
+                    # `rt` runs in the folder of the program's crate.
+                    base = os.path.join(top, "crates", call[2]) if call[2] else top
+                    add = add_nova_call if "nova" in (call[1], call[2]) else add_call
+                    add(row, base, [it.removeprefix("$PWD/") for it in call[3].split()], ANY)
+            found += [row] if row.calls else []
+    return found
+
+
+# Pages with sessions: what is typed, and what is printed then.
+SESSIONS = ("README.md", "docs/TOUR.md", "docs/MEMORY.md")
+
+
+def slipped(source, printed):
+    """The source with the line that an error shows in place of its own."""
+    place, shown = re.match(r"[^:]*:([0-9]+):[0-9]+: error: .*\n    (.*)\n", printed).groups()
+    lines = source.split("\n")
+    lines[int(place) - 1] = shown
+    return "\n".join(lines)
+
+
+def add_session(row, top, source, memory, text):
+    """The calls of one block: `$ nova ..`, and below it all that is printed. A source that isn't there yet is the page's last one,
+    with the line that an error shows; a memory text is the page's last one, or an example's."""
+    for part in re.split(r"^\$ ", text, flags=re.M)[1:]:
+        line, _, printed = part.partition("\n")
+        words = line.split()
+        refused = re.match(r"[^\n]*: error: ", printed) is not None
+        for it in words[2:]:
+            if it.endswith(".nova") and it not in row.files:
+                row.files[it] = (slipped(source, printed) if refused else source).encode()
+            elif it.endswith(".mem") and it not in row.files:
+                row.files[it] = (memory or read(top, f"examples/{it}")).encode()
+        saved = {it: ANY for it in re.findall(r"^(\S+\.(?:obj|html)): ", printed, re.M)}
+        status = 1 if refused or re.match("raised|fault|going", printed) else 0
+        row.calls.append(Call(words, status, b"" if refused else printed.encode(), saved, printed.encode() if refused else ANY))
+
+
+def sessions(top):
+    """Each block of kind `console` of these pages goes on where the one before ended, up to the next source."""
+    found = []
+    for name in SESSIONS:
+        row, source, memory = None, "", ""
+        for first, kind, text in blocks(read(top, name)):
+            if kind == "nova":
+                row, source = None, text
+            elif kind == "memory":
+                memory = text
+            elif kind == "console":
+                if not row:
+                    row = Row(f"{name}:{first}", "what is typed and printed")
+                    found.append(row)
+                add_session(row, top, source, memory, text)
     return found
 
 
 def all_rows(top):
-    return [row for of in (examples, handwritten, language, idioms, weights, machine, certificates, faults, command_lines) for row in of(top)]
+    return [row for of in (examples, handwritten, language, idioms, weights, machine, certificates, faults, command_lines, sessions) for row in of(top)]

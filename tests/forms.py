@@ -197,16 +197,16 @@ def example(top, name):
 
 
 def worked(top):
-    """The forms in docs/ARCHITECTURE.md are those of the source above them."""
+    """The forms in docs/TOUR.md are those of the source above them."""
 
     def differences(at):
-        found = blocks(read(top, "docs/ARCHITECTURE.md"))
+        found = blocks(read(top, "docs/TOUR.md"))
         source = [text for _, kind, text in found if kind == "nova"]
         forms = "".join(text for _, kind, text in found if kind == "forms")
         if len(source) != 1:
-            return [f"docs/ARCHITECTURE.md has {len(source)} sources"]
+            return [f"docs/TOUR.md has {len(source)} sources"]
         have = of_text(top, at, source[0])
-        return [] if forms == have else [difference("the forms in docs/ARCHITECTURE.md", forms.encode(), have.encode(), is_exact=True)]
+        return [] if forms == have else [difference("the forms in docs/TOUR.md", forms.encode(), have.encode(), is_exact=True)]
 
     return differences
 
@@ -313,7 +313,7 @@ def all_rows(top):
     rows += [("each of eight words that are used twice has two clones", clones(top)), ("a loop has two labels, and no jump to the first", loop(top))]
     rows += [("labels that nothing leads to are left out", reached(top))]
     rows += [("a call names its handlers, the nearest first", handlers(top)), ("forty values are held at once", forty(top))]
-    rows += [("the forms in docs/ARCHITECTURE.md", worked(top))]
+    rows += [("the forms in docs/TOUR.md", worked(top))]
     rows += [("words, files and sources that are refused", refusals(top))]
     rows += [(f"each form in 8 MiB of stack: {name}", deepest(top, text)) for name, text in DEEPEST.items()]
     return [FormsRow(name, body) for name, body in rows]

@@ -212,6 +212,25 @@ class PacketRow:
         return [] if good else [f"{status} {line!r}, {checked}, {ran}, wanted {meant}"]
 
 
+class SizesRow:
+    """docs/LANGUAGE.md tells between which numbers the lines and the expanded sizes of bench/packets are."""
+
+    where, wants, name = "tests/tools.py", ("nova",), "the sizes of bench/packets in docs/LANGUAGE.md"
+
+    def __init__(self, top):
+        self.top = top
+
+    def differences(self, novac, at):
+        folder = os.path.join(self.top, "bench", "packets")
+        sources = [os.path.join(folder, it) for it in os.listdir(folder) if it.endswith(".nova")]
+        ran = subprocess.run([BESIDE["nova"], "check", *sources], cwd=at, capture_output=True, text=True, timeout=60).stdout
+        sizes = [int(it) for it in re.findall(r"expanded size ([0-9]+) of", ran)]
+        lines = [read(folder, it).count("\n") for it in sources]
+        told = re.search(r"have ([0-9,]+) to ([0-9,]+) lines, and expanded sizes of ([0-9,]+) to ([0-9,]+)\.", read(self.top, "docs/LANGUAGE.md")).groups()
+        wanted = (min(lines), max(lines), min(sizes), max(sizes))
+        return [] if tuple(int(it.replace(",", "")) for it in told) == wanted and len(sizes) == len(sources) else [f"{told}, wanted {wanted}"]
+
+
 # Of six programs of bench/programs what the search says of each, and how many branches it takes.
 SEARCHES = {
     "bank-sum0-60": ("optimal 2", 1),
@@ -352,14 +371,14 @@ def quickfix(top):
 
 
 def man_as_made(top):
-    """The man pages are as docs/man/make makes them of README."""
+    """The man pages are as docs/man/make makes them of docs/COMMANDS.md."""
     files = module(top, "docs/man/make").files()
     return [f"docs/man/{name} is to be written again by docs/man/make" for name, text in files.items() if read(top, f"docs/man/{name}") != text]
 
 
 # What a completion has to offer behind these words, of which the last is begun.
 COMPLETIONS = [
-    ("nova ", "build check explain help list page run test version --help --version"),
+    ("nova ", "build check explain forms help list page run test version --help --version"),
     ("nova b", "build"),
     ("nova build --s", "--slots --store"),
     ("nova build -", "--budget --help --json --report --slots --store --weights -o"),
@@ -372,7 +391,7 @@ COMPLETIONS = [
 
 
 def completion(top):
-    """The completion for bash offers the commands and the options of README's tables."""
+    """The completion for bash offers the commands and the options of docs/COMMANDS.md."""
     found = []
     for line, wanted in COMPLETIONS:
         words = line.split(" ")
@@ -380,10 +399,10 @@ def completion(top):
         ran = subprocess.run(["bash", "-c", script, "bash", f"{top}/editors/nova.bash", *words], capture_output=True, text=True, stdin=subprocess.DEVNULL)
         if sorted(ran.stdout.split()) != sorted(wanted.split()) or ran.stderr:
             found.append(f"{line!r}: {ran.stdout.split()} {ran.stderr}")
-    text = read(top, "README.md")
+    text = read(top, "docs/COMMANDS.md")
     told = {it for it in re.findall(r"^\| `(--?[a-z]+)[ `]", text, re.M)} | set(re.findall(r"`nova ([a-z]+)", text)) | set(re.findall(r"`nova (--[a-z]+)`", text))
     offered = {it for _, wanted in COMPLETIONS for it in wanted.split()}
-    return found + [f"README tells {it}, and no completion offers it" for it in sorted(told - offered)]
+    return found + [f"docs/COMMANDS.md tells {it}, and no completion offers it" for it in sorted(told - offered)]
 
 
 def pages_as_made(top):
@@ -409,7 +428,10 @@ def nothing_new_twice(top):
     return [] if ran.returncode == 0 else [it for it in ran.stdout.split("\n") if it.startswith(("NEW", "GONE", "NO REASON"))] + [ran.stderr]
 
 
-LONGEST_LINE, LONGEST_SENTENCE = 160, 30
+LONGEST_LINE, LONGEST_SENTENCE, USUAL_SENTENCE = 160, 30, 18
+# Pages for everybody, whose sentences are all short; and pages whose sentences are short on average.
+SHORT_PAGES = ("README.md", "docs/COMMANDS.md", "docs/MEMORY.md", "docs/TOUR.md", "docs/TESTING.md")
+PLAIN_PAGES = tuple(f"docs/{it}.md" for it in ("ARCHITECTURE", "FAULTS", "FORMS", "GLOSSARY", "IDIOMS", "LANGUAGE", "MACHINE", "PROOFS", "RECIPES", "WEIGHTS"))
 NAMED_FILE = re.compile(
     r"`([\w./+-]+\.(?:rt|antt|md|py|txt|asm|report|vim|json))`|\b((?:crates|docs|tests|bench|examples|editors)/[\w./+-]*\w)"
 )
@@ -420,16 +442,33 @@ def without_blocks(text):
 
 
 def plain_sentences(text):
-    """The sentences of a page, those of tables cell by cell."""
-    blocks = [it.split("|") if it.startswith("|") else [it] for it in re.split(r"\n\s*\n", without_blocks(text))]
-    return [it for block in blocks for cell in block for it in re.split(r"(?<=[.?!])\s+", cell)]
+    """The sentences of a page, those of lists item by item, and those of tables cell by cell."""
+    items = re.split(r"\n\s*\n|\n *(?:-|[0-9]+\.) ", re.sub(r"^    .*$", "", without_blocks(text), flags=re.M))
+    parts = [it.split("|") if it.startswith("|") else [it] for it in items]
+    return [it for part in parts for cell in part for it in re.split(r"(?<=[.?!])\s+", cell)]
 
 
 def readable(top):
-    """README has short lines and sentences."""
+    """README has short lines. Pages for everybody have no long sentence, and the others short ones on average; what is made by a script
+    and fragments of one or two words don't count."""
     text = read(top, "README.md")
     found = [f"README.md, line {number}: {len(it)} characters" for number, it in enumerate(text.split("\n"), 1) if len(it) > LONGEST_LINE]
-    return found + [f"README.md: {len(it.split())} words: {it}" for it in plain_sentences(text) if len(it.split()) > LONGEST_SENTENCE]
+    for name in SHORT_PAGES + PLAIN_PAGES:
+        text = read(top, name).split("<!-- from here on by")[0]
+        sentences = [it for it in plain_sentences(text) if len(it.split()) > 2]
+        longer = [it for it in sentences if len(it.split()) > LONGEST_SENTENCE] if name in SHORT_PAGES else []
+        found += [f"{name}: {len(it.split())} words: {it}" for it in longer]
+        usual = sum(len(it.split()) for it in sentences) / len(sentences)
+        found += [f"{name}: {usual:.1f} words a sentence"] if usual > USUAL_SENTENCE else []
+    return found
+
+
+def words_of_the_field(top):
+    """Each word of the last table of docs/GLOSSARY.md is in docs/FORMS.md or docs/ARCHITECTURE.md, where the thing is explained."""
+    explained = (read(top, "docs/FORMS.md") + read(top, "docs/ARCHITECTURE.md")).lower()
+    rows = re.findall(r"^\| ([^|]*) \|", section(read(top, "docs/GLOSSARY.md"), "From the field's words"), re.M)
+    words = [word for row in rows if row not in ("Elsewhere", "---") for word in row.split(", ")]
+    return [f"no page explains {it}" for it in words if it.lower() not in explained] + ([] if len(words) > 15 else ["no words"])
 
 
 def tracked(top):
@@ -465,35 +504,34 @@ def section(text, title):
     return re.search(rf"^## {re.escape(title)}$(.*?)(?=^## |\Z)", text, re.M | re.S)[1]
 
 
-def walks_and_recipes(top):
-    """Of docs/ARCHITECTURE.md: each call of the walk from bytes to bytes is a function of a file beside it, each file of a line
-    of code has a word of its step, and each recipe names files by their crates, which are there."""
+RECIPE_FILE = re.compile(r"`(\w+/(?:src|specs|proofs)/[\w/]+\.(?:rt|antt))`")
+
+
+def code_of(top, files, found):
+    """The text of files of crates; what isn't there is added to `found`."""
+    there = [it for it in files if os.path.isfile(os.path.join(top, "crates", it))]
+    found.extend(f"crates/{it} isn't there" for it in files if it not in there)
+    return "\n".join(read(top, f"crates/{it}") for it in there)
+
+
+def walks(top):
+    """Of docs/ARCHITECTURE.md: each call of the walk from bytes to bytes is a function of a file beside it, and each file of a line
+    of code has a word of its step."""
     page, found = read(top, "docs/ARCHITECTURE.md"), []
-
-    def code_of(files):
-        there = [it for it in files if os.path.isfile(os.path.join(top, "crates", it))]
-        found.extend(f"crates/{it} isn't there" for it in files if it not in there)
-        return "\n".join(read(top, f"crates/{it}") for it in there)
-
     for line in re.findall(r"^\| (`.*)$", section(page, "From a source byte to an object byte"), re.M):
         calls, files = line.split(" | ")[:2]
-        code = code_of(re.findall(r"`([\w/]+\.rt)`", files))
+        code = code_of(top, re.findall(r"`([\w/]+\.rt)`", files), found)
         found += [f"no function of {files} is {it}" for it in re.findall(r"`(\w+)`", calls) if not re.search(rf"\bfn {it}\b", code)]
     for step in re.split(r"^[0-9]+\. ", section(page, "A line of code"), flags=re.M)[1:]:
         for file in re.findall(r"`([\w/]+\.rt)`", step):
-            code = code_of([file])
+            code = code_of(top, [file], found)
             if not any(re.search(rf"\b{it}\b", code) for it in re.findall(r"`(\w+)", step)):
                 found.append(f"{file} has no word of its step")
-    for recipe in re.split(r"^- \*\*", section(page, "How to add"), flags=re.M)[1:]:
-        files = re.findall(r"`(\w+/(?:src|specs|proofs)/[\w/]+\.(?:rt|antt))`", recipe)
-        code_of(files)
-        if not files and not recipe.startswith(("A form", "A rule")):
-            found.append(f"a recipe without files: {recipe[:30]}")
     return found
 
 
 # What is wanted and what came, and lines that the difference has to show one below the other.
-SHOWN = [
+MARKED = [
     (b"a\nbcd\n", b"a\nbxd\n", ["output: line 2, character 2 (- wanted, + found)", "  a", "- bcd", "+ bxd", "   ^"]),
     (b"a .. c\n..\n", b"a b d\ne\n", ["output: line 1, character 5 (- wanted, + found)", "- a .. c", "+ a b d", "      ^"]),
     (b"a ..\nb\n", b"a 1\n", ["output: line 2 (- wanted, + found)", "  a 1", "- b", "  ^"]),
@@ -506,8 +544,99 @@ SHOWN = [
 
 def shown_differences(_top):
     """A difference begins with its place, has both lines whole or their parts round the place, and a mark below it."""
-    said = [(difference("output", wanted, found).split("\n"), lines) for wanted, found, lines in SHOWN]
+    said = [(difference("output", wanted, found).split("\n"), lines) for wanted, found, lines in MARKED]
     return [f"{have}, wanted {lines}" for have, lines in said if have != lines]
+
+
+def layers(top):
+    """Each crate is in one row of the layers of docs/ARCHITECTURE.md or below them, and stands on crates of its row and of later rows."""
+    page, found = section(read(top, "docs/ARCHITECTURE.md"), "Layers"), []
+    rows = [re.findall(r"`(\w+)`", it.split("|")[2]) for it in page.split("\n") if it.startswith("| ")]
+    level = {crate: at for at, row in enumerate(rows) for crate in row}
+    beside = set(re.findall(r"`(\w+)`", re.sub(r"^\|.*\n", "", page, flags=re.M)))
+    for crate, below in re.findall(r"^(\w+):(.*)$", read(top, "crates.txt"), re.M):
+        found += [] if crate in level or crate in beside else [f"{crate} is in no layer"]
+        found += [f"{crate} stands on {it}, which is above it" for it in below.split() if level.get(it, len(rows)) < level.get(crate, 0)]
+    return found + [f"crates/{it} isn't there" for it in level if not os.path.isdir(os.path.join(top, "crates", it))]
+
+
+def recipes_of(top):
+    """The recipes of docs/RECIPES.md by their titles."""
+    parts = re.split(r"^## (.*)$", read(top, "docs/RECIPES.md"), flags=re.M)
+    return dict(zip(parts[1::2], parts[2::2]))
+
+
+def recipes(top):
+    """The recipes name files that are there."""
+    found = []
+    for title, text in recipes_of(top).items():
+        files = RECIPE_FILE.findall(text)
+        code_of(top, files, found)
+        if not files and title != "A form":
+            found.append(f"a recipe without files: {title}")
+    return found
+
+
+# By recipe, the types of whose variants each has to be named where all are.
+VARIANTS = [
+    ("An instruction", "crates/uc_isa/src/instruction.rt", "Instr"),
+    ("An expression", "crates/nv_ast/src/tree.rt", "Kind"),
+    ("An expression", "crates/nv_ast/specs/Tree.antt", "Tree"),
+    ("A column of the bank program", "crates/bank_form/src/column.rt", "Column"),
+    ("A command of novac", "crates/command_line/src/command.rt", "Command"),
+    ("A command of nova", "crates/nova_words/src/verb.rt", "Verb"),
+    ("A warning", "crates/explain_warnings/src/warning.rt", "Cause"),
+]
+# Crates of tests and worked examples, which show some variants and have no arm for each.
+SHOWN = re.compile(r"test_|worked_examples|command_laws")
+
+
+def without_comments(text, path):
+    return re.sub(r"--.*" if path.endswith(".antt") else r"//.*", "", text)
+
+
+def code_files(top):
+    """The files of src/ and specs/ of the crates, each with its text without comments."""
+    found = {}
+    for folder, _, files in os.walk(os.path.join(top, "crates")):
+        path = os.path.relpath(folder, os.path.join(top, "crates"))
+        if re.match(r"\w+/(src|specs)\b", path) and not SHOWN.match(path):
+            names = [f"{path}/{it}" for it in files if it.endswith((".rt", ".antt"))]
+            found |= {it: without_comments(read(top, f"crates/{it}"), it) for it in names}
+    return found
+
+
+def variants_of(top, path, name):
+    """The variants of an enum, or the constructors of a type of the definitions."""
+    text = read(top, path)
+    if path.endswith(".antt"):
+        return re.findall(r"^ +(\w+) :", re.search(rf"data {name} :.*\n((?: +\w+ :.*\n)+)", text)[1], re.M)
+    return re.findall(r"^    ([A-Z]\w*)", re.search(rf"pub enum {name}\b[^{{]*{{\n(.*?)^}}", text, re.M | re.S)[1], re.M)
+
+
+def kinds_in(text):
+    """The kinds of type errors that a text names by number, but for the least, which other lists have too."""
+    if not re.search(r"match (self\.)?kind\b", text):
+        return set()
+    found = set(re.findall(r"\bkind [=!]= ([0-9]+)", text))
+    for arm in re.findall(r"^\s+((?:[0-9]+ \| )*[0-9]+) =>", text, re.M):
+        found |= set(arm.split(" | "))
+    return {it for it in found if 6 < int(it) < 25}
+
+
+def complete_recipes(top):
+    """A recipe names each file that has all variants of what it adds one to. In code a variant is named behind its type; in
+    definitions a constructor stands by itself. Type errors have numbers: what has six of them has to be named."""
+    found, texts, named = [], code_files(top), {title: set(RECIPE_FILE.findall(it)) for title, it in recipes_of(top).items()}
+    for title, path, name in VARIANTS:
+        wanted = variants_of(top, path, name)
+        found += [] if len(wanted) > 6 else [f"{path}: {name} has {len(wanted)} variants"]
+        for file, text in texts.items():
+            front = rf"\b{name}::" if file.endswith(".rt") else r"\b"
+            if file not in named[title] and all(re.search(rf"{front}{it}\b", text) for it in wanted):
+                found.append(f"'{title}' lacks {file}")
+    found += [f"'A type error' lacks {file}" for file, text in texts.items() if len(kinds_in(text)) >= 6 and file not in named["A type error"]]
+    return sorted(set(found))
 
 
 def there_and_back(top):
@@ -599,13 +728,14 @@ def all_rows(top):
     rows = [("each keyword is coloured by both editors' files", highlighting), ("the editors' files are as made", as_made)]
     rows += [("VS Code's problem matcher reads each fault", problems), ("Vim's errorformat reads each fault", quickfix)]
     rows += [("the pages of `nova explain` are those of docs/FAULTS.md", pages_as_made)]
-    rows += [("the man pages are those of README", man_as_made), ("completion for bash", completion)]
+    rows += [("the man pages are those of docs/COMMANDS.md", man_as_made), ("completion for bash", completion)]
     rows += [("what has to be believed is listed in docs/PROOFS.md", believed_as_made), ("each public function has a clause or a reason", pinned_or_told)]
-    rows += [("README has short lines and sentences", readable), ("the files that the pages name are there", named_files), ("the walks and recipes of docs/ARCHITECTURE.md", walks_and_recipes)]
+    rows += [("pages have short sentences, and README short lines", readable), ("the field's words are explained", words_of_the_field), ("the files that the pages name are there", named_files), ("the walks of docs/ARCHITECTURE.md", walks), ("the layers of docs/ARCHITECTURE.md", layers)]
+    rows += [("the recipes of docs/RECIPES.md name files that are there", recipes), ("no recipe of docs/RECIPES.md lacks a file", complete_recipes)]
     rows += [("a packet's hex dump and back", there_and_back), ("forms of hex dumps", dumps), ("nothing stands twice that didn't", nothing_new_twice), ("capture files", captures), ("tables from a CSV file", tables)]
     rows += [("each must-fail edit has its old text once", edits.stale), ("the gate's edits are few", edits.too_many), ("tests/mutants has edits of crates that are there", edits.misplaced)]
     rows += [("a difference is shown with its place", shown_differences)]
     sources = sorted(it for it in os.listdir(os.path.join(top, "examples")) if it.endswith(".nova"))
     packets = sorted(it for it in os.listdir(os.path.join(top, "bench", "packets")) if it.endswith(".nova"))
     made = [PacketRow(it, top) for it in packets] + [MadeRow(seed, size, top) for seed, size in ((0, 2), (1, 60), (0, 500))]
-    return [ToolRow(name, body, top) for name, body in rows] + [ReportRow(it, top) for it in sources] + [SameRow(it, top) for it in sources] + [PageRow("ttl.nova", top), PageRow("trie.nova", top)] + made + [CrowdedRow(top), SumRow(top)] + [SearchRow(it, top) for it in SEARCHES]
+    return [ToolRow(name, body, top) for name, body in rows] + [ReportRow(it, top) for it in sources] + [SameRow(it, top) for it in sources] + [PageRow("ttl.nova", top), PageRow("trie.nova", top)] + made + [CrowdedRow(top), SizesRow(top), SumRow(top)] + [SearchRow(it, top) for it in SEARCHES]

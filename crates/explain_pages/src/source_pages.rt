@@ -132,7 +132,7 @@ The tree of an expression, pattern, type or layout is certain to be higher than 
                 name: "too large",
                 text: r#"too large: of a source
 
-With status 8, `too large N` says one of four things (README.md). Of a source that is read and typed, N is its expanded size, which is at most 4,096.
+With status 8, `too large N` says one of four things (docs/COMMANDS.md). Of a source that is read and typed, N is its expanded size, which is at most 4,096.
 
     fun a[x: word]: word { x } fun b[x: word]: word { a[x] + a[x] }
     fun c[x: word]: word { b[x] + b[x] } fun d[x: word]: word { c[x] + c[x] }
