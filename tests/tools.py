@@ -408,7 +408,7 @@ def completion(top):
 def pages_as_made(top):
     """The pages of `nova explain` are those of docs/FAULTS.md."""
     made = pages.files(top).items()
-    return [f"{name} is to be written again by tests/pages.py" for name, text in made if read(top, f"crates/explain_pages/src/{name}") != text]
+    return [f"{name} is to be written again by tests/pages.py" for name, text in made if read(top, f"crates/diag_pages/src/{name}") != text]
 
 
 def believed_as_made(top):
@@ -582,13 +582,13 @@ VARIANTS = [
     ("An instruction", "crates/uc_isa/src/instruction.rt", "Instr"),
     ("An expression", "crates/nv_ast/src/tree.rt", "Kind"),
     ("An expression", "crates/nv_ast/specs/Tree.antt", "Tree"),
-    ("A column of the bank program", "crates/bank_form/src/column.rt", "Column"),
-    ("A command of novac", "crates/command_line/src/command.rt", "Command"),
+    ("A column of the bank program", "crates/bank_prog_form/src/column.rt", "Column"),
+    ("A command of novac", "crates/novac_words/src/command.rt", "Command"),
     ("A command of nova", "crates/nova_words/src/verb.rt", "Verb"),
-    ("A warning", "crates/explain_warnings/src/warning.rt", "Cause"),
+    ("A warning", "crates/diag_lint/src/warning.rt", "Cause"),
 ]
 # Crates of tests and worked examples, which show some variants and have no arm for each.
-SHOWN = re.compile(r"test_|worked_examples|command_laws")
+SHOWN = re.compile(r"test_|laws_examples|laws_commands")
 
 
 def without_comments(text, path):

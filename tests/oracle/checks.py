@@ -20,7 +20,7 @@ INPUTS = {
     "trace": 20, "runs": 80, "memory": 60, "objects": 60, "assembly": 80, "peep": 60, "contexts": 40, "schedules": 60, "reports": 120, "words": 80,
 }
 CHANGED = "mend"
-HEADLINE = "nova_commands/Headline:IsCompiled"
+HEADLINE = "novac_commands/Headline:IsCompiled"
 
 
 class OracleRow:

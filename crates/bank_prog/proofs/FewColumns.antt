@@ -6,12 +6,12 @@ use Rattle.ssu_ir.specs.Measures.{size}
 use Rattle.ssu_ir.specs.Points.{points}
 use Rattle.ssu_ir.specs.Tree.{Label}
 use Rattle.ssu_ir.proofs.PointLemmas.{total-from}
-use Rattle.placement.specs.Uses.{Access, accesses, ValueOrigin, Parameter, Result, Fetched, Value, values, Role, Operand, Address, Written, Argument, Ending, Use, uses, is_used}
-use Rattle.placement.specs.Fits.{is_result}
-use Rattle.bank_form.specs.declared.column.Bank.TheVariants.{A, B, M}
-use Rattle.bank_form.specs.declared.column.Column.{Column}
-use Rattle.bank_form.specs.declared.column.Column.TheVariants.{Dir, Fill, Stay, Ear, First, Srv, PasL, PasS}
-use Rattle.bank_form.specs.Columns.{Priced, origin_of, is_fetched, place_words, beginnings, role_beginnings, origin_beginnings, origin_defs, def_columns, dir_columns, fill_columns, stay_columns, ear_columns, first_columns, services, has_bank, srv_columns, for_eight, pas_l_columns, pas_s_columns, all_dirs, all_stays, all_ears, all_pas_l, all_pas_s, priced, columns}
+use Rattle.place_plan.specs.Uses.{Access, accesses, ValueOrigin, Parameter, Result, Fetched, Value, values, Role, Operand, Address, Written, Argument, Ending, Use, uses, is_used}
+use Rattle.place_plan.specs.Fits.{is_result}
+use Rattle.bank_prog_form.specs.declared.column.Bank.TheVariants.{A, B, M}
+use Rattle.bank_prog_form.specs.declared.column.Column.{Column}
+use Rattle.bank_prog_form.specs.declared.column.Column.TheVariants.{DirectWrite, Fill, Stay, EarlyWrite, First, Serve, ReadVia, WriteVia}
+use Rattle.bank_prog_form.specs.Columns.{Priced, origin_of, is_fetched, place_words, beginnings, role_beginnings, origin_beginnings, origin_defs, def_columns, dir_columns, fill_columns, stay_columns, ear_columns, first_columns, services, has_bank, srv_columns, for_eight, pas_l_columns, pas_s_columns, all_dirs, all_stays, all_ears, all_pas_l, all_pas_s, priced, columns}
 use Rattle.bank_prog.proofs.Lengths.{kept-few, if-few, flat-few, points-few, values-few, uses-few, begin-few, accesses-few, parts-few}
 
 -- ---- where an access may begin
@@ -43,8 +43,8 @@ origin-few x (Fetched m i) = omega arith
 dir-few : (labels : List Label) (n : ℕ) (u : Use) → length (dir_columns labels n u) ≤ 8
 dir-few labels n u =
     let rs = role_beginnings n u.role in
-    let put : List Priced = map (λ f. (Dir u.point u.operand f, 0)) rs in
-    if-few 8 (is_result (origin_of labels u.value)) put (map-few 8 (λ f. (Dir u.point u.operand f, 0)) rs (words-few n u.role))
+    let put : List Priced = map (λ f. (DirectWrite u.point u.operand f, 0)) rs in
+    if-few 8 (is_result (origin_of labels u.value)) put (map-few 8 (λ f. (DirectWrite u.point u.operand f, 0)) rs (words-few n u.role))
 
 fill-few : (labels : List Label) (v : Value) → length (fill_columns labels v) ≤ 3
 fill-few labels v = if-few 3 (is_used labels v.var) ((Fill v.var A, 1) ∷ (Fill v.var B, 1) ∷ (Fill v.var M, 17) ∷ []) (omega arith)
@@ -56,7 +56,7 @@ stay-few labels n v =
     if-few 8 (is_used labels v.var) kept (map-few 8 (λ f. (Stay v.var f, 0)) rs (fetches-few n v.origin))
 
 ear-few : (n : ℕ) (u : Use) → length (ear_columns n u) ≤ 8
-ear-few n u = map-few 8 (λ f. (Ear u.point u.operand f, 1)) (role_beginnings n u.role) (words-few n u.role)
+ear-few n u = map-few 8 (λ f. (EarlyWrite u.point u.operand f, 1)) (role_beginnings n u.role) (words-few n u.role)
 
 first-few : (a : Access) → length (first_columns a) ≤ 8
 first-few a = map-few 8 (λ f. (First a.point f, 0)) (beginnings a.mem a.words) (begin-few a.mem a.words)
@@ -74,7 +74,7 @@ srv-few labels u =
     let kept = filter (λ s. has_bank b s.from) (services u.role) in
     let a = kept-few (λ s. has_bank b s.from) (services u.role) in
     let c = services-few u.role in
-    map-few 12 (λ s. (Srv u.point u.operand s.from s.at, s.cost)) kept (omega (arith, a, c))
+    map-few 12 (λ s. (Serve u.point u.operand s.from s.at, s.cost)) kept (omega (arith, a, c))
 
 eight-few : (b : Bool) (column : ℕ → Column) → length (for_eight b column) ≤ 8
 eight-few true column = omega arith
@@ -110,8 +110,8 @@ columns_few labels =
     let firsts = flat-few 8 first_columns (accesses labels) first-few in
     let starts = accesses-few 0 ps in
     let srvs = flat-few 12 (srv_columns labels) us (srv-few labels) in
-    let ls = points-few 8 pas_l_columns 0 ps (λ k q. eight-few _ (PasL k)) in
-    let ss = points-few 8 (pas_s_columns labels) 0 ps (λ k q. eight-few _ (PasS k)) in
+    let ls = points-few 8 pas_l_columns 0 ps (λ k q. eight-few _ (ReadVia k)) in
+    let ss = points-few 8 (pas_s_columns labels) 0 ps (λ k q. eight-few _ (WriteVia k)) in
     let sizes = parts-few 0 ps in
     let whole = total-from 0 labels in
     omega (arith, all, parts, defs, dirs, fills, stays, ears, firsts, starts, srvs, ls, ss, sizes, whole)

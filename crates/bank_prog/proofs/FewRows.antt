@@ -8,14 +8,14 @@ use Rattle.ssu_ir.specs.Points.{PointKind, Entry, At, Point, points}
 use Rattle.ssu_ir.specs.Single.{single}
 use Rattle.ssu_ir.specs.Tree.{Lit, Una, Bin, Clone, Read, Write, Label, Does, Forks, Ends}
 use Rattle.ssu_ir.proofs.PointLemmas.{total-from}
-use Rattle.placement.specs.Uses.{accesses, reads_at, Value, values, values_from, place_values, Role, Operand, Address, Written, Argument, Ending, Use, uses, uses_from, uses_of, is_used, place_roles}
-use Rattle.placement.specs.Fits.{is_result, point_values}
-use Rattle.placement.proofs.Joined.{values-different}
-use Rattle.bank_form.specs.declared.column.Column.TheVariants.{Def, Fill, Stay, First}
-use Rattle.bank_form.specs.declared.column.Bank.TheVariants.{M}
-use Rattle.bank_form.specs.Columns.{each_point, origin_of, is_fetched, point_uses, place_words, role_beginnings, origin_beginnings, services}
-use Rattle.bank_form.specs.Rows.{Line, covers, exactly_one, def, dir, is_parameter, is_written, parameter_choice, result_choice, access_choice, use_choice, one_choice, served_stay, use_cover, copy_lines, word_from_register, copy_cover, argument_lines, argument_cover, homes_cover, two_operands, pair_lines, operand_lines, operand_banks, room_lines, capacity, read_owners, access_owners, fill_owners, write_owners, owners, stay_begins, word_begins, begins_at, adjacency, is_slot, slot_read, slot_written, result_written, value_written, passes, lines}
-use Rattle.bank_form.specs.Program.{row_of, number_of, rows, IsTooLarge}
+use Rattle.place_plan.specs.Uses.{accesses, reads_at, Value, values, values_from, place_values, Role, Operand, Address, Written, Argument, Ending, Use, uses, uses_from, uses_of, is_used, place_roles}
+use Rattle.place_plan.specs.Fits.{is_result, point_values}
+use Rattle.place_plan.proofs.Joined.{values-different}
+use Rattle.bank_prog_form.specs.declared.column.Column.TheVariants.{Def, Fill, Stay, First}
+use Rattle.bank_prog_form.specs.declared.column.Bank.TheVariants.{M}
+use Rattle.bank_prog_form.specs.Columns.{each_point, origin_of, is_fetched, point_uses, place_words, role_beginnings, origin_beginnings, services}
+use Rattle.bank_prog_form.specs.Rows.{Line, covers, exactly_one, def, dir, is_parameter, is_written, parameter_choice, result_choice, access_choice, use_choice, one_choice, served_stay, use_cover, copy_lines, word_from_register, copy_cover, argument_lines, argument_cover, homes_cover, two_operands, pair_lines, operand_lines, operand_banks, room_lines, capacity, read_owners, access_owners, fill_owners, write_owners, owners, stay_begins, word_begins, begins_at, adjacency, is_slot, slot_read, slot_written, result_written, value_written, passes, lines}
+use Rattle.bank_prog_form.specs.Program.{row_of, number_of, rows, IsTooLarge}
 use Rattle.bank_prog.proofs.Lengths.{kept-few, if-few, flat-few, points-few, accesses-few, parts-few}
 use Rattle.bank_prog.proofs.FewColumns.{words-few, fetches-few, map-few, services-few, columns_few}
 use Rattle.bank_prog.proofs.UseSums.{sum_of, sum-ones, of_value, by_value, each-once}

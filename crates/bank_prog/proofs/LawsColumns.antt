@@ -5,12 +5,12 @@ use Rattle.std.specs.List.{Contains}
 use Rattle.std.proofs.lemmas.Bool.{false≢true}
 use Rattle.ssu_ir.specs.Tree.{Label}
 use Rattle.zo_model.specs.Program.{vector}
-use Rattle.bank_form.specs.declared.column.Column.{Column}
-use Rattle.bank_form.specs.Columns.{columns}
+use Rattle.bank_prog_form.specs.declared.column.Column.{Column}
+use Rattle.bank_prog_form.specs.Columns.{columns}
 use Rattle.bank_prog.specs.Meaning.{number_on, on}
-use Rattle.bank_form.specs.Program.{same_column, number_in}
-use Rattle.bank_form.proofs.Keys.{column-true}
-use Rattle.bank_form.proofs.Itself.{column-itself}
+use Rattle.bank_prog_form.specs.Program.{same_column, number_in}
+use Rattle.bank_prog_form.proofs.Keys.{column-true}
+use Rattle.bank_prog_form.proofs.Itself.{column-itself}
 
 number-there : (x : ℕ → Bool) (j : ℕ) (ds : List Column) (c : Column) → number_on x (number_in j ds c) ≡ true → Contains ds c
 number-there x j [] c e = absurd (false≢true e)

@@ -2,18 +2,18 @@
 use Rattle.std.proofs.Common.{◌≡◌, ℕ, zero, suc, ◌+◌, ◌*◌, Bool, true, if◌then◌else◌, List, [], ◌∷◌, map, length, Some, refl, sym, ap, ◌∙◌, arith}
 use Rattle.ssu_ir.specs.Tree.{Label}
 use Rattle.ssu_ir.specs.Single.{single}
-use Rattle.placement.proofs.Sound.{Each}
+use Rattle.place_plan.proofs.Sound.{Each}
 use Rattle.zo_model.specs.declared.program.ZeroOne.{ZeroOne}
 use Rattle.zo_model.specs.Contents.{contents}
 use Rattle.zo_model.specs.Program.{cost_where, cost_below, costs_of, cost_of}
-use Rattle.bank_form.specs.declared.column.Column.{Column}
-use Rattle.bank_form.specs.Columns.{Priced, priced, costs}
+use Rattle.bank_prog_form.specs.declared.column.Column.{Column}
+use Rattle.bank_prog_form.specs.Columns.{Priced, priced, costs}
 use Rattle.bank_prog.specs.Meaning.{Chosen, number_on, on, named_cost}
 use Rattle.bank_prog.specs.Weighted.{weigh, weighted, weighted_costs, weighted_program}
-use Rattle.bank_form.specs.Program.{Numbers, number_in, number_of}
-use Rattle.bank_rows.proofs.Distinct.{Apart, Distinct}
-use Rattle.bank_rows.proofs.Families.{priced-distinct}
-use Rattle.bank_form.proofs.Itself.{column-itself}
+use Rattle.bank_prog_form.specs.Program.{Numbers, number_in, number_of}
+use Rattle.bank_prog_rows.proofs.Distinct.{Apart, Distinct}
+use Rattle.bank_prog_rows.proofs.Families.{priced-distinct}
+use Rattle.bank_prog_form.proofs.Itself.{column-itself}
 
 -- ---- the columns are on as the vector says
 

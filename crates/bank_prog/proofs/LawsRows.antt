@@ -8,12 +8,12 @@ use Rattle.zo_model.specs.declared.program.Row.{Row}
 use Rattle.zo_model.specs.declared.program.ZeroOne.{ZeroOne}
 use Rattle.zo_model.specs.Contents.{RowContents, row_contents, contents}
 use Rattle.zo_model.specs.Program.{total, where_one, terms_sum, Meets, Feasible}
-use Rattle.bank_form.specs.declared.column.Column.{Column}
+use Rattle.bank_prog_form.specs.declared.column.Column.{Column}
 use Rattle.bank_prog.specs.Meaning.{number_on, on, named_sum, Holds}
-use Rattle.bank_form.specs.Program.{Numbers, Terms, add_term, add_named, terms_of, row_of, number_of}
+use Rattle.bank_prog_form.specs.Program.{Numbers, Terms, add_term, add_named, terms_of, row_of, number_of}
 use Rattle.bank_prog.specs.Weighted.{weighted_program}
-use Rattle.bank_form.specs.Rows.{Line, lines}
-use Rattle.bank_form.proofs.RowTerms.{crossed}
+use Rattle.bank_prog_form.specs.Rows.{Line, lines}
+use Rattle.bank_prog_form.proofs.RowTerms.{crossed}
 
 -- ---- sums
 

@@ -8,8 +8,8 @@ use Rattle.ssu_ir.specs.Measures.{point_size, total}
 use Rattle.ssu_ir.specs.Points.{PointKind, Entry, At, Point}
 use Rattle.ssu_ir.specs.Points as pure
 use Rattle.ssu_ir.specs.Tree.{Lit, Una, Bin, Clone, Read, Write, Does, Forks, Ends}
-use Rattle.placement.specs.Uses.{accesses_from, place_accesses, ValueOrigin, Fetched, Parameter, Value, numbered, place_values, values_from, Role, Use, uses_at, uses_from, place_roles}
-use Rattle.bank_form.specs.Columns.{each_point, eight, point_uses, may_begin, beginnings}
+use Rattle.place_plan.specs.Uses.{accesses_from, place_accesses, ValueOrigin, Fetched, Parameter, Value, numbered, place_values, values_from, Role, Use, uses_at, uses_from, place_roles}
+use Rattle.bank_prog_form.specs.Columns.{each_point, eight, point_uses, may_begin, beginnings}
 
 -- ---- of lists
 

@@ -5,9 +5,9 @@ use Rattle.std.proofs.lemmas.List.{append-nil, map-append, length-map, get_or_ap
 use Rattle.std.proofs.Math.ListN.{get_or-map}
 use Rattle.ssu_ir.specs.Tree.{Tree, Do, If, End, Label, step_values}
 use Rattle.ssu_ir.specs.Points.{Names, own, names_after, PointKind, Point, tree_points, label_points, points_from, points}
-use Rattle.placement.specs.ByLabel.{label_from}
-use Rattle.label_weights.specs.Weighted.{weight_of}
-use Rattle.placement.specs.Weighted.{point_weight}
+use Rattle.place_plan.specs.ByLabel.{label_from}
+use Rattle.place_weights.specs.Weighted.{weight_of}
+use Rattle.place_plan.specs.Weighted.{point_weight}
 use Rattle.bank_prog.specs.inner.Located.{label_at, labels_behind}
 
 abbrev places : List Point → List PointKind

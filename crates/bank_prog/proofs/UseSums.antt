@@ -3,7 +3,7 @@ use Rattle.std.proofs.Common.{◌≡◌, ℕ, ◌+◌, ◌≤◌, nat_eq, Bool, 
 use Rattle.std.proofs.lemmas.Bool.{false≢true}
 use Rattle.nv_base.specs.Sets.{is_in, all_different}
 use Rattle.nv_base.proofs.Sets.{same-number}
-use Rattle.placement.specs.Uses.{Value, Use}
+use Rattle.place_plan.specs.Uses.{Value, Use}
 use Rattle.zo_model.specs.Program.{cost_where}
 
 -- the sum of g over a list

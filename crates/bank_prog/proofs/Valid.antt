@@ -5,19 +5,19 @@ use Rattle.std.proofs.lemmas.List.Elements.{All-map}
 use Rattle.std.proofs.lemmas.Nat.{mul-le}
 use Rattle.ssu_ir.specs.Single.{single}
 use Rattle.ssu_ir.specs.Tree.{Label}
-use Rattle.placement.proofs.Spilled.{each-all, each-weaker}
-use Rattle.placement.specs.ByLabel.{label_from}
-use Rattle.label_weights.specs.Weighted.{AreWeights}
-use Rattle.placement.specs.Weighted.{point_weight}
-use Rattle.label_weights.proofs.Bounds.{weight-bounds}
+use Rattle.place_plan.proofs.Spilled.{each-all, each-weaker}
+use Rattle.place_plan.specs.ByLabel.{label_from}
+use Rattle.place_weights.specs.Weighted.{AreWeights}
+use Rattle.place_plan.specs.Weighted.{point_weight}
+use Rattle.place_weights.proofs.Bounds.{weight-bounds}
 use Rattle.zo_model.specs.declared.program.ZeroOne.{ZeroOne}
 use Rattle.zo_model.specs.Contents.{contents}
 use Rattle.zo_model.specs.Program.{IsValid}
 use Rattle.zo_model.specs.ProgramText.{IsRowText, IsValidContents}
 use Rattle.zo_model.proofs.ExactLemmas.{valid_from_contents}
-use Rattle.bank_form.specs.Columns.{Priced, priced, columns, costs}
-use Rattle.bank_form.specs.Program.{bank_program, rows}
-use Rattle.bank_rows.proofs.PlainLines.{IsCheap, all-cheap, mapped-each, program-fits}
+use Rattle.bank_prog_form.specs.Columns.{Priced, priced, columns, costs}
+use Rattle.bank_prog_form.specs.Program.{bank_program, rows}
+use Rattle.bank_prog_rows.proofs.PlainLines.{IsCheap, all-cheap, mapped-each, program-fits}
 use Rattle.bank_prog.specs.Weighted.{column_point, weigh, weighted, weighted_costs, weighted_program}
 
 pub costs-small : (labels : List Label) → All (λ (p : Priced). p.1 ≤ 33) (priced labels)

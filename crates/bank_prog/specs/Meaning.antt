@@ -2,10 +2,10 @@
 use Rattle.std.specs.Prelude.{ℕ, ◌+◌, Bool, false, List, [], ◌∷◌, Option, Some, None, All, ℤ, ◌≤ℤ◌}
 use Rattle.ssu_ir.specs.Tree.{Label}
 use Rattle.zo_model.specs.Program.{total, where_one, cost_where}
-use Rattle.bank_form.specs.declared.column.Column.{Column}
-use Rattle.bank_form.specs.Columns.{Priced}
-use Rattle.bank_form.specs.Rows.{Line, lines}
-use Rattle.bank_form.specs.Program.{number_of}
+use Rattle.bank_prog_form.specs.declared.column.Column.{Column}
+use Rattle.bank_prog_form.specs.Columns.{Priced}
+use Rattle.bank_prog_form.specs.Rows.{Line, lines}
+use Rattle.bank_prog_form.specs.Program.{number_of}
 
 -- which columns are 1, by name; one that isn't there is 0
 abbrev pub Chosen : Type 0

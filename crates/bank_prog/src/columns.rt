@@ -3,21 +3,21 @@
 ghost use Rattle.std.specs.Prelude.{◌≡◌, ◌++◌, ◌∷◌, [], map, IfOk, OnOk};
 ghost use Rattle.std.specs.List.{flat_map, list_any};
 ghost use Rattle.ssu_ir.specs.View.{labels_view};
-ghost use Rattle.placement.specs.Uses.{is_used};
-ghost use Rattle.placement.specs.inner.UseViews.{use_view};
-ghost use Rattle.bank_form.specs.Columns as columns;
-ghost use Rattle.bank_form.specs.declared.column.Column.TheVariants as column;
-ghost use Rattle.bank_form.specs.inner.Form as form;
-ghost use Rattle.bank_form.specs.inner.Form.{summary_view, value_view, access_view};
+ghost use Rattle.place_plan.specs.Uses.{is_used};
+ghost use Rattle.place_plan.specs.inner.UseViews.{use_view};
+ghost use Rattle.bank_prog_form.specs.Columns as columns;
+ghost use Rattle.bank_prog_form.specs.declared.column.Column.TheVariants as column;
+ghost use Rattle.bank_prog_form.specs.inner.Form as form;
+ghost use Rattle.bank_prog_form.specs.inner.Form.{summary_view, value_view, access_view};
 
-use bank_form::column::{Bank, Column, Priced, Service};
-use bank_form::form::{Access, Form, Origin, PointSummary, Value};
-use bank_form::names;
-use bank_form::runs::{beginnings, origin_beginnings, role_beginnings};
-use bank_form::services::services;
-use bank_limits::early::push_ears;
+use bank_prog_form::column::{Bank, Column, Priced, Service};
+use bank_prog_form::form::{Access, Form, Origin, PointSummary, Value};
+use bank_prog_form::names;
+use bank_prog_form::runs::{beginnings, origin_beginnings, role_beginnings};
+use bank_prog_form::services::services;
+use bank_prog_limits::early::push_ears;
 use nv_base::NoMemory;
-use placement::Use;
+use place_plan::Use;
 use std::alloc::Global;
 
 /// Three columns more.
@@ -83,10 +83,10 @@ fn push_dir(alloc: Global, out: &mut Priced, f: &Form<'_>, n: u32, u: Use) -> Re
 }
 
 fn push_dirs_at(out: &mut Priced, u: Use, firsts: &[u8]) -> Result<(), NoMemory>
-    ensures { OnOk result (out.new.items ≡ out.old.items ++ map (λ f. (column.Dir u.point u.operand f, 0)) firsts.now) }
+    ensures { OnOk result (out.new.items ≡ out.old.items ++ map (λ f. (column.DirectWrite u.point u.operand f, 0)) firsts.now) }
 {
     for f in firsts {
-        out.push((Column::Dir(u.point, u.operand, *f), 0))?;
+        out.push((Column::DirectWrite(u.point, u.operand, *f), 0))?;
     }
     Ok(())
 }
@@ -240,7 +240,7 @@ fn push_service(out: &mut Priced, fetched: bool, u: Use, s: Service) -> Result<(
     ensures { OnOk result (out.new.items ≡ out.old.items ++ form.service_columns fetched (use_view u) s) }
 {
     if has_bank(fetched, s.from) {
-        out.push((Column::Srv(u.point, u.operand, s.from, s.at), s.cost))?;
+        out.push((Column::Serve(u.point, u.operand, s.from, s.at), s.cost))?;
     }
     Ok(())
 }

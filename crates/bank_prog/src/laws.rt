@@ -6,11 +6,11 @@ ghost use Rattle.ssu_ir.specs.Tree.{Label};
 ghost use Rattle.zo_model.specs.Contents.{contents};
 ghost use Rattle.zo_model.specs.Program.{vector, costs_of, cost_of, Feasible};
 ghost use Rattle.zo_model.specs.declared.program.ZeroOne as program;
-ghost use Rattle.bank_form.specs.Columns.{columns, costs, priced};
+ghost use Rattle.bank_prog_form.specs.Columns.{columns, costs, priced};
 ghost use Rattle.bank_prog.specs.Meaning.{on, named_cost, Holds, IsFeasible};
 ghost use Rattle.bank_prog.specs.Weighted.{weighted, weighted_costs, weighted_program};
-ghost use Rattle.bank_form.specs.Rows.{lines};
-ghost use Rattle.bank_form.specs.declared.column.Column as column;
+ghost use Rattle.bank_prog_form.specs.Rows.{lines};
+ghost use Rattle.bank_prog_form.specs.declared.column.Column as column;
 
 /// A vector meets the rows of the program of the banks exactly where each line holds by name.
 pub fn rows_hold_by_name()

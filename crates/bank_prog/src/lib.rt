@@ -11,7 +11,7 @@ pub mod size_laws;
 mod tables;
 mod weighing;
 
-pub use bank_form::{
+pub use bank_prog_form::{
     Access, Bank, Column, Form, Numbers, Origin, PointSummary, Role, Service, Tables, Use, Value,
     form_of, number, services,
 };

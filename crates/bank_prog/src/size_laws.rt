@@ -4,8 +4,8 @@ ghost use Rattle.std.specs.Prelude.{◌≡◌, ◌≤◌, ◌*◌, ℕ, true, Li
 ghost use Rattle.ssu_ir.specs.Measures.{size};
 ghost use Rattle.ssu_ir.specs.Single.{single};
 ghost use Rattle.ssu_ir.specs.Tree.{Label};
-ghost use Rattle.bank_form.specs.Columns.{columns};
-ghost use Rattle.bank_form.specs.Program.{rows};
+ghost use Rattle.bank_prog_form.specs.Columns.{columns};
+ghost use Rattle.bank_prog_form.specs.Program.{rows};
 
 /// The program of the banks of a form has at most 64 columns for each point, value and use of the form.
 pub fn columns_are_few()

@@ -5,16 +5,16 @@ ghost use Rattle.std.specs.Prelude.{◌≡◌, ◌≤◌, ◌<◌, ◌^◌, ℕ,
 ghost use Rattle.std.specs.HashMap.{get};
 ghost use Rattle.ssu_ir.specs.Single.{single};
 ghost use Rattle.ssu_ir.specs.View.{labels_view};
-ghost use Rattle.bank_form.specs.Columns as columns;
-ghost use Rattle.bank_form.specs.Program.{same_column, number_of};
-ghost use Rattle.bank_form.specs.declared.column.Column as column;
+ghost use Rattle.bank_prog_form.specs.Columns as columns;
+ghost use Rattle.bank_prog_form.specs.Program.{same_column, number_of};
+ghost use Rattle.bank_prog_form.specs.declared.column.Column as column;
 ghost use Rattle.bank_prog.specs.declared.error.BankError.TheVariants.{TooLarge as Exceeds};
 
 use crate::columns::columns_of;
 use crate::error::BankError;
-use bank_form::column::{Column, Priced};
-use bank_form::form::{Form, form_of};
-use bank_form::numbers::{COUNT_LIMIT, Numbers, number_columns};
+use bank_prog_form::column::{Column, Priced};
+use bank_prog_form::form::{Form, form_of};
+use bank_prog_form::numbers::{COUNT_LIMIT, Numbers, number_columns};
 use nv_base::NoMemory;
 use ssu_ir::Ssu;
 use std::alloc::Global;

@@ -5,18 +5,18 @@ ghost use Rattle.std.specs.HashMap.{get};
 ghost use Rattle.ssu_ir.specs.Points.{points};
 ghost use Rattle.ssu_ir.specs.Tree.{Label};
 ghost use Rattle.ssu_ir.specs.View.{labels_view};
-ghost use Rattle.label_weights.specs.Weighted.{AreWeights, weight_of};
+ghost use Rattle.place_weights.specs.Weighted.{AreWeights, weight_of};
 ghost use Rattle.ssu_liveness.specs.inner.PointIds.{kind_of_point};
-ghost use Rattle.bank_form.specs.inner.Form.{value_view};
+ghost use Rattle.bank_prog_form.specs.inner.Form.{value_view};
 ghost use Rattle.bank_prog.specs.Weighted.{column_point, point_in, weigh};
 ghost use Rattle.bank_prog.specs.inner.Located.{label_at, labels_behind, known_point, AreLocated};
 ghost use Rattle.ssu_ir.specs.declared.ssu.Ssu as ssu;
 
-use bank_form::column::Column;
-use bank_form::form::{Form, Value};
-use bank_form::tables::short;
-use label_weights::Weights;
+use bank_prog_form::column::Column;
+use bank_prog_form::form::{Form, Value};
+use bank_prog_form::tables::short;
 use nv_base::NoMemory;
+use place_weights::Weights;
 use ssu_ir::Ssu;
 use ssu_liveness::PointId;
 use std::alloc::Global;
@@ -96,14 +96,14 @@ impl Located {
     {
         match c {
             Column::Def(x, _) => self.point_of(x),
-            Column::Dir(k, _, _) => k,
+            Column::DirectWrite(k, _, _) => k,
             Column::Fill(x, _) => self.point_of(x),
             Column::Stay(x, _) => self.point_of(x),
-            Column::Ear(k, _, _) => k,
+            Column::EarlyWrite(k, _, _) => k,
             Column::First(k, _) => k,
-            Column::Srv(k, _, _, _) => k,
-            Column::PasL(k, _) => k,
-            Column::PasS(k, _) => k,
+            Column::Serve(k, _, _, _) => k,
+            Column::ReadVia(k, _) => k,
+            Column::WriteVia(k, _) => k,
         }
     }
 

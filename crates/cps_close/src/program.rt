@@ -12,7 +12,7 @@ ghost use Rattle.flow_ir.specs.Bulk.{bulk as flow_bulk};
 ghost use Rattle.flow_ir.specs.Meaning.{flow_meaning, flow_params};
 ghost use Rattle.flow_ir.specs.View.{label_view};
 ghost use Rattle.flow_ir.specs.Wide.{wide as flow_wide};
-ghost use Rattle.flow_ir.specs.Led.{AreLedTo};
+ghost use Rattle.flow_ir.specs.Reachable.{AreReachable};
 ghost use Rattle.cps_close.specs.inner.Closed.{IsClosed};
 
 use crate::collect::labels_in;
@@ -31,7 +31,7 @@ pub fn close(alloc: Global, c: Cps) -> Result<Flow, NoMemory>
     ensures parameters { IfOk result (λ f. flow_params (map label_view f.labels.items) ≡ params_in (map fun_view c.funs.items) c.main) }
     ensures equal { IfOk result (λ f. AreEqual (params_in (map fun_view c.funs.items) c.main) (cps_meaning (map fun_view c.funs.items) c.main) (flow_meaning (map label_view f.labels.items))) }
     ensures wide { IfOk result (λ f. flow_wide (map label_view f.labels.items) ≤ wide (map fun_view c.funs.items) c.main) }
-    ensures led { IfOk result (λ f. AreLedTo (map label_view f.labels.items)) }
+    ensures led { IfOk result (λ f. AreReachable (map label_view f.labels.items)) }
     ensures bulk { IfOk result (λ f. IsAtMost (flow_bulk (map label_view f.labels.items)) (code_bulk (map fun_view c.funs.items) c.main)) }
 {
     let f = &c.funs[c.main as usize];

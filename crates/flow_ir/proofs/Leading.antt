@@ -3,7 +3,7 @@ use Rattle.std.proofs.Common.{◌≡◌, ℕ, zero, suc, ◌+◌, ◌<◌, inl, 
 use Rattle.std.proofs.lemmas.Bool.{and_parts, not-true}
 use Rattle.std.proofs.lemmas.Option.{slice_get_within}
 use Rattle.flow_ir.specs.Tree.{Tree, Let, Read, Write, If, Jump, Halt, Label}
-use Rattle.flow_ir.specs.Led.{GoesTo, IsLedTo, first, jumped, AreLedTo}
+use Rattle.flow_ir.specs.Reachable.{GoesTo, IsReachable, first, jumped, AreReachable}
 use Rattle.flow_ir.specs.inner.Pruned.{is_out, goes_on, all_go_on, rank, renumbered, relabelled, left, IsPruned}
 use Rattle.flow_ir.proofs.Left.{rank-out, rank-in, left-at, goes-at}
 
@@ -26,7 +26,7 @@ goes-there out (Jump l bs) m e h = ap (is_out out) h ∙ not-true (is_out out l)
 goes-there out (Halt x bs) m e h = absurd h
 
 -- a label that was led to is left, and its new number is led to
-led-in : (out : List Bool) (to : ℕ → ℕ) (ls : List Label) → is_out out 0 ≡ false → all_go_on out 0 ls ≡ true → ((i : ℕ) → i < length ls → to i ≡ rank out i) → (m : ℕ) → m < length ls → IsLedTo ls m → (is_out out m ≡ false) × IsLedTo (left out to 0 ls) (rank out m)
+led-in : (out : List Bool) (to : ℕ → ℕ) (ls : List Label) → is_out out 0 ≡ false → all_go_on out 0 ls ≡ true → ((i : ℕ) → i < length ls → to i ≡ rank out i) → (m : ℕ) → m < length ls → IsReachable ls m → (is_out out m ≡ false) × IsReachable (left out to 0 ls) (rank out m)
 led-in out to ls begun closed ranked m lt first = (begun, first)
 led-in out to ls begun closed ranked i lt (jumped l m from led at goes) =
     let before = led-in out to ls begun closed ranked l (slice_get_within ls l from at) led in
@@ -56,10 +56,10 @@ left-from : (out : List Bool) (to : ℕ → ℕ) (i : ℕ) (gs : List Label) (j 
 left-from out to i [] j lt = absurd (omega arith)
 left-from out to i (g ∷ gs) j lt = left-was out to i gs (is_out out i) j refl g lt (λ k within. left-from out to (suc i) gs k within)
 
-pub pruned-led : (ls ms : List Label) → IsPruned ls ms → AreLedTo ms
+pub pruned-led : (ls ms : List Label) → IsPruned ls ms → AreReachable ms
 pruned-led ls ms h = λ l lt.
     let was = left-from h.out h.to 0 ls l (subst (λ (xs : List Label). l < length xs) h.labels lt) in
     let within : was.0 < length ls = let le = was.1 in omega (arith, le) in
     let number : rank h.out was.0 ≡ l = let e = was.3 in omega (arith, e) in
     let led = led-in h.out h.to ls h.first h.closed h.ranked was.0 within (h.led.led was.0 within was.2) in
-    subst (λ (xs : List Label). IsLedTo xs l) (sym h.labels) (subst (λ (n : ℕ). IsLedTo (left h.out h.to 0 ls) n) number led.1)
+    subst (λ (xs : List Label). IsReachable xs l) (sym h.labels) (subst (λ (n : ℕ). IsReachable (left h.out h.to 0 ls) n) number led.1)

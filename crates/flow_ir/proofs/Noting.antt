@@ -12,7 +12,7 @@ use Rattle.flow_ir.specs.View.{tree_view}
 use Rattle.flow_ir.specs.declared.flow.Tree.{Tree, size-Tree}
 use Rattle.flow_ir.specs.declared.flow.Tree.TheVariants.{Let', Read', Write', If', Jump as Jump'}
 use Rattle.flow_ir.specs.declared.flow.Tree.TheViews.{deep-Let', deep-Read', deep-Write', deep-If'}
-use Rattle.flow_ir.specs.Led.{GoesTo, IsLedTo, first, jumped}
+use Rattle.flow_ir.specs.Reachable.{GoesTo, IsReachable, first, jumped}
 use Rattle.flow_ir.specs.inner.Pruned.{is_out, Noted, AreLed}
 
 pub noted-none : (P : ℕ → Type 0) (a : List Bool) (p : List ℕ) → Noted P a a p p
@@ -56,16 +56,16 @@ led-begun ls out count h = record {
   led = λ i lt there. absurd (false≢true (sym there ∙ All-get_or (λ b. b ≡ true) out i false (let c = count in omega (arith, c, lt)) h));
 }
 
-pub led-noted : (ls : List Label) (P : ℕ → Type 0) (out new : List Bool) (before after : List ℕ) → ((i : ℕ) → P i → IsLedTo ls i) → AreLed ls out → All (IsLedTo ls) before → Noted P out new before after → AreLed ls new × All (IsLedTo ls) after
+pub led-noted : (ls : List Label) (P : ℕ → Type 0) (out new : List Bool) (before after : List ℕ) → ((i : ℕ) → P i → IsReachable ls i) → AreLed ls out → All (IsReachable ls) before → Noted P out new before after → AreLed ls new × All (IsReachable ls) after
 led-noted ls P out new before after f h waiting k = (
   record { all = k.same ∙ h.all; led = λ i lt there. ⊎_elim (λ (was : is_out out i ≡ false). h.led i lt was) (λ (x : P i). f i x) (k.noted i there) },
-  subst (All (IsLedTo ls)) (sym k.waiting) (All-append (IsLedTo ls) before k.added waiting (All-weaker P (IsLedTo ls) f k.added k.each)),
+  subst (All (IsReachable ls)) (sym k.waiting) (All-append (IsReachable ls) before k.added waiting (All-weaker P (IsReachable ls) f k.added k.each)),
 )
 
-pub led-first : (ls : List Label) (i : ℕ) → i ≡ 0 → IsLedTo ls i
-led-first ls i e = subst (IsLedTo ls) (sym e) first
+pub led-first : (ls : List Label) (i : ℕ) → i ≡ 0 → IsReachable ls i
+led-first ls i e = subst (IsReachable ls) (sym e) first
 
-pub led-from : (ls : List Label) (l : ℕ) → IsLedTo ls l → (i : ℕ) → GoesFrom ls l i → IsLedTo ls i
+pub led-from : (ls : List Label) (l : ℕ) → IsReachable ls l → (i : ℕ) → GoesFrom ls l i → IsReachable ls i
 led-from ls l led i h = jumped l i h.0 led h.1 h.2
 
 -- ---- the spine of a tree: what its rest goes on to, it goes on to

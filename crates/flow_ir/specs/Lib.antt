@@ -6,5 +6,5 @@ pub mod Formed
 pub mod Wide
 pub mod Bulk
 pub mod Substitution
-pub mod Led
+pub mod Reachable
 pub mod inner

@@ -10,7 +10,7 @@ ghost use Rattle.flow_ir.specs.Spine.{put_all};
 ghost use Rattle.flow_ir.specs.View.{tree_view, label_view};
 ghost use Rattle.flow_ir.specs.Tree.{Label as LabelTree};
 ghost use Rattle.flow_ir.specs.Wide.{wide};
-ghost use Rattle.flow_ir.specs.Led.{AreLedTo, GoesTo};
+ghost use Rattle.flow_ir.specs.Reachable.{AreReachable, GoesTo};
 ghost use Rattle.flow_ir.specs.inner.Pruned as inner;
 ghost use Rattle.flow_ir.specs.inner.Pruned.{IsPruned};
 
@@ -47,7 +47,7 @@ pub fn drop_unreached(alloc: Global, f: &Flow) -> Result<Flow, NoMemory>
     ensures params { IfOk result (λ g. flow_params (map label_view g.labels.items) ≡ flow_params (map label_view f.now.labels.items)) }
     ensures equal { IfOk result (λ g. AreEqual (flow_params (map label_view f.now.labels.items)) (flow_meaning (map label_view f.now.labels.items)) (flow_meaning (map label_view g.labels.items))) }
     ensures wide { IfOk result (λ g. wide (map label_view g.labels.items) ≤ wide (map label_view f.now.labels.items)) }
-    ensures led { IfOk result (λ g. AreLedTo (map label_view g.labels.items)) }
+    ensures led { IfOk result (λ g. AreReachable (map label_view g.labels.items)) }
     ensures left { IfOk result (λ g. IsPruned (map label_view f.now.labels.items) (map label_view g.labels.items)) }
     ensures bulk { IfOk result (λ g. IsAtMost (bulk (map label_view g.labels.items)) (bulk (map label_view f.now.labels.items))) }
 {

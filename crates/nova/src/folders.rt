@@ -1,6 +1,6 @@
 //! The folders of the system.
 
-use nova_door::{FolderError, Folders};
+use nova_actions::{FolderError, Folders};
 use std::alloc::Global;
 use std::io::ErrorKind;
 use std::{fs, io, rt};

@@ -6,7 +6,7 @@
 mod folders;
 
 use folders::DiskFolders;
-use nova_door::{Ending, run};
+use nova_actions::{Ending, run};
 use nv_base::NoMemory;
 use nv_outside::{DiskFiles, StdSink};
 use std::env;

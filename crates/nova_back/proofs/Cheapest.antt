@@ -4,14 +4,14 @@ use Rattle.ssu_ir.specs.Single.{single}
 use Rattle.ssu_ir.specs.Tree.{Label}
 use Rattle.zo_model.specs.Program.{Feasible, cost_of, costs_of, vector}
 use Rattle.zo_cert.specs.declared.report.Report.{Report}
-use Rattle.placement.specs.Fits.{Fits}
-use Rattle.placement.specs.Plan.{Plan}
-use Rattle.placement.specs.Weighted.{weighted_cost}
-use Rattle.bank_form.specs.Columns.{columns}
+use Rattle.place_plan.specs.Fits.{Fits}
+use Rattle.place_plan.specs.Plan.{Plan}
+use Rattle.place_plan.specs.Weighted.{weighted_cost}
+use Rattle.bank_prog_form.specs.Columns.{columns}
 use Rattle.bank_prog.specs.Meaning.{IsFeasible}
 use Rattle.bank_prog.proofs.LawsRows.{feasible-by-name}
-use Rattle.bank_assignment.specs.inner.Chosen.{chosen}
-use Rattle.bank_assignment.proofs.ChosenVector.{IsVector, vector-feasible, vector-weighted}
+use Rattle.reg_assign_reading.specs.inner.Chosen.{chosen}
+use Rattle.reg_assign_reading.proofs.ChosenVector.{IsVector, vector-feasible, vector-weighted}
 use Rattle.nova_back.specs.Causes.{IsReportOn, report_cost}
 
 pub cheapest-of : (labels : List Label) (slots : ℕ) (ws : List ℕ) (budget : ℕ) (r : Report) → single labels ≡ true → IsReportOn labels slots ws budget r

@@ -7,24 +7,24 @@ use Rattle.std.proofs.lemmas.Option.{slice_get_within}
 use Rattle.std.proofs.Math.Nat.{mul-le-mul_left}
 use Rattle.ssu_ir.specs.Points.{PointKind, Entry, At, Point, points}
 use Rattle.ssu_ir.specs.Tree.{Lit, Una, Bin, Clone, Read, Write, Label, Does, Forks, Ends}
-use Rattle.placement.specs.Uses.{Access, accesses, accesses_from, place_accesses, ValueOrigin, Parameter, Result, Fetched, Value, values, place_values, uses, place_roles, is_used}
-use Rattle.placement.specs.Fits.{is_result}
-use Rattle.placement.proofs.Sound.{Each, each-append}
-use Rattle.placement.proofs.Slotted.{each-any}
-use Rattle.placement.proofs.Spilled.{each-weaker}
-use Rattle.placement.specs.ByLabel.{label_from}
-use Rattle.placement.proofs.Labels.{of_label, values_within, uses_within}
+use Rattle.place_plan.specs.Uses.{Access, accesses, accesses_from, place_accesses, ValueOrigin, Parameter, Result, Fetched, Value, values, place_values, uses, place_roles, is_used}
+use Rattle.place_plan.specs.Fits.{is_result}
+use Rattle.place_plan.proofs.Sound.{Each, each-append}
+use Rattle.place_plan.proofs.Slotted.{each-any}
+use Rattle.place_plan.proofs.Spilled.{each-weaker}
+use Rattle.place_plan.specs.ByLabel.{label_from}
+use Rattle.place_plan.proofs.Labels.{of_label, values_within, uses_within}
 use Rattle.zo_model.specs.Program.{cost_where, cost_below, costs_of}
-use Rattle.bank_form.specs.declared.column.Bank.TheVariants.{A, B, M}
-use Rattle.bank_form.specs.declared.column.Column.{Column}
-use Rattle.bank_form.specs.declared.column.Column.TheVariants.{Dir, Fill, Stay, Ear, First, Srv, PasL, PasS}
-use Rattle.bank_form.specs.declared.column.Service.{Service}
-use Rattle.bank_form.specs.Columns.{origin_of, is_fetched, eight, beginnings, role_beginnings, origin_beginnings, place_words, point_uses, Priced, origin_defs, def_columns, dir_columns, point_dirs, fill_columns, stay_columns, point_stays, ear_columns, point_ears, first_columns, services, has_bank, srv_columns, for_eight, pas_l_columns, pas_s_columns, all_dirs, all_stays, all_ears, all_pas_l, all_pas_s, priced, columns, costs}
+use Rattle.bank_prog_form.specs.declared.column.Bank.TheVariants.{A, B, M}
+use Rattle.bank_prog_form.specs.declared.column.Column.{Column}
+use Rattle.bank_prog_form.specs.declared.column.Column.TheVariants.{DirectWrite, Fill, Stay, EarlyWrite, First, Serve, ReadVia, WriteVia}
+use Rattle.bank_prog_form.specs.declared.column.Service.{Service}
+use Rattle.bank_prog_form.specs.Columns.{origin_of, is_fetched, eight, beginnings, role_beginnings, origin_beginnings, place_words, point_uses, Priced, origin_defs, def_columns, dir_columns, point_dirs, fill_columns, stay_columns, point_stays, ear_columns, point_ears, first_columns, services, has_bank, srv_columns, for_eight, pas_l_columns, pas_s_columns, all_dirs, all_stays, all_ears, all_pas_l, all_pas_s, priced, columns, costs}
 use Rattle.bank_prog.specs.Weighted.{point_in, column_point, weigh, weighted, weighted_costs}
-use Rattle.bank_rows.proofs.PlainLines.{mapped-each}
-use Rattle.bank_assignment.proofs.ChosenHolds.{flat-each, if-each, points-each}
-use Rattle.bank_assignment.proofs.Counts.{each-from}
-use Rattle.bank_assignment.proofs.FactsThere.{point-of}
+use Rattle.bank_prog_rows.proofs.PlainLines.{mapped-each}
+use Rattle.reg_assign_reading.proofs.ChosenHolds.{flat-each, if-each, points-each}
+use Rattle.reg_assign_reading.proofs.Counts.{each-from}
+use Rattle.reg_assign_reading.proofs.FactsThere.{point-of}
 use Rattle.nova_back.specs.Causes.{WeighAtMost}
 
 -- ---- points
@@ -82,8 +82,8 @@ dirs-lie labels = points-each (Lies labels) (point_dirs labels) 0 (points labels
     let fs = role_beginnings n u.role in
     let at = point-of u k 0 q.uses (place_roles q.place) j in
     let inside = slice_get_within (points labels) i q s in
-    if-each (Lies labels) (is_result (origin_of labels u.value)) (map (λ f. (Dir u.point u.operand f, 0)) fs) (λ _.
-    mapped-each (Lies labels) (λ f. (Dir u.point u.operand f, 0)) fs (each-any (λ f. Lies labels (Dir u.point u.operand f, 0)) fs (λ f. omega (arith, at, inside, e)))))))
+    if-each (Lies labels) (is_result (origin_of labels u.value)) (map (λ f. (DirectWrite u.point u.operand f, 0)) fs) (λ _.
+    mapped-each (Lies labels) (λ f. (DirectWrite u.point u.operand f, 0)) fs (each-any (λ f. Lies labels (DirectWrite u.point u.operand f, 0)) fs (λ f. omega (arith, at, inside, e)))))))
 
 stays-lie : (labels : List Label) → Each (Lies labels) (all_stays labels)
 stays-lie labels = points-each (Lies labels) (point_stays labels) 0 (points labels) (λ i k q e s.
@@ -103,7 +103,7 @@ ears-lie labels = points-each (Lies labels) point_ears 0 (points labels) (λ i k
     let fs = role_beginnings n u.role in
     let at = point-of u k 0 q.uses (place_roles q.place) j in
     let inside = slice_get_within (points labels) i q s in
-    mapped-each (Lies labels) (λ f. (Ear u.point u.operand f, 1)) fs (each-any (λ f. Lies labels (Ear u.point u.operand f, 1)) fs (λ f. omega (arith, at, inside, e))))))
+    mapped-each (Lies labels) (λ f. (EarlyWrite u.point u.operand f, 1)) fs (each-any (λ f. Lies labels (EarlyWrite u.point u.operand f, 1)) fs (λ f. omega (arith, at, inside, e))))))
 
 firsts-lie : (labels : List Label) → Each (Lies labels) (flat_map first_columns (accesses labels))
 firsts-lie labels = flat-each (Lies labels) first_columns (accesses labels)
@@ -118,18 +118,18 @@ services-lie labels = flat-each (Lies labels) (srv_columns labels) (uses labels)
     (each-weaker (λ u. u.point < length (points labels)) (λ u. Each (Lies labels) (srv_columns labels u)) (uses labels)
     (λ u h.
     let ss = filter (λ (s : Service). has_bank (is_fetched (origin_of labels u.value)) s.from) (services u.role) in
-    mapped-each (Lies labels) (λ (s : Service). (Srv u.point u.operand s.from s.at, s.cost)) ss (each-any (λ s. Lies labels (Srv u.point u.operand s.from s.at, s.cost)) ss (λ s. h)))
+    mapped-each (Lies labels) (λ (s : Service). (Serve u.point u.operand s.from s.at, s.cost)) ss (each-any (λ s. Lies labels (Serve u.point u.operand s.from s.at, s.cost)) ss (λ s. h)))
     (uses_within (length (points labels)) 0 (points labels) (omega arith)))
 
 pas-l-lie : (labels : List Label) → Each (Lies labels) (all_pas_l labels)
 pas-l-lie labels = points-each (Lies labels) pas_l_columns 0 (points labels) (λ i k q e s.
     let inside = slice_get_within (points labels) i q s in
-    eight-lie labels _ (PasL k) (λ r. omega (arith, inside, e)))
+    eight-lie labels _ (ReadVia k) (λ r. omega (arith, inside, e)))
 
 pas-s-lie : (labels : List Label) → Each (Lies labels) (all_pas_s labels)
 pas-s-lie labels = points-each (Lies labels) (pas_s_columns labels) 0 (points labels) (λ i k q e s.
     let inside = slice_get_within (points labels) i q s in
-    eight-lie labels _ (PasS k) (λ r. omega (arith, inside, e)))
+    eight-lie labels _ (WriteVia k) (λ r. omega (arith, inside, e)))
 
 columns-lie : (labels : List Label) → Each (Lies labels) (priced labels)
 columns-lie labels =

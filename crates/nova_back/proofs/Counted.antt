@@ -9,8 +9,8 @@ use Rattle.ssu_ir.specs.Single.{single}
 use Rattle.ssu_ir.specs.Tree.{Label}
 use Rattle.ssu_ir.proofs.PointLemmas.{total-from}
 use Rattle.ssu_liveness.specs.LiveRows.{IsRow}
-use Rattle.placement.specs.Uses.{Role, values, values_from, place_values, uses, uses_from, uses_at, place_roles}
-use Rattle.placement.proofs.Sound.{Each, Sound, sound-points}
+use Rattle.place_plan.specs.Uses.{Role, values, values_from, place_values, uses, uses_from, uses_at, place_roles}
+use Rattle.place_plan.proofs.Sound.{Each, Sound, sound-points}
 use Rattle.bank_prog.proofs.Lengths.{values-long}
 use Rattle.nova_back.specs.inner.Lengths.{lengths}
 

@@ -15,8 +15,8 @@ use Rattle.uc_isa.specs.declared.instruction.UnOp.TheVariants.{Copy, Not, Shl, S
 use Rattle.uc_peep.specs.Rewrites.{IsWithout, Compares}
 use Rattle.uc_peep.specs.Rewrites.IsWithout.{Nothing, Gone, Tested, Stays}
 use Rattle.uc_peep.proofs.Without.{compares-straight}
-use Rattle.uc_executions.specs.Relocated.{relocated}
-use Rattle.uc_executions.specs.StraightCode.{IsStraight}
+use Rattle.uc_isa_executions.specs.Relocated.{relocated}
+use Rattle.uc_isa_executions.specs.StraightCode.{IsStraight}
 use Rattle.ucode_emit.specs.Operations.{Operation, code_operations, instr_operation}
 use Rattle.ucode_emit.specs.SpillBase.{IsOtherSource, KeepsBase, SpillsByBase}
 use Rattle.nova_back.specs.LeftOut.{LeavesOut}

@@ -5,20 +5,20 @@ use Rattle.std.specs.List.{flat_map}
 use Rattle.ssu_ir.specs.Measures.{peak}
 use Rattle.ssu_ir.specs.Single.{single}
 use Rattle.ssu_ir.specs.Tree.{Label}
-use Rattle.placement.specs.Uses.{accesses, values, uses}
+use Rattle.place_plan.specs.Uses.{accesses, values, uses}
 use Rattle.std.proofs.Math.Nat.{le_trans, mul-le-mul_right}
-use Rattle.placement.proofs.Sound.{Each, each-append}
-use Rattle.placement.proofs.Spilled.{each-all}
+use Rattle.place_plan.proofs.Sound.{Each, each-append}
+use Rattle.place_plan.proofs.Spilled.{each-all}
 use Rattle.zo_model.specs.Program.{vector, costs_of}
-use Rattle.bank_form.specs.declared.column.Bank.{Bank}
-use Rattle.bank_form.specs.declared.column.Bank.TheVariants.{A, B, M, T, L, A15, W}
-use Rattle.bank_form.specs.declared.column.Column.{Column}
-use Rattle.bank_form.specs.declared.column.Column.TheVariants.{Def, Dir, Fill, Stay, Ear, First, Srv, PasL, PasS}
-use Rattle.bank_form.specs.Columns.{columns, costs, priced}
+use Rattle.bank_prog_form.specs.declared.column.Bank.{Bank}
+use Rattle.bank_prog_form.specs.declared.column.Bank.TheVariants.{A, B, M, T, L, A15, W}
+use Rattle.bank_prog_form.specs.declared.column.Column.{Column}
+use Rattle.bank_prog_form.specs.declared.column.Column.TheVariants.{Def, DirectWrite, Fill, Stay, EarlyWrite, First, Serve, ReadVia, WriteVia}
+use Rattle.bank_prog_form.specs.Columns.{columns, costs, priced}
 use Rattle.bank_prog.specs.Weighted.{weighted_costs}
 use Rattle.bank_prog.specs.Meaning.{Chosen, on, named_cost, Holds}
-use Rattle.bank_form.specs.Program.{Numbers, number_of}
-use Rattle.bank_form.specs.Rows.{Line, lines, parameter_choice, result_choice, access_choice, use_choice, one_choice, use_cover, copy_cover, argument_cover, homes_cover, operand_banks, capacity, owners, adjacency, passes}
+use Rattle.bank_prog_form.specs.Program.{Numbers, number_of}
+use Rattle.bank_prog_form.specs.Rows.{Line, lines, parameter_choice, result_choice, access_choice, use_choice, one_choice, use_cover, copy_cover, argument_cover, homes_cover, operand_banks, capacity, owners, adjacency, passes}
 use Rattle.bank_prog.proofs.LawsColumns.{on-there, chosen-on}
 use Rattle.bank_prog.proofs.LawsCost.{costs-by-name}
 use Rattle.nova_back.specs.Causes.{IsCheapFor, copies_cost}
@@ -28,8 +28,8 @@ use Rattle.nova_back.proofs.PairedCost.{paired-cost}
 use Rattle.nova_back.proofs.PairedOn.{IsPaired}
 use Rattle.nova_back.proofs.PairedPoints.{operands-lines, capacity-lines, owners-lines, adjacency-lines, passes-lines}
 use Rattle.nova_back.proofs.PairedRows.{parameter-lines, result-lines, access-lines, use-lines, cover-lines, copies-lines, arguments-lines}
-use Rattle.bank_assignment.proofs.ChosenHolds.{flat-each}
-use Rattle.bank_assignment.proofs.Counts.{In, each-from}
+use Rattle.reg_assign_reading.proofs.ChosenHolds.{flat-each}
+use Rattle.reg_assign_reading.proofs.Counts.{In, each-from}
 
 -- ---- all lines
 
@@ -81,14 +81,14 @@ fills-same n m x W e = refl
 
 paired-same : (n m : Numbers) (c : Column) → ((c : Column) → n c ≡ m c) → paired n c ≡ paired m c
 paired-same n m (Def x h) e = refl
-paired-same n m (Dir k i f) e = refl
+paired-same n m (DirectWrite k i f) e = refl
 paired-same n m (Fill x h) e = fills-same n m x h e
 paired-same n m (Stay x f) e = refl
-paired-same n m (Ear k i f) e = refl
+paired-same n m (EarlyWrite k i f) e = refl
 paired-same n m (First k f) e = refl
-paired-same n m (Srv k i h p) e = ap (λ o. serves (nat_eq i 1 && is_some o) h p) (e (Srv k i M L))
-paired-same n m (PasL k r) e = refl
-paired-same n m (PasS k r) e = refl
+paired-same n m (Serve k i h p) e = ap (λ o. serves (nat_eq i 1 && is_some o) h p) (e (Serve k i M L))
+paired-same n m (ReadVia k r) e = refl
+paired-same n m (WriteVia k r) e = refl
 
 pub vector-paired : (labels : List Label) (number : Numbers) (items : List Bool) → single labels ≡ true → ((c : Column) → number c ≡ number_of labels c) → items ≡ map (paired number) (columns labels) → IsPaired labels (on labels (vector items))
 vector-paired labels number items form h e = record {

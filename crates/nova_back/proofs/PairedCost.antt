@@ -3,23 +3,23 @@ use Rattle.std.proofs.Common.{◌≡◌, ℕ, zero, suc, ◌+◌, ◌*◌, ◌�
 use Rattle.std.specs.List.{flat_map}
 use Rattle.ssu_ir.specs.Points.{points}
 use Rattle.ssu_ir.specs.Tree.{Label}
-use Rattle.placement.specs.Fits.{is_result}
-use Rattle.placement.specs.Uses.{Access, accesses, ValueOrigin, Parameter, Result, Fetched, Value, values, place_values, Role, Operand, Address, Written, Argument, Ending, Use, uses, is_used}
-use Rattle.placement.proofs.Sound.{Each}
-use Rattle.placement.proofs.Slotted.{each-any}
+use Rattle.place_plan.specs.Fits.{is_result}
+use Rattle.place_plan.specs.Uses.{Access, accesses, ValueOrigin, Parameter, Result, Fetched, Value, values, place_values, Role, Operand, Address, Written, Argument, Ending, Use, uses, is_used}
+use Rattle.place_plan.proofs.Sound.{Each}
+use Rattle.place_plan.proofs.Slotted.{each-any}
 use Rattle.zo_model.specs.Program.{cost_where}
-use Rattle.bank_form.specs.declared.column.Bank.TheVariants.{A, B, M, T, L, A15, W}
-use Rattle.bank_form.specs.declared.column.Column.{Column}
-use Rattle.bank_form.specs.declared.column.Column.TheVariants.{Def, Dir, Fill, Stay, Ear, First, Srv, PasL, PasS}
-use Rattle.bank_form.specs.declared.column.Service.{Service}
-use Rattle.bank_form.specs.Columns.{origin_of, is_fetched, eight, beginnings, role_beginnings, origin_beginnings, place_words, point_uses, Priced, origin_defs, def_columns, dir_columns, point_dirs, fill_columns, stay_columns, point_stays, ear_columns, point_ears, first_columns, services, has_bank, srv_columns, for_eight, pas_l_columns, pas_s_columns, all_dirs, all_stays, all_ears, all_pas_l, all_pas_s, priced}
+use Rattle.bank_prog_form.specs.declared.column.Bank.TheVariants.{A, B, M, T, L, A15, W}
+use Rattle.bank_prog_form.specs.declared.column.Column.{Column}
+use Rattle.bank_prog_form.specs.declared.column.Column.TheVariants.{Def, DirectWrite, Fill, Stay, EarlyWrite, First, Serve, ReadVia, WriteVia}
+use Rattle.bank_prog_form.specs.declared.column.Service.{Service}
+use Rattle.bank_prog_form.specs.Columns.{origin_of, is_fetched, eight, beginnings, role_beginnings, origin_beginnings, place_words, point_uses, Priced, origin_defs, def_columns, dir_columns, point_dirs, fill_columns, stay_columns, point_stays, ear_columns, point_ears, first_columns, services, has_bank, srv_columns, for_eight, pas_l_columns, pas_s_columns, all_dirs, all_stays, all_ears, all_pas_l, all_pas_s, priced}
 use Rattle.bank_prog.specs.Meaning.{Chosen, named_cost}
-use Rattle.bank_form.specs.Program.{number_of}
-use Rattle.bank_rows.proofs.PlainLines.{mapped-each, each-kept}
+use Rattle.bank_prog_form.specs.Program.{number_of}
+use Rattle.bank_prog_rows.proofs.PlainLines.{mapped-each, each-kept}
 use Rattle.nova_back.specs.inner.Paired.{paired}
 use Rattle.nova_back.proofs.PairedOn.{IsPaired, off}
-use Rattle.bank_assignment.proofs.ChosenHolds.{flat-each, if-each, points-each}
-use Rattle.bank_assignment.proofs.CostSums.{cost-append}
+use Rattle.reg_assign_reading.proofs.ChosenHolds.{flat-each, if-each, points-each}
+use Rattle.reg_assign_reading.proofs.CostSums.{cost-append}
 
 -- ---- columns that cost nothing
 
@@ -74,8 +74,8 @@ dirs-free labels on g = points-each (IsFree on) (point_dirs labels) 0 (points la
     let us = point_uses k q in
     flat-each (IsFree on) (dir_columns labels n) us (each-any (λ u. Each (IsFree on) (dir_columns labels n u)) us (λ u.
     let fs = role_beginnings n u.role in
-    if-each (IsFree on) (is_result (origin_of labels u.value)) (map (λ f. (Dir u.point u.operand f, 0)) fs) (λ t.
-    mapped-each (IsFree on) (λ f. (Dir u.point u.operand f, 0)) fs (each-any (λ f. IsFree on (Dir u.point u.operand f, 0)) fs (λ f. free-zero on (Dir u.point u.operand f)))))))
+    if-each (IsFree on) (is_result (origin_of labels u.value)) (map (λ f. (DirectWrite u.point u.operand f, 0)) fs) (λ t.
+    mapped-each (IsFree on) (λ f. (DirectWrite u.point u.operand f, 0)) fs (each-any (λ f. IsFree on (DirectWrite u.point u.operand f, 0)) fs (λ f. free-zero on (DirectWrite u.point u.operand f)))))))
 
 fill-cost : (labels : List Label) (on : Chosen) (v : Value) → IsPaired labels on → named_cost on (fill_columns labels v) ≤ 2
 fill-cost labels on v g = by (is_used labels v.var)
@@ -103,7 +103,7 @@ ears-free labels on g = points-each (IsFree on) point_ears 0 (points labels) (λ
     let us = point_uses k q in
     flat-each (IsFree on) (ear_columns n) us (each-any (λ u. Each (IsFree on) (ear_columns n u)) us (λ u.
     let fs = role_beginnings n u.role in
-    mapped-each (IsFree on) (λ f. (Ear u.point u.operand f, 1)) fs (each-any (λ f. IsFree on (Ear u.point u.operand f, 1)) fs (λ f. paid labels on (Ear u.point u.operand f) 1 g refl)))))
+    mapped-each (IsFree on) (λ f. (EarlyWrite u.point u.operand f, 1)) fs (each-any (λ f. IsFree on (EarlyWrite u.point u.operand f, 1)) fs (λ f. paid labels on (EarlyWrite u.point u.operand f) 1 g refl)))))
 
 firsts-free : (on : Chosen) (as' : List Access) → Each (IsFree on) (flat_map first_columns as')
 firsts-free on as' = flat-each (IsFree on) first_columns as' (each-any (λ a. Each (IsFree on) (first_columns a)) as' (λ (a : Access).
@@ -115,43 +115,43 @@ eight-free on true column = mapped-each (IsFree on) (λ r. (column r, 0)) eight 
 eight-free on false column = tt
 
 pas-l-free : (labels : List Label) (on : Chosen) → Each (IsFree on) (all_pas_l labels)
-pas-l-free labels on = points-each (IsFree on) pas_l_columns 0 (points labels) (λ i k q e s. eight-free on _ (PasL k))
+pas-l-free labels on = points-each (IsFree on) pas_l_columns 0 (points labels) (λ i k q e s. eight-free on _ (ReadVia k))
 
 pas-s-free : (labels : List Label) (on : Chosen) → Each (IsFree on) (all_pas_s labels)
-pas-s-free labels on = points-each (IsFree on) (pas_s_columns labels) 0 (points labels) (λ i k q e s. eight-free on _ (PasS k))
+pas-s-free labels on = points-each (IsFree on) (pas_s_columns labels) 0 (points labels) (λ i k q e s. eight-free on _ (WriteVia k))
 
 -- ---- services
 
 abbrev IsFreeWay : Chosen → ℕ → ℕ → Service → Type 0
-IsFreeWay on k i s = IsFree on (Srv k i s.from s.at, s.cost)
+IsFreeWay on k i s = IsFree on (Serve k i s.from s.at, s.cost)
 
 -- the ways of a role cost nothing, where they are free one by one
-free-ways : (on : Chosen) (k i : ℕ) (fetched : Bool) (ss : List Service) → Each (IsFreeWay on k i) ss → named_cost on (map (λ s. (Srv k i s.from s.at, s.cost)) (filter (λ s. has_bank fetched s.from) ss)) ≤ 1
+free-ways : (on : Chosen) (k i : ℕ) (fetched : Bool) (ss : List Service) → Each (IsFreeWay on k i) ss → named_cost on (map (λ s. (Serve k i s.from s.at, s.cost)) (filter (λ s. has_bank fetched s.from) ss)) ≤ 1
 free-ways on k i fetched ss h =
     let kept = filter (λ (s : Service). has_bank fetched s.from) ss in
-    let z = free-cost on (map (λ (s : Service). (Srv k i s.from s.at, s.cost)) kept)
-    (mapped-each (IsFree on) (λ (s : Service). (Srv k i s.from s.at, s.cost)) kept (each-kept (IsFreeWay on k i) (λ (s : Service). has_bank fetched s.from) ss h)) in
+    let z = free-cost on (map (λ (s : Service). (Serve k i s.from s.at, s.cost)) kept)
+    (mapped-each (IsFree on) (λ (s : Service). (Serve k i s.from s.at, s.cost)) kept (each-kept (IsFreeWay on k i) (λ (s : Service). has_bank fetched s.from) ss h)) in
     omega (arith, z)
 
-role-cost : (labels : List Label) (on : Chosen) (fetched : Bool) (k i : ℕ) (r : Role) → IsPaired labels on → named_cost on (map (λ s. (Srv k i s.from s.at, s.cost)) (filter (λ s. has_bank fetched s.from) (services r))) ≤ 1
-role-cost labels on fetched k i Operand g = free-ways on k i fetched (services Operand) (free-zero on (Srv k i A A), (free-zero on (Srv k i B B), (free-zero on (Srv k i T T), (paid labels on (Srv k i M L) 16 g refl, (paid labels on (Srv k i M A15) 16 g refl, (paid labels on (Srv k i B A15) 1 g refl, (paid labels on (Srv k i T A15) 1 g refl, tt)))))))
-role-cost labels on fetched k i Address g = free-ways on k i fetched (services Address) (free-zero on (Srv k i A A), (free-zero on (Srv k i B B), (paid labels on (Srv k i T A15) 1 g refl, (paid labels on (Srv k i M A15) 16 g refl, tt))))
+role-cost : (labels : List Label) (on : Chosen) (fetched : Bool) (k i : ℕ) (r : Role) → IsPaired labels on → named_cost on (map (λ s. (Serve k i s.from s.at, s.cost)) (filter (λ s. has_bank fetched s.from) (services r))) ≤ 1
+role-cost labels on fetched k i Operand g = free-ways on k i fetched (services Operand) (free-zero on (Serve k i A A), (free-zero on (Serve k i B B), (free-zero on (Serve k i T T), (paid labels on (Serve k i M L) 16 g refl, (paid labels on (Serve k i M A15) 16 g refl, (paid labels on (Serve k i B A15) 1 g refl, (paid labels on (Serve k i T A15) 1 g refl, tt)))))))
+role-cost labels on fetched k i Address g = free-ways on k i fetched (services Address) (free-zero on (Serve k i A A), (free-zero on (Serve k i B B), (paid labels on (Serve k i T A15) 1 g refl, (paid labels on (Serve k i M A15) 16 g refl, tt))))
 role-cost labels on fetched k i (Written m j) g = by fetched
   where
-    by : (b : Bool) → named_cost on (map (λ s. (Srv k i s.from s.at, s.cost)) (filter (λ s. has_bank b s.from) (services (Written m j)))) ≤ 1
+    by : (b : Bool) → named_cost on (map (λ s. (Serve k i s.from s.at, s.cost)) (filter (λ s. has_bank b s.from) (services (Written m j)))) ≤ 1
     by true =
-        let a = one-cost on (Srv k i A W) 1 in
-        let b = paid labels on (Srv k i B W) 1 g refl in
-        let c = paid labels on (Srv k i T W) 1 g refl in
-        let d = paid labels on (Srv k i M W) 17 g refl in
+        let a = one-cost on (Serve k i A W) 1 in
+        let b = paid labels on (Serve k i B W) 1 g refl in
+        let c = paid labels on (Serve k i T W) 1 g refl in
+        let d = paid labels on (Serve k i M W) 17 g refl in
         omega (arith, a, b, c, d)
     by false =
-        let a = one-cost on (Srv k i A W) 1 in
-        let b = paid labels on (Srv k i B W) 1 g refl in
-        let d = paid labels on (Srv k i M W) 17 g refl in
+        let a = one-cost on (Serve k i A W) 1 in
+        let b = paid labels on (Serve k i B W) 1 g refl in
+        let d = paid labels on (Serve k i M W) 17 g refl in
         omega (arith, a, b, d)
-role-cost labels on fetched k i (Argument l j) g = free-ways on k i fetched (services (Argument l j)) (free-zero on (Srv k i A A), (paid labels on (Srv k i A B) 1 g refl, (paid labels on (Srv k i A M) 17 g refl, (paid labels on (Srv k i B A) 1 g refl, (free-zero on (Srv k i B B), (paid labels on (Srv k i B M) 17 g refl, (paid labels on (Srv k i T A) 1 g refl, (paid labels on (Srv k i T B) 1 g refl, (paid labels on (Srv k i T M) 17 g refl, (paid labels on (Srv k i M A) 17 g refl, (paid labels on (Srv k i M B) 17 g refl, (paid labels on (Srv k i M M) 33 g refl, tt))))))))))))
-role-cost labels on fetched k i (Ending j) g = free-ways on k i fetched (services (Ending j)) (free-zero on (Srv k i A A), (paid labels on (Srv k i B A) 1 g refl, (paid labels on (Srv k i T A) 1 g refl, (paid labels on (Srv k i M A) 17 g refl, tt))))
+role-cost labels on fetched k i (Argument l j) g = free-ways on k i fetched (services (Argument l j)) (free-zero on (Serve k i A A), (paid labels on (Serve k i A B) 1 g refl, (paid labels on (Serve k i A M) 17 g refl, (paid labels on (Serve k i B A) 1 g refl, (free-zero on (Serve k i B B), (paid labels on (Serve k i B M) 17 g refl, (paid labels on (Serve k i T A) 1 g refl, (paid labels on (Serve k i T B) 1 g refl, (paid labels on (Serve k i T M) 17 g refl, (paid labels on (Serve k i M A) 17 g refl, (paid labels on (Serve k i M B) 17 g refl, (paid labels on (Serve k i M M) 33 g refl, tt))))))))))))
+role-cost labels on fetched k i (Ending j) g = free-ways on k i fetched (services (Ending j)) (free-zero on (Serve k i A A), (paid labels on (Serve k i B A) 1 g refl, (paid labels on (Serve k i T A) 1 g refl, (paid labels on (Serve k i M A) 17 g refl, tt))))
 
 srv-cost : (labels : List Label) (on : Chosen) (u : Use) → IsPaired labels on → named_cost on (srv_columns labels u) ≤ 1
 srv-cost labels on u g = role-cost labels on (is_fetched (origin_of labels u.value)) u.point u.operand u.role g

@@ -5,31 +5,31 @@ use Rattle.std.proofs.lemmas.Bool.{and_parts, false≢true, false_from_ne_true}
 use Rattle.ssu_ir.specs.Points.{Point, points}
 use Rattle.ssu_ir.specs.Single.{single}
 use Rattle.ssu_ir.specs.Tree.{Label}
-use Rattle.placement.specs.Uses.{Value, values, Role, Operand, Address, Written, Argument, Ending, Use, uses, place_roles, is_used}
+use Rattle.place_plan.specs.Uses.{Value, values, Role, Operand, Address, Written, Argument, Ending, Use, uses, place_roles, is_used}
 use Rattle.ssu_liveness.specs.inner.Numbers.{values_among}
-use Rattle.placement.proofs.Fitting.{apart-from}
-use Rattle.placement.proofs.Sound.{Each, Sound, sound-points, uses_among}
-use Rattle.placement.proofs.Spilled.{each-at}
+use Rattle.place_plan.proofs.Fitting.{apart-from}
+use Rattle.place_plan.proofs.Sound.{Each, Sound, sound-points, uses_among}
+use Rattle.place_plan.proofs.Spilled.{each-at}
 use Rattle.zo_model.specs.Program.{vector, cost_where}
-use Rattle.bank_form.specs.declared.column.Bank.{Bank}
-use Rattle.bank_form.specs.declared.column.Bank.TheVariants.{A, B, M, L, W}
-use Rattle.bank_form.specs.declared.column.Column.{Column}
-use Rattle.bank_form.specs.declared.column.Column.TheVariants.{Def, Fill, Srv}
-use Rattle.bank_form.specs.declared.column.Service.{Service}
-use Rattle.bank_form.specs.Columns.{columns, services, point_uses, is_fetched}
+use Rattle.bank_prog_form.specs.declared.column.Bank.{Bank}
+use Rattle.bank_prog_form.specs.declared.column.Bank.TheVariants.{A, B, M, L, W}
+use Rattle.bank_prog_form.specs.declared.column.Column.{Column}
+use Rattle.bank_prog_form.specs.declared.column.Column.TheVariants.{Def, Fill, Serve}
+use Rattle.bank_prog_form.specs.declared.column.Service.{Service}
+use Rattle.bank_prog_form.specs.Columns.{columns, services, point_uses, is_fetched}
 use Rattle.bank_prog.specs.Meaning.{Chosen, number_on}
-use Rattle.bank_form.specs.Program.{same_bank, number_of}
-use Rattle.bank_form.specs.Rows.{is_written}
+use Rattle.bank_prog_form.specs.Program.{same_bank, number_of}
+use Rattle.bank_prog_form.specs.Rows.{is_written}
 use Rattle.bank_prog.proofs.LawsColumns.{on-there, chosen-on}
-use Rattle.bank_rows.proofs.Present.{use-place, def-there, fill-there, home-a, home-b}
+use Rattle.bank_prog_rows.proofs.Present.{use-place, def-there, fill-there, home-a, home-b}
 use Rattle.nova_back.specs.inner.Paired.{is_there, is_second, paired}
-use Rattle.bank_assignment.specs.inner.Facts.{count}
-use Rattle.bank_assignment.proofs.ChosenForm.{held-value}
-use Rattle.bank_assignment.proofs.ChosenHolds.{in-test}
-use Rattle.bank_assignment.proofs.Counts.{In, in-contained, contained-in, map-in, each-in, some-counted}
-use Rattle.bank_assignment.proofs.FactsThere.{there, IsService}
-use Rattle.bank_assignment.proofs.FactsValues.{same-use}
-use Rattle.bank_assignment.proofs.LabelPoints.{used-here}
+use Rattle.reg_assign_reading.specs.inner.Facts.{count}
+use Rattle.reg_assign_reading.proofs.ChosenForm.{held-value}
+use Rattle.reg_assign_reading.proofs.ChosenHolds.{in-test}
+use Rattle.reg_assign_reading.proofs.Counts.{In, in-contained, contained-in, map-in, each-in, some-counted}
+use Rattle.reg_assign_reading.proofs.FactsThere.{there, IsService}
+use Rattle.reg_assign_reading.proofs.FactsValues.{same-use}
+use Rattle.reg_assign_reading.proofs.LabelPoints.{used-here}
 
 -- these columns are on: those of the paired choice that are there
 pub record IsPaired (labels : List Label) (on : Chosen) : Type 0 where
@@ -76,8 +76,8 @@ way-of labels u h p i t =
     let same : t.use_ ≡ u = same-use (uses labels) u t.use_ (apart-from 0 (points labels)) i t.there t.point t.operand in
     record { service = t.service; among = subst (λ (z : Use). In t.service (services z.role)) same t.among; from = t.from; at = t.at }
 
-pub way : (labels : List Label) (on : Chosen) (u : Use) (h p : Bank) → IsPaired labels on → In u (uses labels) → on (Srv u.point u.operand h p) ≡ true → Way u h p
-way labels on u h p g i e = way-of labels u h p i (there labels on (Srv u.point u.operand h p) g.only e)
+pub way : (labels : List Label) (on : Chosen) (u : Use) (h p : Bank) → IsPaired labels on → In u (uses labels) → on (Serve u.point u.operand h p) ≡ true → Way u h p
+way labels on u h p g i e = way-of labels u h p i (there labels on (Serve u.point u.operand h p) g.only e)
 
 ways-write : (r : Role) → Each (λ (s : Service). same_bank s.at W ≡ is_written r) (services r)
 ways-write Operand = (refl, (refl, (refl, (refl, (refl, (refl, (refl, tt)))))))
@@ -111,13 +111,13 @@ way-through u w e =
 -- only an operand is a second operand
 pub first-use : (labels : List Label) (u : Use) → In u (uses labels) → is_operand u.role ≡ false → is_second (number_of labels) u.point u.operand ≡ false
 first-use labels u i e = false_from_ne_true (is_second (number_of labels) u.point u.operand) (λ f.
-    let c = Srv u.point u.operand M L in
+    let c = Serve u.point u.operand M L in
     let t = (and_parts (nat_eq u.operand 1) (is_there (number_of labels) c) f).1 in
     let all : Chosen = is_there (number_of labels) in
     false≢true (sym (way-through u (way-of labels u M L i (there labels all c (λ d. there-contained labels d) t)) e)))
 
 -- a word that is written is served at its write register only, another use never
-pub not-both : (labels : List Label) (on : Chosen) (u : Use) → IsPaired labels on → In u (uses labels) → on (Srv u.point u.operand A A) ≡ true → on (Srv u.point u.operand A W) ≡ true → ⊥
+pub not-both : (labels : List Label) (on : Chosen) (u : Use) → IsPaired labels on → In u (uses labels) → on (Serve u.point u.operand A A) ≡ true → on (Serve u.point u.operand A W) ≡ true → ⊥
 not-both labels on u g i e f =
     let a = way-write u A A (way labels on u A A g i e) in
     let b = way-write u A W (way labels on u A W g i f) in

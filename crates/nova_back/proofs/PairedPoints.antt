@@ -8,29 +8,29 @@ use Rattle.nv_base.proofs.Sets.{same-number}
 use Rattle.ssu_ir.specs.Measures.{most_held, peak}
 use Rattle.ssu_ir.specs.Points.{PointKind, Entry, At, Point, points}
 use Rattle.ssu_ir.specs.Tree.{Label, Lit, Una, Bin, Clone, Read, Write, Does, Forks, Ends}
-use Rattle.placement.specs.Fits.{is_result, point_values}
-use Rattle.placement.specs.Uses.{Access, reads_at, writes_at, ValueOrigin, Parameter, Result, Fetched, Value, values, place_values, Role, Operand, Address, Written, Argument, Ending, Use, uses_at, uses, place_roles, is_used}
+use Rattle.place_plan.specs.Fits.{is_result, point_values}
+use Rattle.place_plan.specs.Uses.{Access, reads_at, writes_at, ValueOrigin, Parameter, Result, Fetched, Value, values, place_values, Role, Operand, Address, Written, Argument, Ending, Use, uses_at, uses, place_roles, is_used}
 use Rattle.ssu_liveness.proofs.Scoped.{different-filter}
-use Rattle.placement.proofs.Sound.{Each, each-append}
-use Rattle.placement.proofs.Slotted.{each-any}
-use Rattle.bank_form.specs.declared.column.Bank.{Bank}
-use Rattle.bank_form.specs.declared.column.Bank.TheVariants.{A, B, M, T, L, A15, W}
-use Rattle.bank_form.specs.declared.column.Column.{Column}
-use Rattle.bank_form.specs.declared.column.Column.TheVariants.{Def, Dir, Fill, Stay, Ear, First, Srv, PasL, PasS}
-use Rattle.bank_form.specs.declared.column.Service.{Service}
-use Rattle.bank_form.specs.Columns.{each_point, origin_of, eight, place_words, point_uses, role_beginnings, origin_beginnings, services}
+use Rattle.place_plan.proofs.Sound.{Each, each-append}
+use Rattle.place_plan.proofs.Slotted.{each-any}
+use Rattle.bank_prog_form.specs.declared.column.Bank.{Bank}
+use Rattle.bank_prog_form.specs.declared.column.Bank.TheVariants.{A, B, M, T, L, A15, W}
+use Rattle.bank_prog_form.specs.declared.column.Column.{Column}
+use Rattle.bank_prog_form.specs.declared.column.Column.TheVariants.{Def, DirectWrite, Fill, Stay, EarlyWrite, First, Serve, ReadVia, WriteVia}
+use Rattle.bank_prog_form.specs.declared.column.Service.{Service}
+use Rattle.bank_prog_form.specs.Columns.{each_point, origin_of, eight, place_words, point_uses, role_beginnings, origin_beginnings, services}
 use Rattle.bank_prog.specs.Meaning.{Chosen, Holds}
-use Rattle.bank_form.specs.Program.{number_of}
-use Rattle.bank_form.specs.Rows.{at_most, covers, home, srv_at, two_operands, both_at, pair_lines, operand_lines, operand_banks, live_in, room_lines, capacity, is_sdram, same_side, run_at, origin_stays, stays_at, role_early, early_at, covering, side_covering, waiting, read_owners, access_owners, fill_owners, side_owners, write_owners, owners, stay_begins, word_begins, begins_at, adjacency, is_slot, slot_read, slot_written, result_written, value_written, passes}
-use Rattle.bank_rows.proofs.Present.{srv-there}
-use Rattle.bank_rows.proofs.PlainLines.{mapped-each}
+use Rattle.bank_prog_form.specs.Program.{number_of}
+use Rattle.bank_prog_form.specs.Rows.{at_most, covers, home, srv_at, two_operands, both_at, pair_lines, operand_lines, operand_banks, live_in, room_lines, capacity, is_sdram, same_side, run_at, origin_stays, stays_at, role_early, early_at, covering, side_covering, waiting, read_owners, access_owners, fill_owners, side_owners, write_owners, owners, stay_begins, word_begins, begins_at, adjacency, is_slot, slot_read, slot_written, result_written, value_written, passes}
+use Rattle.bank_prog_rows.proofs.Present.{srv-there}
+use Rattle.bank_prog_rows.proofs.PlainLines.{mapped-each}
 use Rattle.nova_back.specs.inner.Paired.{is_there, is_second, serves_a, serves_b}
 use Rattle.nova_back.proofs.PairedOn.{IsPaired, on-paired, off, contained-there, count-off, count-none, first-most, use-at, home-most, home-b-most, home-m-none}
 use Rattle.nova_back.proofs.PairedRows.{AreOff, zero-most, zero-covers, numbered-off, at-a, at-off, serves-none}
-use Rattle.bank_assignment.specs.inner.Facts.{count}
-use Rattle.bank_assignment.proofs.ChosenHolds.{most-holds, flat-each, if-each, points-each, only-most}
-use Rattle.bank_assignment.proofs.Counts.{In, contained-in, in-kept, each-from, count-append}
-use Rattle.bank_assignment.proofs.FactsThere.{there}
+use Rattle.reg_assign_reading.specs.inner.Facts.{count}
+use Rattle.reg_assign_reading.proofs.ChosenHolds.{most-holds, flat-each, if-each, points-each, only-most}
+use Rattle.reg_assign_reading.proofs.Counts.{In, contained-in, in-kept, each-from, count-append}
+use Rattle.reg_assign_reading.proofs.FactsThere.{there}
 
 -- ---- two operands
 
@@ -74,18 +74,18 @@ operand-one u k (x ∷ y ∷ xs) (r ∷ s ∷ rs) t h o = ⊎_elim
     h
 
 -- the second of two operands isn't served from A
-second-off : (labels : List Label) (on : Chosen) (k : ℕ) (q : Point) → IsPaired labels on → slice_get (points labels) k ≡ Some q → two_operands (place_roles q.place) ≡ true → on (Srv k 1 A A) ≡ false
-second-off labels on k q g at t = false_from_ne_true (on (Srv k 1 A A)) (λ f.
-    let w = there labels on (Srv k 1 A A) g.only f in
+second-off : (labels : List Label) (on : Chosen) (k : ℕ) (q : Point) → IsPaired labels on → slice_get (points labels) k ≡ Some q → two_operands (place_roles q.place) ≡ true → on (Serve k 1 A A) ≡ false
+second-off labels on k q g at t = false_from_ne_true (on (Serve k 1 A A)) (λ f.
+    let w = there labels on (Serve k 1 A A) g.only f in
     let u = w.use_ in
     let m = use-at labels u w.there in
     let found : slice_get (points labels) k ≡ Some m.0 = subst (λ n. slice_get (points labels) n ≡ Some m.0) w.point m.1 in
     let same : m.0 ≡ q = let both : Some m.0 ≡ Some q = sym found ∙ at in cc in
     let role : u.role ≡ Operand = operand-one u u.point m.0.uses (place_roles m.0.place) (subst (λ (z : Point). two_operands (place_roles z.place) ≡ true) (sym same) t) m.2 w.operand in
     let through : Service = record { from = M; at = L; cost = 16 } in
-    let there' = contained-there labels (Srv u.point u.operand M L) (srv-there labels u through (contained-in u (uses labels) w.there) (subst (λ r. Contains (services r) through) (sym role) (3, omega arith, refl)) refl) in
-    let moved : is_there (number_of labels) (Srv k 1 M L) ≡ true = subst (λ n. is_there (number_of labels) (Srv n 1 M L) ≡ true) w.point (subst (λ i. is_there (number_of labels) (Srv u.point i M L) ≡ true) w.operand there') in
-    false≢true (sym (ap not moved) ∙ on-paired labels on g (Srv k 1 A A) f))
+    let there' = contained-there labels (Serve u.point u.operand M L) (srv-there labels u through (contained-in u (uses labels) w.there) (subst (λ r. Contains (services r) through) (sym role) (3, omega arith, refl)) refl) in
+    let moved : is_there (number_of labels) (Serve k 1 M L) ≡ true = subst (λ n. is_there (number_of labels) (Serve n 1 M L) ≡ true) w.point (subst (λ i. is_there (number_of labels) (Serve u.point i M L) ≡ true) w.operand there') in
+    false≢true (sym (ap not moved) ∙ on-paired labels on g (Serve k 1 A A) f))
 
 two-flat : {X : Type 0} (on : Chosen) (f : X → List Column) (x y : X) → count on (flat_map f (x ∷ y ∷ [])) ≡ count on (f x) + count on (f y)
 two-flat on f x y =
@@ -102,15 +102,15 @@ at-none labels on k i p g a b = count-none on (srv_at k i p) (at-off labels on k
 
 at-b : (labels : List Label) (on : Chosen) (k i : ℕ) → IsPaired labels on → count on (srv_at k i B) ≤ 1
 at-b labels on k i g =
-    let c0 = count-off on (Srv k i A B) (map (λ h. Srv k i h B) (B ∷ M ∷ T ∷ L ∷ A15 ∷ W ∷ [])) (off labels on g (Srv k i A B) refl) in
+    let c0 = count-off on (Serve k i A B) (map (λ h. Serve k i h B) (B ∷ M ∷ T ∷ L ∷ A15 ∷ W ∷ [])) (off labels on g (Serve k i A B) refl) in
     subst (λ n. n ≤ 1) (sym c0)
-    (first-most on (Srv k i B B) (map (λ h. Srv k i h B) (M ∷ T ∷ L ∷ A15 ∷ W ∷ []))
-    (off labels on g (Srv k i M B) refl, (off labels on g (Srv k i T B) refl, (off labels on g (Srv k i L B) refl, (off labels on g (Srv k i A15 B) refl, (off labels on g (Srv k i W B) refl, tt))))))
+    (first-most on (Serve k i B B) (map (λ h. Serve k i h B) (M ∷ T ∷ L ∷ A15 ∷ W ∷ []))
+    (off labels on g (Serve k i M B) refl, (off labels on g (Serve k i T B) refl, (off labels on g (Serve k i L B) refl, (off labels on g (Serve k i A15 B) refl, (off labels on g (Serve k i W B) refl, tt))))))
 
-second-none : (labels : List Label) (on : Chosen) (k : ℕ) → IsPaired labels on → on (Srv k 1 A A) ≡ false → count on (srv_at k 1 A) ≡ 0
+second-none : (labels : List Label) (on : Chosen) (k : ℕ) → IsPaired labels on → on (Serve k 1 A A) ≡ false → count on (srv_at k 1 A) ≡ 0
 second-none labels on k g e =
     count-none on (srv_at k 1 A)
-    (e, (off labels on g (Srv k 1 B A) refl, (off labels on g (Srv k 1 M A) refl, (off labels on g (Srv k 1 T A) refl, (off labels on g (Srv k 1 L A) refl, (off labels on g (Srv k 1 A15 A) refl, (off labels on g (Srv k 1 W A) refl, tt)))))))
+    (e, (off labels on g (Serve k 1 B A) refl, (off labels on g (Serve k 1 M A) refl, (off labels on g (Serve k 1 T A) refl, (off labels on g (Serve k 1 L A) refl, (off labels on g (Serve k 1 A15 A) refl, (off labels on g (Serve k 1 W A) refl, tt)))))))
 
 pairs-lines : (labels : List Label) (on : Chosen) (k : ℕ) (q : Point) → IsPaired labels on → slice_get (points labels) k ≡ Some q → two_operands (place_roles q.place) ≡ true → Each (Holds on) (pair_lines k)
 pairs-lines labels on k q g at t =
@@ -200,8 +200,8 @@ role-off : (labels : List Label) (on : Chosen) (sdram : Bool) (r k i : ℕ) (rol
 role-off labels on sdram r k i Operand g = tt
 role-off labels on sdram r k i Address g = tt
 role-off labels on sdram r k i (Written m j) g =
-    if-each (λ c. on c ≡ false) (same_side sdram (is_sdram m)) (map (Dir k i) (run_at r j) ++ map (Ear k i) (run_at r j)) (λ e.
-    each-append (λ c. on c ≡ false) (map (Dir k i) (run_at r j)) (map (Ear k i) (run_at r j)) (numbered-off labels on (Dir k i) (run_at r j) g (λ f. refl)) (numbered-off labels on (Ear k i) (run_at r j) g (λ f. refl)))
+    if-each (λ c. on c ≡ false) (same_side sdram (is_sdram m)) (map (DirectWrite k i) (run_at r j) ++ map (EarlyWrite k i) (run_at r j)) (λ e.
+    each-append (λ c. on c ≡ false) (map (DirectWrite k i) (run_at r j)) (map (EarlyWrite k i) (run_at r j)) (numbered-off labels on (DirectWrite k i) (run_at r j) g (λ f. refl)) (numbered-off labels on (EarlyWrite k i) (run_at r j) g (λ f. refl)))
 role-off labels on sdram r k i (Argument l j) g = tt
 role-off labels on sdram r k i (Ending j) g = tt
 
@@ -241,11 +241,11 @@ writes-once labels on sdram r k (At (Ends l)) g = omega arith
 
 reads-own : (labels : List Label) (on : Chosen) (k : ℕ) (q : Point) → IsPaired labels on → Each (Holds on) (read_owners labels k q)
 reads-own labels on k q g =
-    each-append (Holds on) (map (λ r. at_most 1 (stays_at labels false r q.before ++ PasL k r ∷ [])) eight) (map (λ r. at_most 1 (stays_at labels true r q.before)) eight)
-    (mapped-each (Holds on) (λ r. at_most 1 (stays_at labels false r q.before ++ PasL k r ∷ [])) eight
-    (each-any (λ r. Holds on (at_most 1 (stays_at labels false r q.before ++ PasL k r ∷ []))) eight (λ r.
-    zero-most on 1 (stays_at labels false r q.before ++ PasL k r ∷ [])
-    (each-append (λ c. on c ≡ false) (stays_at labels false r q.before) (PasL k r ∷ []) (stays-off labels on false r q.before g) (off labels on g (PasL k r) refl, tt)))))
+    each-append (Holds on) (map (λ r. at_most 1 (stays_at labels false r q.before ++ ReadVia k r ∷ [])) eight) (map (λ r. at_most 1 (stays_at labels true r q.before)) eight)
+    (mapped-each (Holds on) (λ r. at_most 1 (stays_at labels false r q.before ++ ReadVia k r ∷ [])) eight
+    (each-any (λ r. Holds on (at_most 1 (stays_at labels false r q.before ++ ReadVia k r ∷ []))) eight (λ r.
+    zero-most on 1 (stays_at labels false r q.before ++ ReadVia k r ∷ [])
+    (each-append (λ c. on c ≡ false) (stays_at labels false r q.before) (ReadVia k r ∷ []) (stays-off labels on false r q.before g) (off labels on g (ReadVia k r) refl, tt)))))
     (mapped-each (Holds on) (λ r. at_most 1 (stays_at labels true r q.before)) eight
     (each-any (λ r. Holds on (at_most 1 (stays_at labels true r q.before))) eight (λ r. zero-most on 1 (stays_at labels true r q.before) (stays-off labels on true r q.before g))))
 
@@ -274,8 +274,8 @@ side-owns labels on k q sdram pass g h =
 
 writes-own : (labels : List Label) (on : Chosen) (k : ℕ) (q : Point) → IsPaired labels on → Each (Holds on) (write_owners labels k q)
 writes-own labels on k q g =
-    each-append (Holds on) (side_owners labels k q false (λ r. PasS k r ∷ [])) (side_owners labels k q true (λ r. []))
-    (side-owns labels on k q false (λ r. PasS k r ∷ []) g (λ r. (off labels on g (PasS k r) refl, tt)))
+    each-append (Holds on) (side_owners labels k q false (λ r. WriteVia k r ∷ [])) (side_owners labels k q true (λ r. []))
+    (side-owns labels on k q false (λ r. WriteVia k r ∷ []) g (λ r. (off labels on g (WriteVia k r) refl, tt)))
     (side-owns labels on k q true (λ r. []) g (λ r. tt))
 
 pub owners-lines : (labels : List Label) (on : Chosen) → IsPaired labels on → Each (Holds on) (owners labels)
@@ -300,10 +300,10 @@ stay-lines labels on n v g =
 
 word-lines : (labels : List Label) (on : Chosen) (n : ℕ) (u : Use) → IsPaired labels on → Each (Holds on) (word_begins n u)
 word-lines labels on n u g =
-    let line = λ (f : ℕ). covers (First u.point f ∷ []) (Dir u.point u.operand f ∷ Ear u.point u.operand f ∷ []) in
+    let line = λ (f : ℕ). covers (First u.point f ∷ []) (DirectWrite u.point u.operand f ∷ EarlyWrite u.point u.operand f ∷ []) in
     let fs = role_beginnings n u.role in
     mapped-each (Holds on) line fs (each-any (λ f. Holds on (line f)) fs (λ f.
-    zero-covers on (First u.point f ∷ []) (Dir u.point u.operand f ∷ Ear u.point u.operand f ∷ []) (off labels on g (Dir u.point u.operand f) refl, (off labels on g (Ear u.point u.operand f) refl, tt))))
+    zero-covers on (First u.point f ∷ []) (DirectWrite u.point u.operand f ∷ EarlyWrite u.point u.operand f ∷ []) (off labels on g (DirectWrite u.point u.operand f) refl, (off labels on g (EarlyWrite u.point u.operand f) refl, tt))))
 
 pub adjacency-lines : (labels : List Label) (on : Chosen) → IsPaired labels on → Each (Holds on) (adjacency labels)
 adjacency-lines labels on g = points-each (Holds on) (begins_at labels) 0 (points labels) (λ i k q e s.
@@ -316,10 +316,10 @@ adjacency-lines labels on g = points-each (Holds on) (begins_at labels) 0 (point
 
 -- ---- passes
 
-slot-off : (labels : List Label) (on : Chosen) (k i : ℕ) (h p : Bank) → IsPaired labels on → is_slot h ≡ true → on (Srv k i h p) ≡ false
+slot-off : (labels : List Label) (on : Chosen) (k i : ℕ) (h p : Bank) → IsPaired labels on → is_slot h ≡ true → on (Serve k i h p) ≡ false
 slot-off labels on k i A p g e = absurd (false≢true e)
 slot-off labels on k i B p g e = absurd (false≢true e)
-slot-off labels on k i M p g e = off labels on g (Srv k i M p) refl
+slot-off labels on k i M p g e = off labels on g (Serve k i M p) refl
 slot-off labels on k i T p g e = absurd (false≢true e)
 slot-off labels on k i L p g e = absurd (false≢true e)
 slot-off labels on k i A15 p g e = absurd (false≢true e)
@@ -328,16 +328,16 @@ slot-off labels on k i W p g e = absurd (false≢true e)
 reads-slot : (labels : List Label) (on : Chosen) (u : Use) → IsPaired labels on → Each (Holds on) (slot_read u)
 reads-slot labels on u g =
     let from-slot = filter (λ (s : Service). is_slot s.from) (services u.role) in
-    mapped-each (Holds on) (λ (s : Service). covers (map (PasL u.point) eight) (Srv u.point u.operand s.from s.at ∷ [])) from-slot
-    (each-from (λ (s : Service). Holds on (covers (map (PasL u.point) eight) (Srv u.point u.operand s.from s.at ∷ []))) from-slot (λ s i.
-    zero-covers on (map (PasL u.point) eight) (Srv u.point u.operand s.from s.at ∷ [])
+    mapped-each (Holds on) (λ (s : Service). covers (map (ReadVia u.point) eight) (Serve u.point u.operand s.from s.at ∷ [])) from-slot
+    (each-from (λ (s : Service). Holds on (covers (map (ReadVia u.point) eight) (Serve u.point u.operand s.from s.at ∷ []))) from-slot (λ s i.
+    zero-covers on (map (ReadVia u.point) eight) (Serve u.point u.operand s.from s.at ∷ [])
     (slot-off labels on u.point u.operand s.from s.at g (in-kept (λ (t : Service). is_slot t.from) s (services u.role) i).1, tt)))
 
 writes-slot : (labels : List Label) (on : Chosen) (v : Value) → IsPaired labels on → Each (Holds on) (value_written labels v)
 writes-slot labels on v g =
     if-each (Holds on) (is_used labels v.var) (slot_written v.point (Fill v.var M) ∷ result_written v) (λ e. (
-      zero-covers on (map (PasS v.point) eight) (Fill v.var M ∷ []) (off labels on g (Fill v.var M) refl, tt),
-      if-each (Holds on) (is_result v.origin) (slot_written v.point (Def v.var M) ∷ []) (λ f. (zero-covers on (map (PasS v.point) eight) (Def v.var M ∷ []) (off labels on g (Def v.var M) refl, tt), tt)),
+      zero-covers on (map (WriteVia v.point) eight) (Fill v.var M ∷ []) (off labels on g (Fill v.var M) refl, tt),
+      if-each (Holds on) (is_result v.origin) (slot_written v.point (Def v.var M) ∷ []) (λ f. (zero-covers on (map (WriteVia v.point) eight) (Def v.var M ∷ []) (off labels on g (Def v.var M) refl, tt), tt)),
     ))
 
 pub passes-lines : (labels : List Label) (on : Chosen) → IsPaired labels on → Each (Holds on) (passes labels)

@@ -8,29 +8,29 @@ use Rattle.nv_base.specs.declared.term.Mem.{Mem}
 use Rattle.nv_base.specs.declared.term.Mem.TheVariants.{Sram, Sdram, Scratch}
 use Rattle.ssu_ir.specs.Points.{PointKind, Entry, At, Point, points}
 use Rattle.ssu_ir.specs.Tree.{Label, Lit, Una, Bin, Clone, Read, Write, Does, Forks, Ends}
-use Rattle.placement.specs.Fits.{is_result, parameter}
-use Rattle.placement.specs.Uses.{Access, place_accesses, accesses_from, accesses, Value, values, Role, Operand, Address, Written, Argument, Ending, Use, uses_of, uses, is_used}
+use Rattle.place_plan.specs.Fits.{is_result, parameter}
+use Rattle.place_plan.specs.Uses.{Access, place_accesses, accesses_from, accesses, Value, values, Role, Operand, Address, Written, Argument, Ending, Use, uses_of, uses, is_used}
 use Rattle.ssu_liveness.specs.inner.Numbers.{values_among}
-use Rattle.placement.proofs.Slotted.{first-fits, each-any}
-use Rattle.placement.proofs.Sound.{Each, each-append, Sound, sound-points, place_ok, uses_among}
-use Rattle.bank_form.specs.declared.column.Bank.{Bank}
-use Rattle.bank_form.specs.declared.column.Bank.TheVariants.{A, B, M, T, L, A15, W}
-use Rattle.bank_form.specs.declared.column.Column.{Column}
-use Rattle.bank_form.specs.declared.column.Column.TheVariants.{Def, Dir, Fill, Ear, First, Srv}
-use Rattle.bank_form.specs.declared.column.Service.{Service}
-use Rattle.bank_form.specs.Columns.{origin_of, is_fetched, eight, may_begin, services, has_bank}
+use Rattle.place_plan.proofs.Slotted.{first-fits, each-any}
+use Rattle.place_plan.proofs.Sound.{Each, each-append, Sound, sound-points, place_ok, uses_among}
+use Rattle.bank_prog_form.specs.declared.column.Bank.{Bank}
+use Rattle.bank_prog_form.specs.declared.column.Bank.TheVariants.{A, B, M, T, L, A15, W}
+use Rattle.bank_prog_form.specs.declared.column.Column.{Column}
+use Rattle.bank_prog_form.specs.declared.column.Column.TheVariants.{Def, DirectWrite, Fill, EarlyWrite, First, Serve}
+use Rattle.bank_prog_form.specs.declared.column.Service.{Service}
+use Rattle.bank_prog_form.specs.Columns.{origin_of, is_fetched, eight, may_begin, services, has_bank}
 use Rattle.bank_prog.specs.Meaning.{Chosen, Holds}
-use Rattle.bank_form.specs.Program.{number_of}
-use Rattle.bank_form.specs.Rows.{at_most, covers, exactly_one, homes, banks, def, home, stay, srv, srv_from, srv_at, dir, ear, early, is_parameter, is_written, parameter_choice, result_choice, access_choice, use_choice, served_home, use_stay, use_cover, in_register, fill, word_from_register, copy_lines, copy_cover, at_home, argument_lines, argument_cover}
-use Rattle.bank_rows.proofs.Present.{contains-beginning, first-there, srv-there}
-use Rattle.bank_rows.proofs.PlainLines.{mapped-each}
+use Rattle.bank_prog_form.specs.Program.{number_of}
+use Rattle.bank_prog_form.specs.Rows.{at_most, covers, exactly_one, homes, banks, def, home, stay, srv, srv_from, srv_at, dir, ear, early, is_parameter, is_written, parameter_choice, result_choice, access_choice, use_choice, served_home, use_stay, use_cover, in_register, fill, word_from_register, copy_lines, copy_cover, at_home, argument_lines, argument_cover}
+use Rattle.bank_prog_rows.proofs.Present.{contains-beginning, first-there, srv-there}
+use Rattle.bank_prog_rows.proofs.PlainLines.{mapped-each}
 use Rattle.nova_back.specs.inner.Paired.{is_second, serves_a, serves_b, serves, paired}
 use Rattle.nova_back.proofs.PairedOn.{IsPaired, off, put, is_operand, first-use, not-both, count-off, count-none, first-most, first-one, used-value, is-used, home-most, home-a-some, home-b-most, home-b-some, home-m-none, put-a}
-use Rattle.bank_assignment.specs.inner.Facts.{count}
-use Rattle.bank_assignment.proofs.ChosenHolds.{most-holds, covers-hold, one-holds, flat-each, if-each}
-use Rattle.bank_assignment.proofs.ChosenSource.{argument-value}
-use Rattle.bank_assignment.proofs.Counts.{In, contained-in, each-in, count-append, some-counted}
-use Rattle.bank_assignment.proofs.ChosenValues.{unfetched, result-unfetched}
+use Rattle.reg_assign_reading.specs.inner.Facts.{count}
+use Rattle.reg_assign_reading.proofs.ChosenHolds.{most-holds, covers-hold, one-holds, flat-each, if-each}
+use Rattle.reg_assign_reading.proofs.ChosenSource.{argument-value}
+use Rattle.reg_assign_reading.proofs.Counts.{In, contained-in, each-in, count-append, some-counted}
+use Rattle.reg_assign_reading.proofs.ChosenValues.{unfetched, result-unfetched}
 
 -- ---- lines of columns that are off
 
@@ -47,10 +47,10 @@ pub numbered-off : (labels : List Label) (on : Chosen) (c : ℕ → Column) (rs 
 numbered-off labels on c rs g h = mapped-each (λ d. on d ≡ false) c rs (each-any (λ r. on (c r) ≡ false) rs (λ r. off labels on g (c r) (h r)))
 
 pub dirs-off : (labels : List Label) (on : Chosen) (u : Use) → IsPaired labels on → AreOff on (dir u)
-dirs-off labels on u g = numbered-off labels on (Dir u.point u.operand) eight g (λ f. refl)
+dirs-off labels on u g = numbered-off labels on (DirectWrite u.point u.operand) eight g (λ f. refl)
 
 pub ears-off : (labels : List Label) (on : Chosen) (u : Use) → IsPaired labels on → AreOff on (ear u)
-ears-off labels on u g = numbered-off labels on (Ear u.point u.operand) eight g (λ f. refl)
+ears-off labels on u g = numbered-off labels on (EarlyWrite u.point u.operand) eight g (λ f. refl)
 
 early-off : (labels : List Label) (on : Chosen) (u : Use) → IsPaired labels on → AreOff on (early u)
 early-off labels on u g =
@@ -111,13 +111,13 @@ access-lines labels on a g i =
 
 -- ---- each use is served in one way
 
-way-on : (labels : List Label) (on : Chosen) (u : Use) (r : Role) (s : Service) → IsPaired labels on → In u (uses labels) → u.role ≡ r → Contains (services r) s → has_bank (is_fetched (origin_of labels u.value)) s.from ≡ true → paired (number_of labels) (Srv u.point u.operand s.from s.at) ≡ true
-    → on (Srv u.point u.operand s.from s.at) ≡ true
-way-on labels on u r s g i e m t p = put labels on g (Srv u.point u.operand s.from s.at) (srv-there labels u s (contained-in u (uses labels) i) (subst (λ z. Contains (services z) s) (sym e) m) t) p
+way-on : (labels : List Label) (on : Chosen) (u : Use) (r : Role) (s : Service) → IsPaired labels on → In u (uses labels) → u.role ≡ r → Contains (services r) s → has_bank (is_fetched (origin_of labels u.value)) s.from ≡ true → paired (number_of labels) (Serve u.point u.operand s.from s.at) ≡ true
+    → on (Serve u.point u.operand s.from s.at) ≡ true
+way-on labels on u r s g i e m t p = put labels on g (Serve u.point u.operand s.from s.at) (srv-there labels u s (contained-in u (uses labels) i) (subst (λ z. Contains (services z) s) (sym e) m) t) p
 
 -- the column of a use that is served from one bank in another
 abbrev S : Use → Bank → Bank → Column
-S u h p = Srv u.point u.operand h p
+S u h p = Serve u.point u.operand h p
 
 abbrev served_by : Use → Role → List Column
 served_by u r = map (λ s. S u s.from s.at) (services r)
@@ -177,13 +177,13 @@ from-a labels on u g i = by (on (S u A A)) refl (on (S u A W)) refl
 
 from-b : (labels : List Label) (on : Chosen) (k i : ℕ) → IsPaired labels on → count on (srv_from k i B) ≤ 1
 from-b labels on k i g =
-    let c0 = count-off on (Srv k i B A) (map (Srv k i B) (B ∷ M ∷ T ∷ L ∷ A15 ∷ W ∷ [])) (off labels on g (Srv k i B A) refl) in
+    let c0 = count-off on (Serve k i B A) (map (Serve k i B) (B ∷ M ∷ T ∷ L ∷ A15 ∷ W ∷ [])) (off labels on g (Serve k i B A) refl) in
     subst (λ n. n ≤ 1) (sym c0)
-    (first-most on (Srv k i B B) (map (Srv k i B) (M ∷ T ∷ L ∷ A15 ∷ W ∷ []))
-    (off labels on g (Srv k i B M) refl, (off labels on g (Srv k i B T) refl, (off labels on g (Srv k i B L) refl, (off labels on g (Srv k i B A15) refl, (off labels on g (Srv k i B W) refl, tt))))))
+    (first-most on (Serve k i B B) (map (Serve k i B) (M ∷ T ∷ L ∷ A15 ∷ W ∷ []))
+    (off labels on g (Serve k i B M) refl, (off labels on g (Serve k i B T) refl, (off labels on g (Serve k i B L) refl, (off labels on g (Serve k i B A15) refl, (off labels on g (Serve k i B W) refl, tt))))))
 
-from-off : (labels : List Label) (on : Chosen) (k i : ℕ) (h : Bank) → IsPaired labels on → ((p : Bank) → paired (number_of labels) (Srv k i h p) ≡ false) → AreOff on (srv_from k i h)
-from-off labels on k i h g e = mapped-each (λ c. on c ≡ false) (Srv k i h) banks (each-any (λ p. on (Srv k i h p) ≡ false) banks (λ p. off labels on g (Srv k i h p) (e p)))
+from-off : (labels : List Label) (on : Chosen) (k i : ℕ) (h : Bank) → IsPaired labels on → ((p : Bank) → paired (number_of labels) (Serve k i h p) ≡ false) → AreOff on (srv_from k i h)
+from-off labels on k i h g e = mapped-each (λ c. on c ≡ false) (Serve k i h) banks (each-any (λ p. on (Serve k i h p) ≡ false) banks (λ p. off labels on g (Serve k i h p) (e p)))
 
 pub cover-lines : (labels : List Label) (on : Chosen) (u : Use) → IsPaired labels on → In u (uses labels) → Each (Holds on) (use_cover labels u)
 cover-lines labels on u g i =
@@ -229,11 +229,11 @@ copies-lines labels on v g i =
 
 pub at-a : (labels : List Label) (on : Chosen) (k i : ℕ) → IsPaired labels on → count on (srv_at k i A) ≤ 1
 at-a labels on k i g =
-    first-most on (Srv k i A A) (map (λ h. Srv k i h A) (B ∷ M ∷ T ∷ L ∷ A15 ∷ W ∷ []))
-    (off labels on g (Srv k i B A) refl, (off labels on g (Srv k i M A) refl, (off labels on g (Srv k i T A) refl, (off labels on g (Srv k i L A) refl, (off labels on g (Srv k i A15 A) refl, (off labels on g (Srv k i W A) refl, tt))))))
+    first-most on (Serve k i A A) (map (λ h. Serve k i h A) (B ∷ M ∷ T ∷ L ∷ A15 ∷ W ∷ []))
+    (off labels on g (Serve k i B A) refl, (off labels on g (Serve k i M A) refl, (off labels on g (Serve k i T A) refl, (off labels on g (Serve k i L A) refl, (off labels on g (Serve k i A15 A) refl, (off labels on g (Serve k i W A) refl, tt))))))
 
-pub at-off : (labels : List Label) (on : Chosen) (k i : ℕ) (p : Bank) → IsPaired labels on → ((h : Bank) → paired (number_of labels) (Srv k i h p) ≡ false) → AreOff on (srv_at k i p)
-at-off labels on k i p g e = mapped-each (λ c. on c ≡ false) (λ h. Srv k i h p) banks (each-any (λ h. on (Srv k i h p) ≡ false) banks (λ h. off labels on g (Srv k i h p) (e h)))
+pub at-off : (labels : List Label) (on : Chosen) (k i : ℕ) (p : Bank) → IsPaired labels on → ((h : Bank) → paired (number_of labels) (Serve k i h p) ≡ false) → AreOff on (srv_at k i p)
+at-off labels on k i p g e = mapped-each (λ c. on c ≡ false) (λ h. Serve k i h p) banks (each-any (λ h. on (Serve k i h p) ≡ false) banks (λ h. off labels on g (Serve k i h p) (e h)))
 
 pub serves-none : (second : Bool) (p : Bank) → serves_a second p ≡ false → serves_b second p ≡ false → (h : Bank) → serves second h p ≡ false
 serves-none second p a b A = a

@@ -13,17 +13,17 @@ use Rattle.zo_model.specs.declared.program.ZeroOne.{ZeroOne}
 use Rattle.zo_cert.specs.Certificate.{IsTreeWith, branches}
 use Rattle.zo_cert.specs.Report.{IsValidReport, IsTrueReport, VerdictHolds}
 use Rattle.zo_cert.specs.Searched.{IsSearched}
-use Rattle.zo_proof.specs.declared.cert.Claim.TheVariants.{Least}
+use Rattle.zo_cert_tree.specs.declared.cert.Claim.TheVariants.{Least}
 use Rattle.zo_cert.specs.declared.report.Report.{Report}
 use Rattle.zo_cert.specs.declared.report.Verdict.{Verdict}
 use Rattle.zo_cert.specs.declared.report.Verdict.TheVariants.{Optimal, Feasible, Infeasible, Spent}
 use Rattle.zo_solve.specs.Reported.{IsReportOf, verdict_of}
 use Rattle.zo_solve.specs.Solved as solved
 use Rattle.zo_solve.specs.Solved.{CostsAtMost, HadNoStart, IsDecided, OfVector, tree_of}
-use Rattle.zo_state.specs.Vector.{IsVector, cost_at, start_cost}
+use Rattle.zo_solve_state.specs.Vector.{IsVector, cost_at, start_cost}
 use Rattle.zo_solve.specs.declared.search.Solved.{Solved}
 use Rattle.zo_solve.specs.declared.search.Solved.TheVariants as answers
-use Rattle.bank_form.specs.Columns.{columns}
+use Rattle.bank_prog_form.specs.Columns.{columns}
 use Rattle.bank_prog.specs.Weighted.{weighted_costs, weighted_program}
 use Rattle.bank_prog.proofs.LawsRows.{feasible-by-name}
 use Rattle.nova_back.proofs.ColumnLabels.{weighted-length}

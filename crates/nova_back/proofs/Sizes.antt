@@ -11,12 +11,12 @@ use Rattle.ssu_ir.specs.Points as pure
 use Rattle.ssu_ir.specs.Single.{single, is_step}
 use Rattle.ssu_ir.specs.Tree.{Step, Lit, Una, Bin, Clone, Read, Write, Label, Does, Forks, Ends}
 use Rattle.ssu_ir.proofs.PointLemmas.{total-from}
-use Rattle.placement.specs.Uses.{Parameter, values, values_from, numbered, place_values, Role, Operand, Address, Written, Argument, Ending, Use, uses, uses_from, uses_at, place_roles, accesses}
-use Rattle.placement.proofs.Sound.{Each, Sound, place_ok, sound-points}
-use Rattle.bank_form.specs.declared.column.Column.TheVariants.{Srv}
-use Rattle.bank_form.specs.Columns.{Priced, each_point, def_columns, fill_columns, first_columns, has_bank, services, origin_of, is_fetched, srv_columns, all_dirs, all_stays, all_ears, all_pas_l, all_pas_s, priced, columns}
-use Rattle.bank_form.specs.Rows.{Line, one_choice, homes_cover, operand_banks, capacity, read_owners, fill_owners, write_owners, adjacency, passes, lines}
-use Rattle.bank_form.specs.Program.{rows, row_of, number_of}
+use Rattle.place_plan.specs.Uses.{Parameter, values, values_from, numbered, place_values, Role, Operand, Address, Written, Argument, Ending, Use, uses, uses_from, uses_at, place_roles, accesses}
+use Rattle.place_plan.proofs.Sound.{Each, Sound, place_ok, sound-points}
+use Rattle.bank_prog_form.specs.declared.column.Column.TheVariants.{Serve}
+use Rattle.bank_prog_form.specs.Columns.{Priced, each_point, def_columns, fill_columns, first_columns, has_bank, services, origin_of, is_fetched, srv_columns, all_dirs, all_stays, all_ears, all_pas_l, all_pas_s, priced, columns}
+use Rattle.bank_prog_form.specs.Rows.{Line, one_choice, homes_cover, operand_banks, capacity, read_owners, fill_owners, write_owners, adjacency, passes, lines}
+use Rattle.bank_prog_form.specs.Program.{rows, row_of, number_of}
 
 -- ---- values
 
@@ -56,7 +56,7 @@ three-services false (Ending i) = omega arith
 use-columns : (labels : List Label) (u : Use) → 3 ≤ length (srv_columns labels u)
 use-columns labels u =
     let b = is_fetched (origin_of labels u.value) in
-    subst (λ n. 3 ≤ n) (sym (length-map (filter (λ s. has_bank b s.from) (services u.role)) (λ s. (Srv u.point u.operand s.from s.at, s.cost)))) (three-services b u.role)
+    subst (λ n. 3 ≤ n) (sym (length-map (filter (λ s. has_bank b s.from) (services u.role)) (λ s. (Serve u.point u.operand s.from s.at, s.cost)))) (three-services b u.role)
 
 uses-columns : (labels : List Label) (k i : ℕ) (xs : List ℕ) (rs : List Role) → length rs ≡ length xs → 3 * length xs ≤ length (flat_map (srv_columns labels) (uses_at k i xs rs))
 uses-columns labels k i [] rs e = omega arith

@@ -2,7 +2,7 @@
 use Rattle.std.proofs.Common.{◌≡◌, ℕ, ◌⊎◌, true, List, inl, inr, refl, sym, ap, ◌∙◌, arith}
 use Rattle.ssu_ir.specs.Single.{single}
 use Rattle.ssu_ir.specs.Tree.{Label}
-use Rattle.bank_form.specs.Program.{IsTooLarge}
+use Rattle.bank_prog_form.specs.Program.{IsTooLarge}
 use Rattle.bank_prog.specs.declared.error.BankError.{BankError}
 use Rattle.bank_prog.specs.declared.error.BankError.TheVariants as bank
 use Rattle.bank_prog.proofs.FewRows.{large_few}

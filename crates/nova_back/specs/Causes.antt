@@ -4,15 +4,15 @@ use Rattle.ssu_ir.specs.Entered.{entered}
 use Rattle.ssu_ir.specs.Meaning.{ssu_meaning, ssu_params}
 use Rattle.ssu_ir.specs.Measures.{peak, size, code_bound}
 use Rattle.ssu_ir.specs.Tree.{Label}
-use Rattle.placement.specs.Uses.{values, uses}
+use Rattle.place_plan.specs.Uses.{values, uses}
 use Rattle.uc_isa.specs.Agrees.{Agrees}
 use Rattle.uc_isa.specs.Code.{CodeView}
 use Rattle.uc_isa.specs.Lawful.{IsLawful}
 use Rattle.uc_isa.specs.Moves.{moves}
-use Rattle.label_weights.specs.Weighted.{weight_of}
-use Rattle.uc_executions.specs.Entries.{IsVisited}
+use Rattle.place_weights.specs.Weighted.{weight_of}
+use Rattle.uc_isa_executions.specs.Entries.{IsVisited}
 use Rattle.uc_peep.specs.Needless.{HasNoNeedless}
-use Rattle.uc_executions.specs.Starts.{AreStarts}
+use Rattle.uc_isa_executions.specs.Starts.{AreStarts}
 use Rattle.ucode_emit.specs.SpillBase.{SpillsByBase}
 use Rattle.ucode_emit.specs.Operations.{code_operations, form_operations}
 use Rattle.nova_back.specs.LeftOut.{LeavesOut}
@@ -21,12 +21,12 @@ use Rattle.zo_model.specs.Program.{columns, cost_of, vector}
 use Rattle.zo_cert.specs.Certificate.{IsTreeWith, branches}
 use Rattle.zo_cert.specs.Report.{IsValidReport, IsTrueReport}
 use Rattle.zo_cert.specs.Searched.{IsSearched}
-use Rattle.zo_proof.specs.declared.cert.Claim.{Claim}
-use Rattle.zo_proof.specs.declared.cert.Claim.TheVariants.{Least, Nothing}
+use Rattle.zo_cert_tree.specs.declared.cert.Claim.{Claim}
+use Rattle.zo_cert_tree.specs.declared.cert.Claim.TheVariants.{Least, Nothing}
 use Rattle.zo_cert.specs.declared.report.Report.{Report}
 use Rattle.zo_cert.specs.declared.report.Verdict.{Verdict}
 use Rattle.zo_cert.specs.declared.report.Verdict.TheVariants.{Optimal, Feasible, Infeasible, Spent}
-use Rattle.bank_form.specs.Program.{IsTooLarge}
+use Rattle.bank_prog_form.specs.Program.{IsTooLarge}
 use Rattle.bank_prog.specs.Weighted.{weighted_program}
 use Rattle.nova_back.specs.declared.error.BackError.{BackError}
 use Rattle.nova_back.specs.declared.error.BackError.TheVariants as back

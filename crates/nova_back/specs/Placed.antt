@@ -1,8 +1,8 @@
 -- Code by a placement that is read from a vector of a form's bank program.
 use Rattle.std.specs.Prelude.{ℕ, Bool, List}
 use Rattle.ssu_ir.specs.Tree.{Label}
-use Rattle.placement.specs.declared.place.Placement.{Placement}
-use Rattle.placement.specs.Plan.{plan_view}
+use Rattle.place_plan.specs.declared.place.Placement.{Placement}
+use Rattle.place_plan.specs.Plan.{plan_view}
 use Rattle.reg_assign.specs.Assigned.{IsReadFrom}
 use Rattle.uc_isa.specs.declared.instruction.Instr.{Instr}
 use Rattle.uc_peep.specs.Rewrites.{IsWithout}

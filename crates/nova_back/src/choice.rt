@@ -3,7 +3,7 @@
 ghost use Rattle.std.specs.Prelude.{◌≡◌, ◌≤◌, ◌^◌, ◌⊎◌, ℕ, true, length, IfOk, IfErr, MatchResult};
 ghost use Rattle.ssu_ir.specs.Single.{single};
 ghost use Rattle.ssu_ir.specs.View.{labels_view};
-ghost use Rattle.bank_form.specs.Program.{rows, IsTooLarge};
+ghost use Rattle.bank_prog_form.specs.Program.{rows, IsTooLarge};
 ghost use Rattle.nova_back.specs.Causes.{HasVector};
 ghost use Rattle.nova_back.specs.inner.Search.{IsChosen, IsSearchOn, IsTold, IsUnbuilt, IsUnfound};
 
@@ -11,8 +11,8 @@ use crate::error::BackError;
 use crate::search::searched;
 use crate::start::start_of;
 use bank_prog::{BankTables, program_of};
-use bank_start::by_next_use;
-use label_weights::Weights;
+use bank_prog_start::by_next_use;
+use place_weights::Weights;
 use std::alloc::Global;
 use zo_cert::{Report, Verdict};
 

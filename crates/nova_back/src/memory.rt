@@ -5,7 +5,7 @@ ghost use Rattle.ssu_ir.specs.Measures as measures;
 ghost use Rattle.ssu_ir.specs.Single.{single};
 ghost use Rattle.ssu_ir.specs.View.{labels_view};
 ghost use Rattle.ssu_liveness.specs.LiveRows.{items_of};
-ghost use Rattle.bank_form.specs.Columns.{columns};
+ghost use Rattle.bank_prog_form.specs.Columns.{columns};
 ghost use Rattle.bank_prog.specs.declared.error.BankError.TheVariants.{TooLarge as Exceeds};
 ghost use Rattle.nova_back.specs.Memory as memory;
 ghost use Rattle.nova_back.specs.inner.Lengths as inner;

@@ -6,10 +6,10 @@ ghost use Rattle.ssu_ir.specs.Measures.{peak};
 ghost use Rattle.ssu_ir.specs.Single.{single};
 ghost use Rattle.ssu_ir.specs.View.{labels_view};
 ghost use Rattle.zo_model.specs.Program.{vector, costs_of};
-ghost use Rattle.bank_form.specs.Columns as columns;
+ghost use Rattle.bank_prog_form.specs.Columns as columns;
 ghost use Rattle.bank_prog.specs.Meaning.{IsFeasible};
 ghost use Rattle.bank_prog.specs.Weighted.{weighted_costs};
-ghost use Rattle.bank_form.specs.Program.{same_column};
+ghost use Rattle.bank_prog_form.specs.Program.{same_column};
 ghost use Rattle.nova_back.specs.Causes.{IsCheapFor};
 ghost use Rattle.nova_back.specs.inner.Paired as inner;
 
@@ -29,7 +29,7 @@ fn is_there(numbers: &Numbers, c: Column) -> bool
 fn is_second(numbers: &Numbers, k: u32, i: u32) -> bool
     ensures { result ≡ inner.is_second (get same_column numbers.now) k i }
 {
-    i == 1 && is_there(numbers, Column::Srv(k, i, Bank::M, Bank::L))
+    i == 1 && is_there(numbers, Column::Serve(k, i, Bank::M, Bank::L))
 }
 
 /// Whether a value is first put into this bank, if it can be.
@@ -91,14 +91,14 @@ fn chosen(numbers: &Numbers, c: Column) -> bool
 {
     match c {
         Column::Def(_, h) => puts(h),
-        Column::Dir(_, _, _) => false,
+        Column::DirectWrite(_, _, _) => false,
         Column::Fill(x, h) => fills(numbers, x, h),
         Column::Stay(_, _) => false,
-        Column::Ear(_, _, _) => false,
+        Column::EarlyWrite(_, _, _) => false,
         Column::First(_, f) => f == 0,
-        Column::Srv(k, i, h, p) => serves(is_second(numbers, k, i), h, p),
-        Column::PasL(_, _) => false,
-        Column::PasS(_, _) => false,
+        Column::Serve(k, i, h, p) => serves(is_second(numbers, k, i), h, p),
+        Column::ReadVia(_, _) => false,
+        Column::WriteVia(_, _) => false,
     }
 }
 

@@ -9,7 +9,7 @@ ghost use Rattle.nova_back.specs.inner.Search.{IsCheap, IsStart};
 use crate::paired::paired;
 use bank_prog::{BankTables, Form};
 use nv_base::NoMemory;
-use placement::{PlaceError, spill_all};
+use place_plan::{PlaceError, spill_all};
 use reg_assign::vector_of;
 use ssu_liveness::longest_row;
 use std::alloc::Global;

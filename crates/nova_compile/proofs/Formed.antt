@@ -24,18 +24,18 @@ use Rattle.ssu_ir.specs.Single.{single}
 use Rattle.ssu_ir.specs.Tree.{Label}
 use Rattle.ssu_make.specs.Bounds.{size_bound, length_bound}
 use Rattle.nova_middle.proofs.SourceBounds.{size_end, code_end}
-use Rattle.bank_form.specs.Columns.{columns}
-use Rattle.bank_form.specs.Program.{rows, IsTooLarge}
+use Rattle.bank_prog_form.specs.Columns.{columns}
+use Rattle.bank_prog_form.specs.Program.{rows, IsTooLarge}
 use Rattle.uc_isa.specs.Code.{CodeView}
 use Rattle.uc_isa.specs.Moves.{moves}
 use Rattle.uc_isa.proofs.Through.{agrees-through}
 use Rattle.zo_model.specs.Program.{vector, cost_of, Feasible, IsValid}
 use Rattle.zo_cert.specs.Report.{VerdictHolds}
-use Rattle.zo_proof.specs.declared.cert.Claim.TheVariants.{Least}
+use Rattle.zo_cert_tree.specs.declared.cert.Claim.TheVariants.{Least}
 use Rattle.zo_cert.specs.declared.report.Report.{Report}
 use Rattle.zo_cert.specs.declared.report.Verdict.{Verdict}
 use Rattle.zo_cert.specs.declared.report.Verdict.TheVariants as verdict
-use Rattle.zo_proof.proofs.Duality.{proves_holds}
+use Rattle.zo_cert_tree.proofs.Duality.{proves_holds}
 use Rattle.nova_back.proofs.Cheapest.{cheapest-of}
 use Rattle.nova_back.specs.Causes.{IsCodeOf, AreStartsOf, IsReportOn, IsCheapFor, IsWithout, HasLargeProgram, IsCause, IsLong, HasVector, report_cost}
 use Rattle.nova_back.specs.declared.error.BackError.{BackError}

@@ -3,7 +3,7 @@ use Rattle.std.proofs.Common.{◌≡◌, ℕ, ◌+◌, ◌<◌, ◌≤◌, ◌^�
 use Rattle.std.specs.Prelude.{◌==◌, cond}
 use Rattle.std.proofs.lemmas.List.{drop_all}
 use Rattle.std.proofs.lemmas.List.Sums.{count_by-le-length, sum_by-take-drop}
-use Rattle.line_text.specs.LineColumn.{line_at}
+use Rattle.nv_lines.specs.LineColumn.{line_at}
 use Rattle.nv_ast.specs.declared.program.Program.{Program}
 use Rattle.nv_ast.specs.declared.tree.Decl.{Decl}
 use Rattle.nv_ast.specs.declared.tree.Decl.TheVariants.{Layout, Exception, Group}

@@ -8,11 +8,11 @@ use Rattle.ssu_ir.specs.Meaning.{ssu_meaning, ssu_params}
 use Rattle.ssu_ir.specs.Measures.{peak, size, code_bound}
 use Rattle.ssu_ir.specs.Single.{single}
 use Rattle.ssu_ir.specs.Tree.{Label}
-use Rattle.placement.specs.Fits.{Fits}
-use Rattle.placement.specs.Plan.{Plan}
-use Rattle.placement.specs.Weighted.{weighted_cost}
-use Rattle.bank_form.specs.Columns.{columns}
-use Rattle.bank_form.specs.Program.{rows, IsTooLarge}
+use Rattle.place_plan.specs.Fits.{Fits}
+use Rattle.place_plan.specs.Plan.{Plan}
+use Rattle.place_plan.specs.Weighted.{weighted_cost}
+use Rattle.bank_prog_form.specs.Columns.{columns}
+use Rattle.bank_prog_form.specs.Program.{rows, IsTooLarge}
 use Rattle.uc_isa.specs.Agrees.{Agrees}
 use Rattle.uc_isa.specs.Code.{CodeView}
 use Rattle.uc_isa.specs.Lawful.{IsLawful}

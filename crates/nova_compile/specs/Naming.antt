@@ -1,6 +1,6 @@
 -- The exceptions of a source, as the object of its code names them.
 use Rattle.std.specs.Prelude.{ℕ, List, [], ◌∷◌}
-use Rattle.line_text.specs.LineColumn.{line_at}
+use Rattle.nv_lines.specs.LineColumn.{line_at}
 use Rattle.nv_ast.specs.Tree.{DeclTree, LayoutDecl, ExceptionDecl, GroupDecl, ProgramTree}
 
 -- of each exception the line on which its declaration begins, and its name

@@ -15,13 +15,13 @@ ghost use Rattle.nova_middle.specs.Reduced.{IsMadeOfReduced};
 ghost use Rattle.nova_compile.specs.Building.{IsCompileCause, IsFormCause, IsTextCause};
 ghost use Rattle.nova_compile.specs.Forms.{form_bound, IsCodeFor, IsBoundedFormOf, HasBanks};
 
-use label_weights::Weights;
 use nova_back::{BackError, Built, back};
 use nova_front::{FrontError, front};
 use nova_middle::middle;
 use nv_ast::{Span, Typed};
 use nv_base::NoMemory;
 use nv_text::TextError;
+use place_weights::Weights;
 use std::alloc::Global;
 use zo_cert::Report;
 

@@ -7,5 +7,5 @@ mod naming;
 mod object;
 
 pub use build::{CompileError, Compiled, compile_text, no_weights};
-pub use label_weights::Weights;
 pub use object::object_of;
+pub use place_weights::Weights;

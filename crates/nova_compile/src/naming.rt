@@ -2,13 +2,13 @@
 ghost use Rattle.std.specs.Prelude.{◌≡◌, ◌≤◌, ◌<◌, ◌^◌, ◌∷◌, ◌++◌, List, length, map, IfOk};
 ghost use Rattle.nv_ast.specs.ProgramView.{decl_tree, program_of};
 ghost use Rattle.nv_ast.specs.Tree.{DeclTree};
-ghost use Rattle.line_text.specs.LineColumn.{line_at};
+ghost use Rattle.nv_lines.specs.LineColumn.{line_at};
 ghost use Rattle.nv_text.specs.Limits.{source_limit};
 ghost use Rattle.nova_compile.specs.Naming.{exceptions_in, source_exceptions};
 
-use line_text::line_after;
 use nv_ast::{Decl, Name, Program};
 use nv_base::NoMemory;
+use nv_lines::line_after;
 use std::alloc::Global;
 
 /// A place of a text, and its line.

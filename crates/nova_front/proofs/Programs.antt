@@ -8,8 +8,8 @@ use Rattle.nv_ast.specs.Tree.{ProgramTree}
 use Rattle.nv_text.specs.Program.{IsTextOf}
 use Rattle.nv_ast.specs.Accepted.{IsAccepted}
 use Rattle.nv_types.specs.Refusals.{IsRefusal}
-use Rattle.type_costs.specs.declared.error.TypeError.{TypeError}
-use Rattle.type_costs.specs.declared.error.TypeError.TheVariants as types
+use Rattle.nv_types_table.specs.declared.error.TypeError.{TypeError}
+use Rattle.nv_types_table.specs.declared.error.TypeError.TheVariants as types
 use Rattle.nova_front.specs.Sources.{IsSource, IsTypedSource, IsCause}
 use Rattle.nova_front.specs.declared.error.FrontError.{FrontError}
 use Rattle.nova_front.specs.declared.error.FrontError.TheVariants.{NoMemory, Fault, TooLarge}

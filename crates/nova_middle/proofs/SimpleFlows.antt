@@ -24,7 +24,7 @@ use Rattle.cps_rules.specs.Simplified.{EachLet, is_same, IsTidy, AreTidy}
 use Rattle.cps_rules.specs.inner.Way.{AreUsed}
 use Rattle.flow_ir.proofs.Members.{different-parts}
 use Rattle.cps_rules.proofs.WayFormed.{tidy_used}
-use Rattle.flow_contract.specs.Contracted.{is_literal}
+use Rattle.flow_merge.specs.Contracted.{is_literal}
 use Rattle.flow_ir.proofs.Mentions.{smaller}
 use Rattle.nova_middle.specs.Rules.{value_of_two, leaves_first, leaves_second, leaves_nothing, is_answered, IsAtRest}
 use Rattle.nova_middle.specs.inner.Simple.{IsLeft, IsSimple}

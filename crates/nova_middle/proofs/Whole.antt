@@ -9,9 +9,9 @@ use Rattle.flow_ir.specs.Bulk.{bulk}
 use Rattle.flow_ir.specs.Meaning.{flow_meaning, flow_params}
 use Rattle.flow_ir.specs.Tree.{Label}
 use Rattle.flow_ir.specs.Wide.{wide}
-use Rattle.flow_ir.specs.Led.{AreLedTo}
-use Rattle.flow_contract.specs.Contracted.{AreContracted}
-use Rattle.flow_prune.specs.Wanted.{AllWanted}
+use Rattle.flow_ir.specs.Reachable.{AreReachable}
+use Rattle.flow_merge.specs.Contracted.{AreMerged}
+use Rattle.flow_params.specs.Wanted.{AllWanted}
 
 pub equal_kept : (a b : ℕ) (m n : List ℕ → Memories → Meaning) → b ≡ a → AreEqual a m n → KeepsOutcomes a b m n
 equal_kept a b m n e h = subst (λ k. KeepsOutcomes a k m n) (sym e) (keeps-equal a m n h)
@@ -34,8 +34,8 @@ if_ok (Err e) P Q f h = tt
 
 pub record Reduced (f g : List Label) : Type 0 where
   pub kept : KeepsOutcomes (flow_params f) (flow_params g) (flow_meaning f) (flow_meaning g)
-  pub contracted : AreContracted g
-  pub led : AreLedTo g
+  pub contracted : AreMerged g
+  pub led : AreReachable g
   pub wanted : AllWanted g
   pub wide : wide g ≤ wide f
   pub bulk : IsAtMost (bulk g) (bulk f)

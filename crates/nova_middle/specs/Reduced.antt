@@ -1,10 +1,10 @@
 -- Flows in which the passes have nothing left to do.
 use Rattle.std.specs.Prelude.{List, All}
 use Rattle.flow_ir.specs.Tree.{Label}
-use Rattle.flow_ir.specs.Led.{AreLedTo}
+use Rattle.flow_ir.specs.Reachable.{AreReachable}
 use Rattle.cps_rules.specs.Simplified.{AreTidy}
-use Rattle.flow_contract.specs.Contracted.{AreContracted}
-use Rattle.flow_prune.specs.Wanted.{AllWanted}
+use Rattle.flow_merge.specs.Contracted.{AreMerged}
+use Rattle.flow_params.specs.Wanted.{AllWanted}
 use Rattle.ssu_ir.specs.Tree as ssu
 use Rattle.ssu_make.specs.Made.{AllMade}
 use Rattle.nova_middle.specs.Rules.{IsAtRest}
@@ -12,8 +12,8 @@ use Rattle.nova_middle.specs.Rules.{IsAtRest}
 -- contracted, with no label but those that the first one leads to, with wanted parameters alone in each label but the first, and no `Let` that
 -- a rule answers, that is just another operand, or whose variable nothing uses
 pub record AreReduced (labels : List Label) : Type 0 where
-  pub contracted : AreContracted labels
-  pub led : AreLedTo labels
+  pub contracted : AreMerged labels
+  pub led : AreReachable labels
   pub wanted : AllWanted labels
   pub rules : All IsAtRest labels
   pub tidy : AreTidy labels

@@ -11,10 +11,10 @@ ghost use Rattle.flow_ir.specs.Bulk.{bulk};
 ghost use Rattle.flow_ir.specs.Meaning.{flow_meaning, flow_params};
 ghost use Rattle.flow_ir.specs.View.{label_view};
 ghost use Rattle.flow_ir.specs.Wide.{wide};
-ghost use Rattle.flow_ir.specs.Led.{AreLedTo};
+ghost use Rattle.flow_ir.specs.Reachable.{AreReachable};
 ghost use Rattle.cps_rules.specs.Simplified.{AreTidy};
-ghost use Rattle.flow_contract.specs.Contracted.{AreContracted};
-ghost use Rattle.flow_prune.specs.Wanted.{AllWanted};
+ghost use Rattle.flow_merge.specs.Contracted.{AreMerged};
+ghost use Rattle.flow_params.specs.Wanted.{AllWanted};
 ghost use Rattle.nova_middle.specs.Reduced.{IsMadeOfReduced};
 ghost use Rattle.nova_middle.specs.Rules.{IsAtRest};
 ghost use Rattle.ssu_ir.specs.Meaning.{ssu_meaning, ssu_params};
@@ -29,9 +29,9 @@ use cps_close::close;
 use cps_inline::inline;
 use cps_lower::lower;
 use flat_ir::FlatProgram;
-use flow_contract::contract;
 use flow_ir::{Flow, Tree};
-use flow_prune::prune;
+use flow_merge::merge_labels;
+use flow_params::prune;
 use nv_base::NoMemory;
 use ssu_ir::Ssu;
 use ssu_make::make;
@@ -44,8 +44,8 @@ use std::alloc::Global;
 /// exhaustion is also the answer where a form would need 2^32 labels or variables.
 pub fn to_flow(alloc: Global, f: &FlatProgram) -> Result<Flow, NoMemory>
     ensures kept { IfOk result (λ g. KeepsOutcomes (flat_params f.now.funs.items f.now.main) (flow_params (map label_view g.labels.items)) (flat_meaning f.now.funs.items f.now.main) (flow_meaning (map label_view g.labels.items))) }
-    ensures contracted { IfOk result (λ g. AreContracted (map label_view g.labels.items)) }
-    ensures led { IfOk result (λ g. AreLedTo (map label_view g.labels.items)) }
+    ensures contracted { IfOk result (λ g. AreMerged (map label_view g.labels.items)) }
+    ensures led { IfOk result (λ g. AreReachable (map label_view g.labels.items)) }
     ensures wanted { IfOk result (λ g. AllWanted (map label_view g.labels.items)) }
     ensures rules { IfOk result (λ g. All IsAtRest (map label_view g.labels.items)) }
     ensures tidy { IfOk result (λ g. AreTidy (map label_view g.labels.items)) }
@@ -61,13 +61,13 @@ pub fn to_flow(alloc: Global, f: &FlatProgram) -> Result<Flow, NoMemory>
 // The flow contracted, and without the parameters that nothing wants.
 fn contract_and_prune(alloc: Global, f: &Flow) -> Result<Flow, NoMemory>
     ensures kept { IfOk result (λ g. KeepsOutcomes (flow_params (map label_view f.now.labels.items)) (flow_params (map label_view g.labels.items)) (flow_meaning (map label_view f.now.labels.items)) (flow_meaning (map label_view g.labels.items))) }
-    ensures contracted { IfOk result (λ g. AreContracted (map label_view g.labels.items)) }
-    ensures led { IfOk result (λ g. AreLedTo (map label_view g.labels.items)) }
+    ensures contracted { IfOk result (λ g. AreMerged (map label_view g.labels.items)) }
+    ensures led { IfOk result (λ g. AreReachable (map label_view g.labels.items)) }
     ensures wanted { IfOk result (λ g. AllWanted (map label_view g.labels.items)) }
     ensures wide { IfOk result (λ g. wide (map label_view g.labels.items) ≤ wide (map label_view f.now.labels.items)) }
     ensures bulk { IfOk result (λ g. IsAtMost (bulk (map label_view g.labels.items)) (bulk (map label_view f.now.labels.items))) }
 {
-    let contracted = contract(alloc, f)?;
+    let contracted = merge_labels(alloc, f)?;
     prune(alloc, &contracted)
 }
 
@@ -75,8 +75,8 @@ fn contract_and_prune(alloc: Global, f: &Flow) -> Result<Flow, NoMemory>
 // leaves fewer nodes, so there are enough, and memory exhaustion doesn't come of this.
 fn reduce(alloc: Global, f: &Flow) -> Result<Flow, NoMemory>
     ensures kept { IfOk result (λ g. KeepsOutcomes (flow_params (map label_view f.now.labels.items)) (flow_params (map label_view g.labels.items)) (flow_meaning (map label_view f.now.labels.items)) (flow_meaning (map label_view g.labels.items))) }
-    ensures contracted { IfOk result (λ g. AreContracted (map label_view g.labels.items)) }
-    ensures led { IfOk result (λ g. AreLedTo (map label_view g.labels.items)) }
+    ensures contracted { IfOk result (λ g. AreMerged (map label_view g.labels.items)) }
+    ensures led { IfOk result (λ g. AreReachable (map label_view g.labels.items)) }
     ensures wanted { IfOk result (λ g. AllWanted (map label_view g.labels.items)) }
     ensures rules { IfOk result (λ g. All IsAtRest (map label_view g.labels.items)) }
     ensures tidy { IfOk result (λ g. AreTidy (map label_view g.labels.items)) }

@@ -8,9 +8,9 @@ ghost use Rattle.nova_middle.specs.Rules as rules;
 ghost use Rattle.nova_middle.specs.inner.Simple.{IsLeft, IsSimple};
 
 use crate::rules::{leaves_first, leaves_nothing, leaves_second};
-use flow_contract::is_literal;
 use flow_ir::uses::mentions;
 use flow_ir::{Label, Tree};
+use flow_merge::is_literal;
 use nv_base::Prim;
 
 // Whether a rule answers a primitive.

@@ -1,6 +1,6 @@
 //! The head of a page, and its texts.
 
-use line_text::Message;
+use nv_lines::Message;
 
 /// Appends what comes before the texts of a page.
 pub fn push_page_head(out: &mut Message) {

@@ -1,6 +1,6 @@
 //! The script of a page.
 
-use line_text::Message;
+use nv_lines::Message;
 
 /// Appends the script that shows the texts of a page, and the end of the page.
 pub fn push_page_end(out: &mut Message) {

@@ -1,7 +1,7 @@
 //! Numbers among the words.
 ghost use Rattle.std.specs.Prelude.{◌≡◌, ◌≢◌, ◌≤◌, ℕ, decimal, IfSome, IfNone};
 
-use line_text::read_decimal;
+use nv_lines::read_decimal;
 
 /// The number from one to another that a text spells in decimal, without zeros in front.
 pub fn read_number(text: &str, least: u32, most: u32) -> Option<u32>

@@ -5,9 +5,9 @@
 #[cfg(test)]
 mod tests;
 
-pub use command_line::Status;
-use nova_commands::exit_code;
-pub use nova_commands::{CompileError, Compiled, Weights, compile_text, run};
+use novac_commands::exit_code;
+pub use novac_commands::{CompileError, Compiled, Weights, compile_text, run};
+pub use novac_words::Status;
 use nv_outside::{DiskFiles, StdSink};
 use std::process::ExitCode;
 use std::rt::Env;

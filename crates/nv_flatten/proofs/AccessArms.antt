@@ -23,19 +23,19 @@ use Rattle.flat_ir.specs.Running as flat
 use Rattle.flat_ir.specs.Meaning as code
 use Rattle.flat_ir.specs.Spine.{Act, step_does}
 use Rattle.flat_ir.specs.declared.spine.Step.{Step}
-use Rattle.flat_values.specs.inner.Code.{Computes, variables}
-use Rattle.flat_values.specs.inner.Symbols.{Symbol, Word, Truth, Tuple, Record, Symbols, no_symbols, symbol_and, NamedSymbols, no_named_symbols, named_symbol_and, SymbolScope, operands, all_operands, named_operands, form, forms, named_forms, value_in, Fits, AreOlder, word_operand, word_symbols, words_symbol, numbers_from}
-use Rattle.flat_values.specs.inner.Runs.{flat_run, onward}
-use Rattle.flat_values.specs.inner.Soundness.{AreWords}
-use Rattle.flat_values.specs.inner.Whole.{Whole}
-use Rattle.flat_values.specs.inner.Simulation.{Names, Done, IsValue}
-use Rattle.flat_values.proofs.Keeping.{keeps-then, words-fit, are-words}
-use Rattle.flat_values.proofs.Fresh.{numbers-keep, numbers-older, words-read, words-read-fit}
-use Rattle.flat_values.proofs.NoFaults.{value-has-type, clean as is-clean, is-right, wanted-type, among-known}
-use Rattle.flat_values.proofs.Following.{stands-inside, word-of}
-use Rattle.flat_values.proofs.ValueArms.{unary}
-use Rattle.flat_values.proofs.PackedWords.{symbol-operands}
-use Rattle.flat_values.proofs.WellBasics.{words-ty-words}
+use Rattle.nv_flatten_values.specs.inner.Code.{Computes, variables}
+use Rattle.nv_flatten_values.specs.inner.Symbols.{Symbol, Word, Truth, Tuple, Record, Symbols, no_symbols, symbol_and, NamedSymbols, no_named_symbols, named_symbol_and, SymbolScope, operands, all_operands, named_operands, form, forms, named_forms, value_in, Fits, AreOlder, word_operand, word_symbols, words_symbol, numbers_from}
+use Rattle.nv_flatten_values.specs.inner.Runs.{flat_run, onward}
+use Rattle.nv_flatten_values.specs.inner.Soundness.{AreWords}
+use Rattle.nv_flatten_values.specs.inner.Whole.{Whole}
+use Rattle.nv_flatten_values.specs.inner.Simulation.{Names, Done, IsValue}
+use Rattle.nv_flatten_values.proofs.Keeping.{keeps-then, words-fit, are-words}
+use Rattle.nv_flatten_values.proofs.Fresh.{numbers-keep, numbers-older, words-read, words-read-fit}
+use Rattle.nv_flatten_values.proofs.NoFaults.{value-has-type, clean as is-clean, is-right, wanted-type, among-known}
+use Rattle.nv_flatten_values.proofs.Following.{stands-inside, word-of}
+use Rattle.nv_flatten_values.proofs.ValueArms.{unary}
+use Rattle.nv_flatten_values.proofs.PackedWords.{symbol-operands}
+use Rattle.nv_flatten_values.proofs.WellBasics.{words-ty-words}
 use Rattle.nv_ast.proofs.Faultless.{no_front}
 use Rattle.nv_layout.proofs.Sound.{where_not}
 

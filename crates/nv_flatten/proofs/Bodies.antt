@@ -14,8 +14,8 @@ use Rattle.nv_ast.specs.Faults.{types_faults, wide_exception, declared_before, s
 use Rattle.nv_layout.proofs.Sound.{layout_sound, where_not}
 use Rattle.nv_meaning.specs.Meaning.{Declared, with_decl, with_decls, function_in}
 use Rattle.nv_meaning.specs.Running.{exception_number}
-use Rattle.nv_values.specs.inner.Tables.{place_from}
-use Rattle.flat_values.specs.inner.Whole.{Whole, whole_of, raised_tys, raised_in, groups_from, group_of, group_at, IsCallable, IsPart}
+use Rattle.nv_meaning_values.specs.inner.Tables.{place_from}
+use Rattle.nv_flatten_values.specs.inner.Whole.{Whole, whole_of, raised_tys, raised_in, groups_from, group_of, group_at, IsCallable, IsPart}
 use Rattle.nv_flatten.proofs.Knowing.{at_most, value-found, sound-found, types-stay, params-stay, result-stays, signatures-stay, function-front, function-behind, signature-found, signature-there, function-among, among-function, signatures-append, AllAre, are-also, are-both, are-replicate, slice-behind, grouped, group-behind, numbered, names-append, AllNarrow, narrow-append, narrow-found, with-layouts, with-exceptions, with-functions}
 use Rattle.std.proofs.lemmas.List.{map-append, length-append, length-replicate}
 use Rattle.std.proofs.lemmas.Option.{same_Some}

@@ -9,9 +9,9 @@ use Rattle.nv_ast.specs.Tests.{is_among}
 use Rattle.nv_ast.specs.Scope.{names_in, names_in_all}
 use Rattle.nv_ast.specs.Sizes.{Lets, pending}
 use Rattle.nv_base.specs.Sets.{all_vars}
-use Rattle.flat_values.specs.inner.Symbols.{Symbol, Symbols, Word, Truth, Tuple, Record, no_symbols, symbol_and, SymbolScope, operands, all_operands, symbol_in, bound, all_bound}
-use Rattle.flat_values.specs.inner.Narrow.{IsWithin, AddsAtMost, written, Pends}
-use Rattle.flat_values.proofs.Within.{itself, of-none, one, both, unions, into-left, into-right, through, behind-same, both-same, grows-by, grows-not, grows-further, all-vars-append, vars-length}
+use Rattle.nv_flatten_values.specs.inner.Symbols.{Symbol, Symbols, Word, Truth, Tuple, Record, no_symbols, symbol_and, SymbolScope, operands, all_operands, symbol_in, bound, all_bound}
+use Rattle.nv_flatten_values.specs.inner.Narrow.{IsWithin, AddsAtMost, written, Pends}
+use Rattle.nv_flatten_values.proofs.Within.{itself, of-none, one, both, unions, into-left, into-right, through, behind-same, both-same, grows-by, grows-not, grows-further, all-vars-append, vars-length}
 
 -- the variables of one name
 abbrev at_name : SymbolScope → List ℕ → List ℕ

@@ -11,24 +11,24 @@ use Rattle.nv_ast.specs.Sizes.{room}
 use Rattle.nv_meaning.specs.Meaning.{function_in}
 use Rattle.flat_ir.specs.declared.flat.FlatFun.{FlatFun}
 use Rattle.flat_ir.specs.Wide.{wide}
-use Rattle.flat_values.specs.inner.Symbols.{Symbol, SymbolScope, named_fresh, params_bound}
-use Rattle.flat_values.specs.inner.Whole.{Whole, whole_of, group_of}
-use Rattle.flat_values.specs.inner.Simulation.{Names, Extends}
+use Rattle.nv_flatten_values.specs.inner.Symbols.{Symbol, SymbolScope, named_fresh, params_bound}
+use Rattle.nv_flatten_values.specs.inner.Whole.{Whole, whole_of, group_of}
+use Rattle.nv_flatten_values.specs.inner.Simulation.{Names, Extends}
 use Rattle.flat_ir.specs.Reached.{calls}
-use Rattle.flat_values.specs.inner.Well.{AreCalled}
-use Rattle.flat_values.specs.inner.Made.{IsMade, IsPlaced, entry, params_in}
-use Rattle.flat_values.specs.inner.Narrow.{IsNarrowEnd, IsNarrowFun, IsEmptyFun, IsNarrowOf, AreNarrowFuns}
-use Rattle.flat_values.specs.inner.Small.{IsSmallEnd, IsSmallFun}
-use Rattle.flat_values.specs.inner.Bounded.{AreOnce, AreSmallFound, IsBounded}
-use Rattle.flat_values.proofs.Fresh.{numbers-length}
+use Rattle.nv_flatten_values.specs.inner.Well.{AreCalled}
+use Rattle.nv_flatten_values.specs.inner.Made.{IsMade, IsPlaced, entry, params_in}
+use Rattle.nv_flatten_values.specs.inner.Narrow.{IsNarrowEnd, IsNarrowFun, IsEmptyFun, IsNarrowOf, AreNarrowFuns}
+use Rattle.nv_flatten_values.specs.inner.Small.{IsSmallEnd, IsSmallFun}
+use Rattle.nv_flatten_values.specs.inner.Bounded.{AreOnce, AreSmallFound, IsBounded}
+use Rattle.nv_flatten_values.proofs.Fresh.{numbers-length}
 use Rattle.nv_flatten.proofs.Knowing.{function-named}
-use Rattle.flat_values.proofs.Naming.{Added, MadeSoFar, made-first, made-more, all-made, slice-last, slice-there}
-use Rattle.flat_values.proofs.WellProgram.{found-reached}
+use Rattle.nv_flatten_values.proofs.Naming.{Added, MadeSoFar, made-first, made-more, all-made, slice-last, slice-there}
+use Rattle.nv_flatten_values.proofs.WellProgram.{found-reached}
 use Rattle.nv_flatten.proofs.Bodies.{has-main}
 use Rattle.nv_flatten.proofs.NarrowFuns.{funs-none, funs-more}
 use Rattle.nv_flatten.proofs.NarrowProgram.{wide-enough}
-use Rattle.flat_values.proofs.CallArms.{get-append}
-use Rattle.flat_values.proofs.Keeping.{extends-then}
+use Rattle.nv_flatten_values.proofs.CallArms.{get-append}
+use Rattle.nv_flatten_values.proofs.Keeping.{extends-then}
 
 -- ---- the functions that are made so far
 pub record BoundedSoFar (w : Whole) (main : List ℕ) (names : Names) (funs : List FlatFun) : Type 0 where

@@ -23,16 +23,16 @@ use Rattle.flat_ir.specs.Spine.{steps_do, IsJoined}
 use Rattle.flat_ir.specs.declared.flat.Flat.{Flat}
 use Rattle.flat_ir.specs.declared.flat.Flat.TheVariants.{Give}
 use Rattle.flat_ir.specs.declared.spine.Step.{Step}
-use Rattle.flat_values.specs.inner.Symbols.{Symbol, Truth, SymbolScope, operands, form, scope_in, ScopeOlder}
-use Rattle.flat_values.specs.inner.Code.{chosen, is_given, is_comparison}
-use Rattle.flat_values.specs.declared.symbol.Symbol as declared
-use Rattle.flat_values.specs.inner.View.{view}
-use Rattle.flat_values.specs.inner.Runs.{flat_run, ended}
-use Rattle.flat_values.specs.inner.Whole.{Whole, Stands}
-use Rattle.flat_values.specs.inner.Simulation.{Names, Extends, Setting, Begins, Done, IsValue, IsTest, IsEnd}
-use Rattle.flat_values.proofs.Keeping.{scope-later, keeps-scope, begins-then, extends-then, words-fit}
-use Rattle.flat_values.proofs.NoFaults.{wanted-type, given-has-type}
-use Rattle.flat_values.proofs.Following.{onward-then, stands-inside}
+use Rattle.nv_flatten_values.specs.inner.Symbols.{Symbol, Truth, SymbolScope, operands, form, scope_in, ScopeOlder}
+use Rattle.nv_flatten_values.specs.inner.Code.{chosen, is_given, is_comparison}
+use Rattle.nv_flatten_values.specs.declared.symbol.Symbol as declared
+use Rattle.nv_flatten_values.specs.inner.View.{view}
+use Rattle.nv_flatten_values.specs.inner.Runs.{flat_run, ended}
+use Rattle.nv_flatten_values.specs.inner.Whole.{Whole, Stands}
+use Rattle.nv_flatten_values.specs.inner.Simulation.{Names, Extends, Setting, Begins, Done, IsValue, IsTest, IsEnd}
+use Rattle.nv_flatten_values.proofs.Keeping.{scope-later, keeps-scope, begins-then, extends-then, words-fit}
+use Rattle.nv_flatten_values.proofs.NoFaults.{wanted-type, given-has-type}
+use Rattle.nv_flatten_values.proofs.Following.{onward-then, stands-inside}
 use Rattle.nv_flatten.proofs.TestArms.{test-more}
 use Rattle.nv_ast.proofs.Faultless.{no_front, no_rest}
 

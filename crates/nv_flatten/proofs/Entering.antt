@@ -7,13 +7,13 @@ use Rattle.nv_ast.specs.Types.{Ty, WordTy, BoolTy, TupleTy, RecordTy, Tys, no_ty
 use Rattle.nv_ast.specs.Scope.{plain_tys, param_vars}
 use Rattle.nv_meaning.specs.Values.{Value, Word, Truth, Tuple, Record, Values, no_values, value_and, NamedValues, no_named_values, named_value_and, words_of, all_words, all_named_words, value_from, values_from, named_values_from, Scope}
 use Rattle.nv_meaning.specs.Meaning.{entered, named_scope}
-use Rattle.flat_values.specs.inner.Symbols.{SymbolScope, operands, values_in, AllFit, fresh, all_fresh, named_fresh, ScopeFits, ScopeOlder, scope_in, vars_of, params_bound}
-use Rattle.flat_values.specs.inner.Soundness.{AreWords, ScopeWords, value_ty, value_tys, named_value_tys, scope_tys}
-use Rattle.flat_values.proofs.Keeping.{older-later}
-use Rattle.flat_values.proofs.Fresh.{fresh-form, fresh-older}
+use Rattle.nv_flatten_values.specs.inner.Symbols.{SymbolScope, operands, values_in, AllFit, fresh, all_fresh, named_fresh, ScopeFits, ScopeOlder, scope_in, vars_of, params_bound}
+use Rattle.nv_flatten_values.specs.inner.Soundness.{AreWords, ScopeWords, value_ty, value_tys, named_value_tys, scope_tys}
+use Rattle.nv_flatten_values.proofs.Keeping.{older-later}
+use Rattle.nv_flatten_values.proofs.Fresh.{fresh-form, fresh-older}
 use Rattle.std.proofs.lemmas.List.{length-append}
 use Rattle.std.proofs.lemmas.Bool.{and_parts, or_parts}
-use Rattle.flat_values.proofs.NoFaults.{is-name}
+use Rattle.nv_flatten_values.proofs.NoFaults.{is-name}
 
 -- ---- types are the same where the test says so
 

@@ -19,16 +19,16 @@ use Rattle.nv_base.specs.Sets.{all_vars}
 use Rattle.flat_ir.specs.declared.flat.Flat.{Flat}
 use Rattle.flat_ir.specs.declared.flat.Flat.TheVariants.{Call, Raise, Give, Try'}
 use Rattle.flat_ir.specs.declared.spine.Step.{Step}
-use Rattle.flat_values.specs.inner.Code.{chosen, comparison_of, is_given, is_comparison}
-use Rattle.flat_values.specs.inner.Symbols.{Symbol, Symbols, SymbolScope, Truth, word_operand, truth_operand, operands, all_operands, form, numbers_from, all_fresh, all_bound}
-use Rattle.flat_values.specs.inner.Whole.{Whole, result_of, raised_or_none}
-use Rattle.flat_values.specs.inner.Simulation.{Names, Extends}
-use Rattle.flat_values.specs.inner.Well.{GivesLiteral, IsChoice, AreCalled, IsWellEnd}
-use Rattle.flat_values.specs.inner.Narrow.{IsWithin, IsNarrowEnd}
+use Rattle.nv_flatten_values.specs.inner.Code.{chosen, comparison_of, is_given, is_comparison}
+use Rattle.nv_flatten_values.specs.inner.Symbols.{Symbol, Symbols, SymbolScope, Truth, word_operand, truth_operand, operands, all_operands, form, numbers_from, all_fresh, all_bound}
+use Rattle.nv_flatten_values.specs.inner.Whole.{Whole, result_of, raised_or_none}
+use Rattle.nv_flatten_values.specs.inner.Simulation.{Names, Extends}
+use Rattle.nv_flatten_values.specs.inner.Well.{GivesLiteral, IsChoice, AreCalled, IsWellEnd}
+use Rattle.nv_flatten_values.specs.inner.Narrow.{IsWithin, IsNarrowEnd}
 use Rattle.nv_flatten.specs.inner.Flat.{IsFlatValue, AreFlatValues, IsFlatStated, IsFlatTest, IsFlatEnd}
 use Rattle.nv_flatten.proofs.TestArms.{truth-test, paren-test, negate-test, compare-test}
 use Rattle.nv_flatten.proofs.EndArms.{paren-end, given-end, decided-end, both-end, either-end, choose-end}
-use Rattle.flat_values.proofs.CallArms.{call-end, raise-end, block-end}
+use Rattle.nv_flatten_values.proofs.CallArms.{call-end, raise-end, block-end}
 use Rattle.nv_flatten.proofs.TryArm.{try-end}
 use Rattle.nv_flatten.proofs.WellLists.{paren-test-well, negate-test-well, truth-test-well, compare-well}
 use Rattle.nv_flatten.proofs.WellEnds.{given-well, decided-well, both-well, either-well, choose-well, try-well}
@@ -38,7 +38,7 @@ use Rattle.nv_flatten.proofs.NarrowLists.{stated-narrow-more, block-end-narrow}
 use Rattle.nv_flatten.proofs.NarrowEnds.{truth-test-narrow, paren-test-narrow, negate-test-narrow, compare-narrow, given-narrow, paren-end-narrow, decided-narrow, both-narrow, either-narrow, choose-narrow}
 use Rattle.nv_flatten.proofs.NarrowCalls.{raise-narrow, call-narrow, try-narrow}
 use Rattle.nv_flatten.proofs.NarrowViews.{two-operands, operands-turned}
-use Rattle.flat_values.specs.inner.Small.{IsSmallEnd}
+use Rattle.nv_flatten_values.specs.inner.Small.{IsSmallEnd}
 use Rattle.nv_flatten.proofs.SmallValues.{value-small-more, values-small-more, stated-small-more, test-small-more, end-small-more}
 use Rattle.nv_flatten.proofs.SmallLists.{block-end-small}
 use Rattle.nv_flatten.proofs.SmallEnds.{truth-test-small, paren-test-small, negate-test-small, compare-small, given-small, paren-end-small, decided-small, both-small, either-small, choose-small}

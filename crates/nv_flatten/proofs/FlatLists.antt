@@ -11,12 +11,12 @@ use Rattle.nv_ast.specs.Tree.{Tree, PatternTree, LetStatement, StoreStatement}
 use Rattle.flat_ir.specs.Running as flat
 use Rattle.flat_ir.specs.declared.spine.Step.{Step}
 use Rattle.flat_ir.specs.declared.spine.Step.TheVariants.{Store}
-use Rattle.flat_values.specs.declared.symbol.Symbol.{Symbol as CodeSymbol}
-use Rattle.flat_values.specs.inner.Symbols.{Symbol, SymbolScope, word_operand, operands, bound}
-use Rattle.flat_values.specs.inner.View.{Named, view, list_symbols, list_named_symbols, scope_of}
-use Rattle.flat_values.specs.inner.Whole.{Whole}
-use Rattle.flat_values.specs.inner.Simulation.{Names, Extends}
-use Rattle.flat_values.specs.inner.Well.{AreWellValues, AreWellFields, IsWellStated}
+use Rattle.nv_flatten_values.specs.declared.symbol.Symbol.{Symbol as CodeSymbol}
+use Rattle.nv_flatten_values.specs.inner.Symbols.{Symbol, SymbolScope, word_operand, operands, bound}
+use Rattle.nv_flatten_values.specs.inner.View.{Named, view, list_symbols, list_named_symbols, scope_of}
+use Rattle.nv_flatten_values.specs.inner.Whole.{Whole}
+use Rattle.nv_flatten_values.specs.inner.Simulation.{Names, Extends}
+use Rattle.nv_flatten_values.specs.inner.Well.{AreWellValues, AreWellFields, IsWellStated}
 use Rattle.nv_flatten.specs.inner.Flat.{IsFlatValue, AreFlatValues, AreFlatFields, IsFlatStatement, IsFlatStated}
 use Rattle.nv_flatten.proofs.ListArms.{Front, FrontNamed, front-none, front-more, front-all, named-none, named-more, named-all}
 use Rattle.nv_flatten.proofs.StatementArms.{Led, let-stated, store-stated, led-none, led-more, led-all}

@@ -20,18 +20,18 @@ use Rattle.flat_ir.specs.Running as flat
 use Rattle.flat_ir.specs.declared.flat.Flat.{Flat}
 use Rattle.flat_ir.specs.declared.spine.Step.{Step}
 use Rattle.flat_ir.specs.declared.spine.Step.TheVariants.{Let, Fetch, Bind}
-use Rattle.flat_values.specs.inner.Arms.{is_named}
-use Rattle.flat_values.specs.inner.Code.{Computes, arithmetic_of, shift_of, variables, form_or_unit}
-use Rattle.flat_values.specs.inner.Symbols.{Symbol, Symbols, NamedSymbols, SymbolScope, Word, Truth, Tuple, Record, word_operand, truth_operand, fields_of, field_named, symbol_in, operands, form, fresh, numbers_from, words_symbol, value_in, Fits, AreOlder}
-use Rattle.flat_values.specs.inner.Soundness.{AreWords}
-use Rattle.flat_values.specs.inner.Whole.{Whole}
-use Rattle.flat_values.specs.inner.Simulation.{Names, Extends}
-use Rattle.flat_values.specs.inner.Well.{AreWellLets}
-use Rattle.flat_values.specs.inner.Narrow.{AreNarrowLets, IsNarrowValue}
+use Rattle.nv_flatten_values.specs.inner.Arms.{is_named}
+use Rattle.nv_flatten_values.specs.inner.Code.{Computes, arithmetic_of, shift_of, variables, form_or_unit}
+use Rattle.nv_flatten_values.specs.inner.Symbols.{Symbol, Symbols, NamedSymbols, SymbolScope, Word, Truth, Tuple, Record, word_operand, truth_operand, fields_of, field_named, symbol_in, operands, form, fresh, numbers_from, words_symbol, value_in, Fits, AreOlder}
+use Rattle.nv_flatten_values.specs.inner.Soundness.{AreWords}
+use Rattle.nv_flatten_values.specs.inner.Whole.{Whole}
+use Rattle.nv_flatten_values.specs.inner.Simulation.{Names, Extends}
+use Rattle.nv_flatten_values.specs.inner.Well.{AreWellLets}
+use Rattle.nv_flatten_values.specs.inner.Narrow.{AreNarrowLets, IsNarrowValue}
 use Rattle.nv_flatten.specs.inner.Flat.{IsFlatValue, AreFlatValues, AreFlatFields, IsFlatStated, IsFlatEnd}
-use Rattle.flat_values.proofs.Fresh.{numbers-length}
-use Rattle.flat_values.proofs.Ways.{named-literal, named-given}
-use Rattle.flat_values.proofs.ValueArms.{number-value, truth-value, var-value, paren-value, dot-value, invert-value, negate-value}
+use Rattle.nv_flatten_values.proofs.Fresh.{numbers-length}
+use Rattle.nv_flatten_values.proofs.Ways.{named-literal, named-given}
+use Rattle.nv_flatten_values.proofs.ValueArms.{number-value, truth-value, var-value, paren-value, dot-value, invert-value, negate-value}
 use Rattle.nv_flatten.proofs.ListArms.{tuple-value, record-value}
 use Rattle.nv_flatten.proofs.WordArms.{combine-value}
 use Rattle.nv_flatten.proofs.AccessArms.{fetch-value, pack-value}
@@ -45,7 +45,7 @@ use Rattle.nv_flatten.proofs.NarrowValues.{value-narrow-more, number-narrow, tru
 use Rattle.nv_flatten.proofs.NarrowLists.{stated-narrow-more, block-narrow}
 use Rattle.nv_flatten.proofs.NarrowCalls.{unpack-form, pack-form, unpack-narrow, pack-narrow}
 use Rattle.nv_flatten.proofs.NarrowViews.{shifted-narrow, lets-from}
-use Rattle.flat_values.specs.inner.Small.{AreFewLets, PacksFew, IsSmallValue}
+use Rattle.nv_flatten_values.specs.inner.Small.{AreFewLets, PacksFew, IsSmallValue}
 use Rattle.nv_flatten.proofs.SmallValues.{value-small-more, stated-small-more, number-small, truth-small, var-small, paren-small, tuple-small, record-small, dot-small, invert-small, negate-small, combine-small, fetch-small, named-small}
 use Rattle.nv_flatten.proofs.SmallLists.{block-small}
 use Rattle.nv_flatten.proofs.SmallCalls.{unpack-small, pack-small}

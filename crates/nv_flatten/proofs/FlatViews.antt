@@ -5,10 +5,10 @@ use Rattle.nv_base.specs.declared.term.Cmp.{Cmp}
 use Rattle.nv_ast.specs.Tree.{Tree, StatementTree}
 use Rattle.flat_ir.specs.declared.flat.Flat.{Flat}
 use Rattle.flat_ir.specs.declared.spine.Step.{Step}
-use Rattle.flat_values.specs.inner.Symbols.{Symbol, SymbolScope}
-use Rattle.flat_values.specs.inner.View.{Named, scope_of}
-use Rattle.flat_values.specs.inner.Whole.{Whole}
-use Rattle.flat_values.specs.inner.Simulation.{Names}
+use Rattle.nv_flatten_values.specs.inner.Symbols.{Symbol, SymbolScope}
+use Rattle.nv_flatten_values.specs.inner.View.{Named, scope_of}
+use Rattle.nv_flatten_values.specs.inner.Whole.{Whole}
+use Rattle.nv_flatten_values.specs.inner.Simulation.{Names}
 use Rattle.nv_flatten.specs.inner.Flat.{IsFlatValue, IsFlatStatement, IsFlatTest, IsFlatEnd}
 
 -- what follows for a value, where there is one

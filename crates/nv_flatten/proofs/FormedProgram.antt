@@ -11,17 +11,17 @@ use Rattle.nv_ast.specs.Scope.{param_vars}
 use Rattle.nv_ast.specs.Typing.{type_at}
 use Rattle.nv_ast.specs.Faults.{program_faults, main_name}
 use Rattle.nv_meaning.specs.Meaning.{function_in}
-use Rattle.flat_values.specs.inner.Code.{variables}
-use Rattle.flat_values.specs.inner.Symbols.{SymbolScope, fresh, named_fresh, numbers_from, params_bound}
-use Rattle.flat_values.specs.inner.Whole.{Whole, whole_of, Stands}
-use Rattle.flat_values.specs.inner.Simulation.{Names}
-use Rattle.flat_values.specs.inner.Made.{params_in, entry, IsMade, IsPlaced, IsComplete}
+use Rattle.nv_flatten_values.specs.inner.Code.{variables}
+use Rattle.nv_flatten_values.specs.inner.Symbols.{SymbolScope, fresh, named_fresh, numbers_from, params_bound}
+use Rattle.nv_flatten_values.specs.inner.Whole.{Whole, whole_of, Stands}
+use Rattle.nv_flatten_values.specs.inner.Simulation.{Names}
+use Rattle.nv_flatten_values.specs.inner.Made.{params_in, entry, IsMade, IsPlaced, IsComplete}
 use Rattle.flat_ir.specs.Reached.{AreReached}
-use Rattle.flat_values.specs.inner.Well.{FunsMatch, ScopeKnown, GivesWords, IsWellFun}
-use Rattle.flat_values.proofs.Fresh.{numbers-append, numbers-length, variables-append, fresh-operands}
-use Rattle.flat_values.proofs.WellBasics.{knows-left, knows-right, knows-variables}
-use Rattle.flat_values.proofs.WellProgram.{walked-fun, fun-names, program-formed}
-use Rattle.flat_values.proofs.Naming.{slice-there}
+use Rattle.nv_flatten_values.specs.inner.Well.{FunsMatch, ScopeKnown, GivesWords, IsWellFun}
+use Rattle.nv_flatten_values.proofs.Fresh.{numbers-append, numbers-length, variables-append, fresh-operands}
+use Rattle.nv_flatten_values.proofs.WellBasics.{knows-left, knows-right, knows-variables}
+use Rattle.nv_flatten_values.proofs.WellProgram.{walked-fun, fun-names, program-formed}
+use Rattle.nv_flatten_values.proofs.Naming.{slice-there}
 use Rattle.nv_flatten.proofs.Bodies.{IsBody, bodies, narrow-raised, has-main}
 use Rattle.nv_flatten.proofs.Entering.{type-same, params-types}
 use Rattle.nv_flatten.proofs.Lockstep.{body_place, body_wanted, main-narrow}

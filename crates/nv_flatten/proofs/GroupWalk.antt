@@ -9,8 +9,8 @@ use Rattle.nv_ast.specs.Sizes.{GroupNumbers, numbered}
 use Rattle.nv_ast.specs.Scope.{Known, nothing_known, in_group, known_after}
 use Rattle.nv_ast.specs.Faults.{signature_faults, signatures_faults, bodies_faults, body_faults, name_faults, decl_faults, decls_faults, program_faults}
 use Rattle.nv_meaning.specs.Meaning.{function_in}
-use Rattle.nv_values.specs.inner.Tables.{place_from}
-use Rattle.flat_values.specs.inner.Whole.{Whole, whole_of, groups_from, group_of, group_at, IsPart}
+use Rattle.nv_meaning_values.specs.inner.Tables.{place_from}
+use Rattle.nv_flatten_values.specs.inner.Whole.{Whole, whole_of, groups_from, group_of, group_at, IsPart}
 use Rattle.nv_flatten.proofs.Knowing.{params-stay, function-front, function-behind, with-functions}
 use Rattle.nv_flatten.proofs.Bodies.{SoFar, so_far, numbers, at-first, layouts-front, functions-front, layout-step, exception-step, group-step, part-of, body-found, signed-found, group-exact}
 use Rattle.nv_ast.proofs.Faultless.{no_front, no_rest}

@@ -9,10 +9,10 @@ use Rattle.nv_ast.specs.Tree.{TypeTree, WordType, BoolType, PackedType, Unpacked
 use Rattle.nv_ast.specs.Types.{TupleTy, RecordTy, Tys, ty_and, named_ty_and, type_of, types_of, named_types_of, packed_ty, unpacked_ty, total_words}
 use Rattle.nv_ast.specs.Scope.{Signature, signature, signatures}
 use Rattle.nv_ast.specs.Faults.{type_faults, types_faults, named_types_faults, too_large, no_layout, twice_in_type, type_names, signature_faults, signatures_faults}
-pub use Rattle.nv_values.proofs.Grouped.{function-named}
+pub use Rattle.nv_meaning_values.proofs.Grouped.{function-named}
 use Rattle.nv_meaning.specs.Meaning.{Declared, with_decl, with_decls, function_in}
 use Rattle.nv_meaning.specs.Running.{number_from}
-use Rattle.nv_values.specs.inner.Tables.{place_from}
+use Rattle.nv_meaning_values.specs.inner.Tables.{place_from}
 use Rattle.nv_ast.proofs.Faultless.{no_front, no_rest, no_kinds, not_where}
 use Rattle.nv_layout.proofs.Sound.{where_not}
 

@@ -17,15 +17,15 @@ use Rattle.nv_meaning.specs.Meaning.{eval, eval_all, eval_named}
 use Rattle.flat_ir.specs.Running as flat
 use Rattle.flat_ir.specs.Spine.{steps_do}
 use Rattle.flat_ir.specs.declared.spine.Step.{Step}
-use Rattle.flat_values.specs.declared.symbol.Symbol as coded
-use Rattle.flat_values.specs.inner.Symbols.{Symbol, Tuple, Record, Symbols, no_symbols, symbol_and, NamedSymbols, no_named_symbols, named_symbol_and, SymbolScope, operands, all_operands, named_operands, form, forms, named_forms, value_in, values_in, named_values_in, Fits, AllFit, NamedFit, IsOlder, scope_in}
-use Rattle.flat_values.specs.inner.View.{view, list_symbols, Named, list_named_symbols}
-use Rattle.flat_values.specs.inner.Runs.{flat_run, onward}
-use Rattle.flat_values.specs.inner.Whole.{Whole}
-use Rattle.flat_values.specs.inner.Simulation.{Names, Extends, IsValue, AreValues, AreFields, onward_all, onward_named}
-use Rattle.flat_values.proofs.Keeping.{older-later, scope-later, keeps-value, keeps-fit, keeps-scope, begins-then, begins-done, done-then, extends-itself, extends-then}
-use Rattle.flat_values.proofs.NoFaults.{value-has-type}
-use Rattle.flat_values.proofs.Following.{onward-all, onward-named, steps-then, stands-inside, fewer}
+use Rattle.nv_flatten_values.specs.declared.symbol.Symbol as coded
+use Rattle.nv_flatten_values.specs.inner.Symbols.{Symbol, Tuple, Record, Symbols, no_symbols, symbol_and, NamedSymbols, no_named_symbols, named_symbol_and, SymbolScope, operands, all_operands, named_operands, form, forms, named_forms, value_in, values_in, named_values_in, Fits, AllFit, NamedFit, IsOlder, scope_in}
+use Rattle.nv_flatten_values.specs.inner.View.{view, list_symbols, Named, list_named_symbols}
+use Rattle.nv_flatten_values.specs.inner.Runs.{flat_run, onward}
+use Rattle.nv_flatten_values.specs.inner.Whole.{Whole}
+use Rattle.nv_flatten_values.specs.inner.Simulation.{Names, Extends, IsValue, AreValues, AreFields, onward_all, onward_named}
+use Rattle.nv_flatten_values.proofs.Keeping.{older-later, scope-later, keeps-value, keeps-fit, keeps-scope, begins-then, begins-done, done-then, extends-itself, extends-then}
+use Rattle.nv_flatten_values.proofs.NoFaults.{value-has-type}
+use Rattle.nv_flatten_values.proofs.Following.{onward-all, onward-named, steps-then, stands-inside, fewer}
 use Rattle.nv_ast.proofs.Faultless.{no_front, no_rest}
 
 -- ---- what follows the first of some values

@@ -22,15 +22,15 @@ use Rattle.nv_meaning.specs.Meaning.{Calls, eval, enter, entered, calls_within, 
 use Rattle.flat_ir.specs.declared.flat.FlatFun.{FlatFun}
 use Rattle.flat_ir.specs.Running as flat
 use Rattle.flat_ir.specs.Meaning as code
-use Rattle.flat_values.specs.inner.Symbols.{values_in, AllFit, all_fresh, numbers_from, scope_in}
-use Rattle.flat_values.specs.inner.Runs.{flat_run, ended}
-use Rattle.flat_values.specs.inner.Whole.{Whole, whole_of, raised_tys}
-use Rattle.flat_values.specs.inner.Soundness.{AreWords, value_ty, value_tys, ComesTo, CallsTyped}
-use Rattle.flat_values.specs.inner.Simulation.{Names, CallsAgree}
-use Rattle.flat_values.specs.inner.Made.{params_in, entry, IsMade, AllMade, IsComplete}
+use Rattle.nv_flatten_values.specs.inner.Symbols.{values_in, AllFit, all_fresh, numbers_from, scope_in}
+use Rattle.nv_flatten_values.specs.inner.Runs.{flat_run, ended}
+use Rattle.nv_flatten_values.specs.inner.Whole.{Whole, whole_of, raised_tys}
+use Rattle.nv_flatten_values.specs.inner.Soundness.{AreWords, value_ty, value_tys, ComesTo, CallsTyped}
+use Rattle.nv_flatten_values.specs.inner.Simulation.{Names, CallsAgree}
+use Rattle.nv_flatten_values.specs.inner.Made.{params_in, entry, IsMade, AllMade, IsComplete}
 use Rattle.flat_ir.specs.Reached as flattened
-use Rattle.flat_values.proofs.Fresh.{fresh-values, all-fresh-fit, numbers-length}
-use Rattle.flat_values.proofs.Sound.{typed-eval}
+use Rattle.nv_flatten_values.proofs.Fresh.{fresh-values, all-fresh-fit, numbers-length}
+use Rattle.nv_flatten_values.proofs.Sound.{typed-eval}
 use Rattle.nv_flatten.proofs.Knowing.{function-named}
 use Rattle.nv_flatten.proofs.Bodies.{IsBody, bodies, narrow-raised, has-main}
 use Rattle.nv_flatten.proofs.Entering.{type-same, word-count, all-word-count, entered-types, entered-words, params-values, params-types, params-fit, params-older, arguments-scope, from-types, all-from-words}

@@ -6,11 +6,11 @@ use Rattle.nv_ast.specs.Tree.{FunTree, NamedTypes}
 use Rattle.nv_ast.specs.Types.{type_of, named_types_of, words, total_named_words}
 use Rattle.nv_meaning.specs.Meaning.{function_in}
 use Rattle.flat_ir.specs.declared.flat.FlatFun.{FlatFun}
-use Rattle.flat_values.specs.inner.Symbols.{Symbol, SymbolScope, named_fresh, numbers_from, params_bound}
-use Rattle.flat_values.specs.inner.Whole.{Whole, group_of}
-use Rattle.flat_values.specs.inner.Simulation.{Names, IsEnd}
-use Rattle.flat_values.specs.inner.Made.{IsMade, IsPlaced}
-use Rattle.flat_values.specs.inner.Well.{IsWellEnd}
+use Rattle.nv_flatten_values.specs.inner.Symbols.{Symbol, SymbolScope, named_fresh, numbers_from, params_bound}
+use Rattle.nv_flatten_values.specs.inner.Whole.{Whole, group_of}
+use Rattle.nv_flatten_values.specs.inner.Simulation.{Names, IsEnd}
+use Rattle.nv_flatten_values.specs.inner.Made.{IsMade, IsPlaced}
+use Rattle.nv_flatten_values.specs.inner.Well.{IsWellEnd}
 
 -- what holds where there is an answer
 pub if-ok : {A E : Type 0} (r : Result A E) (P Q : A → Type 0) → ((a : A) → P a → Q a) → IfOk r P → IfOk r Q

@@ -12,15 +12,15 @@ use Rattle.flat_ir.specs.Running as flat
 use Rattle.flat_ir.specs.Spine.{Act}
 use Rattle.flat_ir.specs.declared.flat.Flat.{Flat}
 use Rattle.flat_ir.specs.declared.spine.Step.TheVariants.{Bind}
-use Rattle.flat_values.specs.inner.Code.{form_or_unit}
-use Rattle.flat_values.specs.inner.Symbols.{Symbol, SymbolScope, form, value_in, scope_in, Fits, fresh, numbers_from}
-use Rattle.flat_values.specs.inner.Runs.{flat_run, onward, ended}
-use Rattle.flat_values.specs.inner.Soundness.{ComesTo, AreWords, value_ty}
-use Rattle.flat_values.specs.inner.Whole.{Whole}
-use Rattle.flat_values.specs.inner.Simulation.{Names, Done, IsValue, IsEnd}
-use Rattle.flat_values.proofs.Keeping.{keeps-earlier, types-of-scope, scope-words}
-use Rattle.flat_values.proofs.Fresh.{fresh-form, fresh-older, numbers-keep, fresh-value, fresh-fits}
-use Rattle.flat_values.proofs.Sound.{typed-eval}
+use Rattle.nv_flatten_values.specs.inner.Code.{form_or_unit}
+use Rattle.nv_flatten_values.specs.inner.Symbols.{Symbol, SymbolScope, form, value_in, scope_in, Fits, fresh, numbers_from}
+use Rattle.nv_flatten_values.specs.inner.Runs.{flat_run, onward, ended}
+use Rattle.nv_flatten_values.specs.inner.Soundness.{ComesTo, AreWords, value_ty}
+use Rattle.nv_flatten_values.specs.inner.Whole.{Whole}
+use Rattle.nv_flatten_values.specs.inner.Simulation.{Names, Done, IsValue, IsEnd}
+use Rattle.nv_flatten_values.proofs.Keeping.{keeps-earlier, types-of-scope, scope-words}
+use Rattle.nv_flatten_values.proofs.Fresh.{fresh-form, fresh-older, numbers-keep, fresh-value, fresh-fits}
+use Rattle.nv_flatten_values.proofs.Sound.{typed-eval}
 
 -- what follows the words of a result of some type
 named-run : (w : Whole) (t : Option Ty) (r : Result) → ComesTo w t r → (k : List ℕ → flat.Running → flat.Result) (next : Value → Running → flat.Result)

@@ -18,21 +18,21 @@ use Rattle.flat_ir.specs.declared.flat.FlatFun.{FlatFun}
 use Rattle.flat_ir.specs.declared.spine.Step.{Step}
 use Rattle.flat_ir.specs.Spine.{AreNodes}
 use Rattle.nv_base.specs.Sets.{all_vars}
-use Rattle.flat_values.specs.inner.Symbols.{Symbol, Symbols, SymbolScope, form, operands, all_operands, all_fresh, numbers_from, vars_of, all_bound}
-use Rattle.flat_values.specs.inner.Whole.{Whole, Stands, raised_or_none}
-use Rattle.flat_values.specs.inner.Simulation.{Names, HasForm, AreValues}
-use Rattle.flat_values.specs.inner.Narrow.{IsWithin, written, NarrowSteps, NarrowCode, AreNarrowLets, Room, IsNarrowValue, AreNarrowValues, IsNarrowEnd}
-use Rattle.flat_values.proofs.Fresh.{fresh-forms, fresh-operands, all-bound-types, numbers-length}
-use Rattle.flat_values.proofs.Sound.{arguments-are-values}
+use Rattle.nv_flatten_values.specs.inner.Symbols.{Symbol, Symbols, SymbolScope, form, operands, all_operands, all_fresh, numbers_from, vars_of, all_bound}
+use Rattle.nv_flatten_values.specs.inner.Whole.{Whole, Stands, raised_or_none}
+use Rattle.nv_flatten_values.specs.inner.Simulation.{Names, HasForm, AreValues}
+use Rattle.nv_flatten_values.specs.inner.Narrow.{IsWithin, written, NarrowSteps, NarrowCode, AreNarrowLets, Room, IsNarrowValue, AreNarrowValues, IsNarrowEnd}
+use Rattle.nv_flatten_values.proofs.Fresh.{fresh-forms, fresh-operands, all-bound-types, numbers-length}
+use Rattle.nv_flatten_values.proofs.Sound.{arguments-are-values}
 use Rattle.nv_flatten.proofs.WellTypes.{some-where, low-of}
-use Rattle.flat_values.proofs.Within.{itself, of-none, into-left, into-right, through, behind-same, grows-not}
-use Rattle.flat_values.proofs.NarrowSteps.{last, handled, recast, follow, joined, recast-code, raise-code, call-code, CallAtMost, try-code}
-use Rattle.flat_values.proofs.NarrowFacts.{written-append, counted, counted-given, vars-of-variables, need-least}
+use Rattle.nv_flatten_values.proofs.Within.{itself, of-none, into-left, into-right, through, behind-same, grows-not}
+use Rattle.nv_flatten_values.proofs.NarrowSteps.{last, handled, recast, follow, joined, recast-code, raise-code, call-code, CallAtMost, try-code}
+use Rattle.nv_flatten_values.proofs.NarrowFacts.{written-append, counted, counted-given, vars-of-variables, need-least}
 use Rattle.nv_flatten.proofs.Bound.{written-all-bound}
 use Rattle.nv_flatten.proofs.NarrowValues.{roomier}
 use Rattle.nv_flatten.proofs.NarrowEnds.{arguments-counted}
-use Rattle.flat_values.proofs.CallArms.{get-append}
-use Rattle.flat_values.proofs.Following.{stands-inside}
+use Rattle.nv_flatten_values.proofs.CallArms.{get-append}
+use Rattle.nv_flatten_values.proofs.Following.{stands-inside}
 use Rattle.nv_ast.proofs.Faultless.{no_front, no_rest, no_kinds}
 
 module _ (w : Whole) (names others : Names) (low high : ℕ) (scope : SymbolScope) (sp : Span) (es : Trees) (ss : List Step) (us : Symbols) where

@@ -22,18 +22,18 @@ use Rattle.flat_ir.specs.declared.spine.Step.{Step}
 use Rattle.flat_ir.specs.Spine.{AreNodes}
 use Rattle.nv_base.specs.Sets.{all_vars}
 use Rattle.flat_ir.specs.Wide.{Widths}
-use Rattle.flat_values.specs.inner.Code.{is_given, is_comparison}
-use Rattle.flat_values.specs.inner.Symbols.{Symbol, Symbols, SymbolScope, operands, all_operands, truth_operand}
-use Rattle.flat_values.specs.inner.Whole.{Whole, Stands}
-use Rattle.flat_values.specs.inner.Simulation.{Names, HasForm, AreValues}
-use Rattle.flat_values.specs.inner.Narrow.{IsWithin, written, NarrowSteps, NarrowCode, IsNarrowValue, IsNarrowTest, IsNarrowEnd}
-use Rattle.flat_values.specs.inner.Well.{GivesLiteral}
-use Rattle.flat_values.proofs.Sound.{values-have-types}
-use Rattle.flat_values.proofs.Within.{itself, of-none, one, both, unions, together, behind-same, grows-not}
-use Rattle.flat_values.proofs.NarrowSteps.{last, beside, joined, recast-code, give-code, if-code}
-use Rattle.flat_values.proofs.NarrowFacts.{written-append, counted-given, words-of-forms, truth-operand-within, need-least}
+use Rattle.nv_flatten_values.specs.inner.Code.{is_given, is_comparison}
+use Rattle.nv_flatten_values.specs.inner.Symbols.{Symbol, Symbols, SymbolScope, operands, all_operands, truth_operand}
+use Rattle.nv_flatten_values.specs.inner.Whole.{Whole, Stands}
+use Rattle.nv_flatten_values.specs.inner.Simulation.{Names, HasForm, AreValues}
+use Rattle.nv_flatten_values.specs.inner.Narrow.{IsWithin, written, NarrowSteps, NarrowCode, IsNarrowValue, IsNarrowTest, IsNarrowEnd}
+use Rattle.nv_flatten_values.specs.inner.Well.{GivesLiteral}
+use Rattle.nv_flatten_values.proofs.Sound.{values-have-types}
+use Rattle.nv_flatten_values.proofs.Within.{itself, of-none, one, both, unions, together, behind-same, grows-not}
+use Rattle.nv_flatten_values.proofs.NarrowSteps.{last, beside, joined, recast-code, give-code, if-code}
+use Rattle.nv_flatten_values.proofs.NarrowFacts.{written-append, counted-given, words-of-forms, truth-operand-within, need-least}
 use Rattle.nv_flatten.proofs.NarrowValues.{roomier, less-behind, operands-narrow, result-words}
-use Rattle.flat_values.proofs.Following.{stands-inside}
+use Rattle.nv_flatten_values.proofs.Following.{stands-inside}
 use Rattle.nv_ast.proofs.Faultless.{no_front, no_rest}
 
 module _ (funs : List FlatFun) (widths : Widths) (own : ℕ) where

@@ -4,11 +4,11 @@ use Rattle.std.specs.Prelude.{slice_get}
 use Rattle.nv_ast.specs.Tree.{FunTree}
 use Rattle.nv_meaning.specs.Meaning.{function_in}
 use Rattle.flat_ir.specs.declared.flat.FlatFun.{FlatFun}
-use Rattle.flat_values.specs.inner.Whole.{Whole}
-use Rattle.flat_values.specs.inner.Simulation.{Names, Extends}
-use Rattle.flat_values.specs.inner.Narrow.{IsNarrowOf, AreNarrowFuns}
-use Rattle.flat_values.proofs.CallArms.{get-append}
-use Rattle.flat_values.proofs.Keeping.{extends-then}
+use Rattle.nv_flatten_values.specs.inner.Whole.{Whole}
+use Rattle.nv_flatten_values.specs.inner.Simulation.{Names, Extends}
+use Rattle.nv_flatten_values.specs.inner.Narrow.{IsNarrowOf, AreNarrowFuns}
+use Rattle.nv_flatten_values.proofs.CallArms.{get-append}
+use Rattle.nv_flatten_values.proofs.Keeping.{extends-then}
 
 -- what stands at a place of a list with one more element
 at-last : {A : Type 0} (P : A → ℕ → Type 0) (xs : List A) (x y : A) (i j : ℕ) → slice_get (xs ++ x ∷ []) i ≡ Some y → ((z : A) (k : ℕ) → slice_get xs k ≡ Some z → P z (j + k)) → P x (j + length xs) → P y (j + i)

@@ -16,16 +16,16 @@ use Rattle.flat_ir.specs.declared.spine.Step.{Step}
 use Rattle.flat_ir.specs.declared.spine.Step.TheVariants.{Store}
 use Rattle.flat_ir.specs.Spine.{AreNodes}
 use Rattle.nv_base.specs.Sets.{all_vars}
-use Rattle.flat_values.specs.inner.Symbols.{Symbol, Symbols, NamedSymbols, no_symbols, symbol_and, no_named_symbols, named_symbol_and, SymbolScope, operands, all_operands, named_operands, word_operand, bound}
-use Rattle.flat_values.specs.inner.Whole.{Whole, Stands}
-use Rattle.flat_values.specs.inner.Simulation.{Names, Extends, HasForm, IsStated}
-use Rattle.flat_values.specs.inner.Narrow.{IsWithin, AddsAtMost, written, Pends, NarrowSteps, Room, IsNarrowValue, AreNarrowValues, AreNarrowFields, IsNarrowEnd, IsNarrowStatement, IsNarrowStated}
-use Rattle.flat_values.proofs.Within.{itself, of-none, both-same, grows-not, grows-more, grows-further, all-vars-append}
-use Rattle.flat_values.proofs.NarrowSteps.{no-steps, recast, beside, follow, store-step, stored, joined, recast-code}
-use Rattle.flat_values.proofs.NarrowFacts.{written-append, written-right, counted, vars-at-most, word-operand-within}
+use Rattle.nv_flatten_values.specs.inner.Symbols.{Symbol, Symbols, NamedSymbols, no_symbols, symbol_and, no_named_symbols, named_symbol_and, SymbolScope, operands, all_operands, named_operands, word_operand, bound}
+use Rattle.nv_flatten_values.specs.inner.Whole.{Whole, Stands}
+use Rattle.nv_flatten_values.specs.inner.Simulation.{Names, Extends, HasForm, IsStated}
+use Rattle.nv_flatten_values.specs.inner.Narrow.{IsWithin, AddsAtMost, written, Pends, NarrowSteps, Room, IsNarrowValue, AreNarrowValues, AreNarrowFields, IsNarrowEnd, IsNarrowStatement, IsNarrowStated}
+use Rattle.nv_flatten_values.proofs.Within.{itself, of-none, both-same, grows-not, grows-more, grows-further, all-vars-append}
+use Rattle.nv_flatten_values.proofs.NarrowSteps.{no-steps, recast, beside, follow, store-step, stored, joined, recast-code}
+use Rattle.nv_flatten_values.proofs.NarrowFacts.{written-append, written-right, counted, vars-at-most, word-operand-within}
 use Rattle.nv_flatten.proofs.Bound.{written-bound, bound-pends, same-pends, pends-further}
 use Rattle.nv_flatten.proofs.NarrowValues.{roomier, two-parts, fewer}
-use Rattle.flat_values.proofs.Following.{stands-inside}
+use Rattle.nv_flatten_values.proofs.Following.{stands-inside}
 use Rattle.nv_ast.proofs.Faultless.{no_front, no_rest}
 
 module _ (w : Whole) (names : Names) (scope : SymbolScope) where

@@ -8,7 +8,7 @@ use Rattle.nv_ast.specs.Sizes.{GroupNumbers, param_words, body_vars, need, group
 use Rattle.nv_ast.specs.Scope.{Known, nothing_known, known_after}
 use Rattle.nv_ast.specs.Faults.{body_faults, program_faults}
 use Rattle.nv_meaning.specs.Meaning.{function_in}
-use Rattle.flat_values.specs.inner.Whole.{Whole, whole_of, group_of, IsPart}
+use Rattle.nv_flatten_values.specs.inner.Whole.{Whole, whole_of, group_of, IsPart}
 use Rattle.nv_flatten.proofs.GroupWalk.{Group, group_in, number_of, with_group, numbers_behind, stands-in, number-in}
 
 -- ---- a function's body and the needs of the groups before

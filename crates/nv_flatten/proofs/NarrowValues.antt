@@ -23,21 +23,21 @@ use Rattle.flat_ir.specs.declared.spine.Step.TheVariants.{Let, Fetch, Bind}
 use Rattle.flat_ir.specs.Pieces.{new_vars}
 use Rattle.nv_base.specs.Sets.{all_vars}
 use Rattle.flat_ir.specs.Wide.{Widths}
-use Rattle.flat_values.specs.inner.Code.{variables as var_operands, form_or_unit, shift_of}
-use Rattle.flat_values.specs.inner.Symbols.{Symbol, Symbols, NamedSymbols, Word, Truth, Tuple, Record, SymbolScope, operands, all_operands, named_operands, fresh, numbers_from, words_symbol, word_operand, truth_operand, fields_of, field_named, symbol_in}
-use Rattle.flat_values.specs.inner.Whole.{Whole, Stands}
-use Rattle.flat_values.specs.inner.Simulation.{Names, Extends, HasForm, IsEnd}
-use Rattle.flat_values.specs.inner.Narrow.{IsWithin, written, NarrowSteps, Room, IsNarrowValue, AreNarrowValues, AreNarrowFields, IsNarrowTest, IsNarrowEnd}
-use Rattle.flat_values.proofs.Fresh.{fresh-operands, numbers-length}
-use Rattle.flat_values.proofs.Within.{itself, of-none, into-left, together, through, both-same, grows-by, grows-not}
-use Rattle.flat_values.proofs.NarrowSteps.{no-steps, recast, follow, in-turn, let-step, fetch-step, bind-step}
-use Rattle.flat_values.proofs.NarrowFacts.{written-append, counted, words-of-or-unit, vars-at-most, word-operand-within, truth-operand-within, field-within, fields-within, vars-of-variables, need-least}
-use Rattle.flat_values.proofs.PackedWords.{symbol-operands}
-use Rattle.flat_values.proofs.Following.{stands-inside}
-use Rattle.flat_values.proofs.Keeping.{extends-then}
-use Rattle.flat_values.proofs.WellBasics.{words-ty-words}
+use Rattle.nv_flatten_values.specs.inner.Code.{variables as var_operands, form_or_unit, shift_of}
+use Rattle.nv_flatten_values.specs.inner.Symbols.{Symbol, Symbols, NamedSymbols, Word, Truth, Tuple, Record, SymbolScope, operands, all_operands, named_operands, fresh, numbers_from, words_symbol, word_operand, truth_operand, fields_of, field_named, symbol_in}
+use Rattle.nv_flatten_values.specs.inner.Whole.{Whole, Stands}
+use Rattle.nv_flatten_values.specs.inner.Simulation.{Names, Extends, HasForm, IsEnd}
+use Rattle.nv_flatten_values.specs.inner.Narrow.{IsWithin, written, NarrowSteps, Room, IsNarrowValue, AreNarrowValues, AreNarrowFields, IsNarrowTest, IsNarrowEnd}
+use Rattle.nv_flatten_values.proofs.Fresh.{fresh-operands, numbers-length}
+use Rattle.nv_flatten_values.proofs.Within.{itself, of-none, into-left, together, through, both-same, grows-by, grows-not}
+use Rattle.nv_flatten_values.proofs.NarrowSteps.{no-steps, recast, follow, in-turn, let-step, fetch-step, bind-step}
+use Rattle.nv_flatten_values.proofs.NarrowFacts.{written-append, counted, words-of-or-unit, vars-at-most, word-operand-within, truth-operand-within, field-within, fields-within, vars-of-variables, need-least}
+use Rattle.nv_flatten_values.proofs.PackedWords.{symbol-operands}
+use Rattle.nv_flatten_values.proofs.Following.{stands-inside}
+use Rattle.nv_flatten_values.proofs.Keeping.{extends-then}
+use Rattle.nv_flatten_values.proofs.WellBasics.{words-ty-words}
 use Rattle.nv_ast.proofs.Faultless.{no_front, no_rest}
-use Rattle.flat_values.proofs.WordSteps.{shift-vars}
+use Rattle.nv_flatten_values.proofs.WordSteps.{shift-vars}
 
 -- ---- steps and then a primitive of their results
 prim-length : (q : Primitive) → length (prim_vars q) ≤ 2

@@ -14,19 +14,19 @@ use Rattle.nv_base.specs.Words.{atom_vars}
 use Rattle.nv_base.specs.Sets.{all_vars}
 use Rattle.flat_ir.specs.declared.spine.Step.{Step}
 use Rattle.flat_ir.specs.declared.spine.Step.TheVariants.{Let}
-use Rattle.flat_values.specs.declared.symbol.Symbol.{Symbol as CodeSymbol}
-use Rattle.flat_values.specs.inner.Code.{shift_of}
-use Rattle.flat_values.specs.inner.Symbols.{Symbol, SymbolScope, Word, operands, word_operand}
-use Rattle.flat_values.specs.inner.Simulation.{Names, Extends, HasForm, IsStated}
-use Rattle.flat_values.specs.inner.View.{view, list_symbols, list_named_symbols, scope_of, Named}
-use Rattle.flat_values.specs.inner.Whole.{Whole}
-use Rattle.flat_values.specs.inner.Narrow.{IsWithin, AreNarrowLets, IsNarrowValue, AreNarrowValues, AreNarrowFields, IsNarrowStatement, IsNarrowStated}
+use Rattle.nv_flatten_values.specs.declared.symbol.Symbol.{Symbol as CodeSymbol}
+use Rattle.nv_flatten_values.specs.inner.Code.{shift_of}
+use Rattle.nv_flatten_values.specs.inner.Symbols.{Symbol, SymbolScope, Word, operands, word_operand}
+use Rattle.nv_flatten_values.specs.inner.Simulation.{Names, Extends, HasForm, IsStated}
+use Rattle.nv_flatten_values.specs.inner.View.{view, list_symbols, list_named_symbols, scope_of, Named}
+use Rattle.nv_flatten_values.specs.inner.Whole.{Whole}
+use Rattle.nv_flatten_values.specs.inner.Narrow.{IsWithin, AreNarrowLets, IsNarrowValue, AreNarrowValues, AreNarrowFields, IsNarrowStatement, IsNarrowStated}
 use Rattle.nv_flatten.proofs.WellTypes.{middle-of}
-use Rattle.flat_values.proofs.Within.{of-none, into-left, into-right, together, through, turned}
-use Rattle.flat_values.proofs.NarrowFacts.{word-operand-within}
+use Rattle.nv_flatten_values.proofs.Within.{of-none, into-left, into-right, together, through, turned}
+use Rattle.nv_flatten_values.proofs.NarrowFacts.{word-operand-within}
 use Rattle.nv_flatten.proofs.NarrowValues.{value-narrow-more, shift-none-narrow, shift-narrow}
 use Rattle.nv_flatten.proofs.NarrowLists.{values-cons, fields-cons, values-nil, fields-nil, stated-cons, stated-nil, statement-narrow-more}
-use Rattle.flat_values.proofs.Keeping.{extends-then}
+use Rattle.nv_flatten_values.proofs.Keeping.{extends-then}
 use Rattle.nv_ast.proofs.Items.{next_item}
 use Rattle.nv_ast.proofs.Faultless.{not_where}
 

@@ -1,10 +1,10 @@
 -- What the walk's recursion goes down by: the text, and for the functions of one expression the order in which they call one another.
 use Rattle.std.proofs.Common.{◌≡◌, ℕ, ◌+◌, ◌<◌, true, false, not, sym, arith}
 use Rattle.nv_ast.specs.Tree.{Tree, BinaryTree, NumberTree, TruthTree, VarTree, ParenTree, TupleTree, FieldsTree, DotTree, InvertTree, NegateTree, ShiftTree, CallTree, UnpackTree, PackTree, RaiseTree, IfTree, TryTree, FetchTree, BlockTree}
-use Rattle.flat_values.specs.declared.parts.Ends.{Ends}
-use Rattle.flat_values.specs.declared.parts.Ends.TheVariants as ends
-use Rattle.flat_values.specs.inner.Arms.{is_named}
-use Rattle.flat_values.specs.inner.Code.{ends_of, gives, tests, is_given, is_comparison}
+use Rattle.nv_flatten_values.specs.declared.parts.Ends.{Ends}
+use Rattle.nv_flatten_values.specs.declared.parts.Ends.TheVariants as ends
+use Rattle.nv_flatten_values.specs.inner.Arms.{is_named}
+use Rattle.nv_flatten_values.specs.inner.Code.{ends_of, gives, tests, is_given, is_comparison}
 
 -- a value is made by its own function, or by way of code that ends with its words: a comparison's, or another's
 abbrev value_by : Ends → ℕ

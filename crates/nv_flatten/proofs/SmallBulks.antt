@@ -11,8 +11,8 @@ use Rattle.flat_ir.specs.Pieces.{steps_bulk}
 use Rattle.flat_ir.proofs.Parts.{nodes-bulk}
 use Rattle.flat_ir.proofs.Appended.{bulk-append}
 use Rattle.nv_base.proofs.Measures.{most-refl}
-use Rattle.flat_values.specs.inner.Code.{is_given}
-use Rattle.flat_values.specs.inner.Small.{of_parts, uses, lets, value_rest}
+use Rattle.nv_flatten_values.specs.inner.Code.{is_given}
+use Rattle.nv_flatten_values.specs.inner.Small.{of_parts, uses, lets, value_rest}
 
 -- what is left after a comparison
 abbrev pub decision : Bulk

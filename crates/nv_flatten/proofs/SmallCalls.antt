@@ -21,23 +21,23 @@ use Rattle.flat_ir.specs.Spine.{AreNodes}
 use Rattle.nv_base.specs.Measures.{Bulk, nothing, a_label, a_jump, both, IsAtMost}
 use Rattle.flat_ir.specs.Bulk.{Bulks, return_bulk, call_bulk, code_bulk}
 use Rattle.nv_base.proofs.Measures.{most-none}
-use Rattle.flat_values.specs.inner.Code.{form_or_unit}
-use Rattle.flat_values.specs.inner.Symbols.{Symbol, Symbols, SymbolScope, form, operands, all_operands, all_fresh, vars_of, all_bound}
-use Rattle.flat_values.specs.inner.Whole.{Whole, Stands, raised_or_none, result_of}
-use Rattle.flat_values.specs.inner.Simulation.{Names, HasForm}
-use Rattle.flat_values.specs.inner.Small.{of_parts, uses, value_rest, Sized, IsSmallValue, AreSmallValues, IsSmallEnd, AreFewLets, PacksFew}
-use Rattle.flat_values.proofs.Fresh.{fresh-forms, all-bound-types}
-use Rattle.flat_values.proofs.Sound.{value-has-type}
+use Rattle.nv_flatten_values.specs.inner.Code.{form_or_unit}
+use Rattle.nv_flatten_values.specs.inner.Symbols.{Symbol, Symbols, SymbolScope, form, operands, all_operands, all_fresh, vars_of, all_bound}
+use Rattle.nv_flatten_values.specs.inner.Whole.{Whole, Stands, raised_or_none, result_of}
+use Rattle.nv_flatten_values.specs.inner.Simulation.{Names, HasForm}
+use Rattle.nv_flatten_values.specs.inner.Small.{of_parts, uses, value_rest, Sized, IsSmallValue, AreSmallValues, IsSmallEnd, AreFewLets, PacksFew}
+use Rattle.nv_flatten_values.proofs.Fresh.{fresh-forms, all-bound-types}
+use Rattle.nv_flatten_values.proofs.Sound.{value-has-type}
 use Rattle.nv_flatten.proofs.WellTypes.{some-where, low-of, right-of}
-use Rattle.flat_values.proofs.NarrowFacts.{counted-given, words-of-or-unit}
+use Rattle.nv_flatten_values.proofs.NarrowFacts.{counted-given, words-of-or-unit}
 use Rattle.nv_flatten.proofs.NarrowCalls.{around, behind, handler_faults, handler-none, unknown-none}
 use Rattle.nv_flatten.proofs.SmallBulks.{alone-most, jump-most, handled-most, lets-most, steps-then, code-then}
 use Rattle.nv_flatten.proofs.SmallValues.{of_steps, size_of, behind_value}
 use Rattle.nv_flatten.proofs.SmallEnds.{words-of-either}
-use Rattle.flat_values.proofs.NoFaults.{among-known}
-use Rattle.flat_values.proofs.CallArms.{get-append}
-use Rattle.flat_values.proofs.Following.{stands-inside}
-use Rattle.flat_values.proofs.WellBasics.{words-ty-words}
+use Rattle.nv_flatten_values.proofs.NoFaults.{among-known}
+use Rattle.nv_flatten_values.proofs.CallArms.{get-append}
+use Rattle.nv_flatten_values.proofs.Following.{stands-inside}
+use Rattle.nv_flatten_values.proofs.WellBasics.{words-ty-words}
 use Rattle.nv_ast.proofs.Faultless.{no_front, not_where}
 
 -- ---- what a call counts beside its jump

@@ -17,18 +17,18 @@ use Rattle.flat_ir.specs.declared.spine.Step.{Step}
 use Rattle.flat_ir.specs.Spine.{AreNodes}
 use Rattle.nv_base.specs.Measures.{nothing, a_label, a_jump, a_node, both, IsAtMost}
 use Rattle.flat_ir.specs.Bulk.{Bulks, code_bulk}
-use Rattle.flat_values.specs.inner.Code.{is_given, is_comparison, form_or_unit}
-use Rattle.flat_values.specs.inner.Symbols.{Symbol, Truth, SymbolScope, operands, form}
-use Rattle.flat_values.specs.inner.Whole.{Whole}
-use Rattle.flat_values.specs.inner.Simulation.{Names}
-use Rattle.flat_values.specs.inner.Well.{GivesLiteral}
-use Rattle.flat_values.specs.inner.Small.{of_parts, uses, test_rest, IsSmallValue, IsSmallTest, IsSmallEnd}
-use Rattle.flat_values.proofs.NarrowFacts.{words-of-form}
+use Rattle.nv_flatten_values.specs.inner.Code.{is_given, is_comparison, form_or_unit}
+use Rattle.nv_flatten_values.specs.inner.Symbols.{Symbol, Truth, SymbolScope, operands, form}
+use Rattle.nv_flatten_values.specs.inner.Whole.{Whole}
+use Rattle.nv_flatten_values.specs.inner.Simulation.{Names}
+use Rattle.nv_flatten_values.specs.inner.Well.{GivesLiteral}
+use Rattle.nv_flatten_values.specs.inner.Small.{of_parts, uses, test_rest, IsSmallValue, IsSmallTest, IsSmallEnd}
+use Rattle.nv_flatten_values.proofs.NarrowFacts.{words-of-form}
 use Rattle.nv_flatten.proofs.NarrowValues.{result-words}
 use Rattle.nv_flatten.proofs.NarrowEnds.{first-none, second-none}
 use Rattle.nv_flatten.proofs.SmallBulks.{decision, alone-most, more-most, most-alone, choice-most, beside-most, given-most, branch-most, decided-most, word-given, code-then}
 use Rattle.nv_flatten.proofs.SmallValues.{of_steps, size_of, behind_value, operands-small}
-use Rattle.flat_values.proofs.Following.{stands-inside}
+use Rattle.nv_flatten_values.proofs.Following.{stands-inside}
 use Rattle.nv_ast.proofs.Faultless.{no_front, no_rest}
 
 -- ---- what is left

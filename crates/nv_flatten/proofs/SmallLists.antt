@@ -15,16 +15,16 @@ use Rattle.flat_ir.specs.declared.spine.Step.TheVariants.{Store}
 use Rattle.flat_ir.specs.Spine.{AreNodes}
 use Rattle.nv_base.specs.Measures.{a_label, both, IsAtMost}
 use Rattle.flat_ir.specs.Bulk.{code_bulk}
-use Rattle.flat_values.specs.inner.Code.{form_or_unit}
-use Rattle.flat_values.specs.inner.Symbols.{Symbol, Symbols, NamedSymbols, no_symbols, symbol_and, no_named_symbols, named_symbol_and, SymbolScope, operands, all_operands, named_operands, word_operand}
-use Rattle.flat_values.specs.inner.Whole.{Whole, Stands}
-use Rattle.flat_values.specs.inner.Simulation.{Names, IsStated}
-use Rattle.flat_values.specs.inner.Small.{of_parts, uses, value_rest, Sized, IsSmallValue, AreSmallValues, AreSmallFields, IsSmallStated, IsSmallEnd}
-use Rattle.flat_values.proofs.NarrowSteps.{stored}
+use Rattle.nv_flatten_values.specs.inner.Code.{form_or_unit}
+use Rattle.nv_flatten_values.specs.inner.Symbols.{Symbol, Symbols, NamedSymbols, no_symbols, symbol_and, no_named_symbols, named_symbol_and, SymbolScope, operands, all_operands, named_operands, word_operand}
+use Rattle.nv_flatten_values.specs.inner.Whole.{Whole, Stands}
+use Rattle.nv_flatten_values.specs.inner.Simulation.{Names, IsStated}
+use Rattle.nv_flatten_values.specs.inner.Small.{of_parts, uses, value_rest, Sized, IsSmallValue, AreSmallValues, AreSmallFields, IsSmallStated, IsSmallEnd}
+use Rattle.nv_flatten_values.proofs.NarrowSteps.{stored}
 use Rattle.nv_flatten.proofs.NarrowLists.{stands-after, stands-behind, statements-none, last-none}
 use Rattle.nv_flatten.proofs.SmallBulks.{alone-most, both-most, after-most, front-most, stored-most, stay-most, steps-then, code-then}
 use Rattle.nv_flatten.proofs.SmallValues.{of_steps, size_of, behind_value}
-use Rattle.flat_values.proofs.Following.{stands-inside}
+use Rattle.nv_flatten_values.proofs.Following.{stands-inside}
 use Rattle.nv_ast.proofs.Faultless.{no_front, no_rest}
 
 module _ (w : Whole) (names : Names) (scope : SymbolScope) where

@@ -10,15 +10,15 @@ use Rattle.flat_ir.specs.declared.flat.FlatFun.{FlatFun}
 use Rattle.nv_base.specs.Measures.{of_size, IsAtMost}
 use Rattle.flat_ir.specs.Bulk.{bulk}
 use Rattle.nv_base.specs.Sets.{is_in}
-use Rattle.flat_values.specs.inner.Whole.{whole_of}
+use Rattle.nv_flatten_values.specs.inner.Whole.{whole_of}
 use Rattle.flat_ir.specs.Reached.{calls, Reached, itself, called}
-use Rattle.flat_values.specs.inner.Well.{Linked}
-use Rattle.flat_values.specs.inner.Made.{IsComplete}
-use Rattle.flat_values.specs.inner.Small.{AreSmallFuns}
-use Rattle.flat_values.specs.inner.Bounded.{IsBounded}
-use Rattle.flat_values.proofs.Naming.{slice-there}
+use Rattle.nv_flatten_values.specs.inner.Well.{Linked}
+use Rattle.nv_flatten_values.specs.inner.Made.{IsComplete}
+use Rattle.nv_flatten_values.specs.inner.Small.{AreSmallFuns}
+use Rattle.nv_flatten_values.specs.inner.Bounded.{IsBounded}
+use Rattle.nv_flatten_values.proofs.Naming.{slice-there}
 use Rattle.nv_flatten.proofs.Bodies.{narrow-raised, has-main}
-use Rattle.flat_values.proofs.WellProgram.{calls-formed}
+use Rattle.nv_flatten_values.proofs.WellProgram.{calls-formed}
 use Rattle.nv_flatten.proofs.FormedProgram.{matched, all-well}
 use Rattle.nv_flatten.proofs.SmallProgram.{small-enough-size}
 use Rattle.nv_flatten.proofs.Bounding.{IsBoundedMain}

@@ -15,11 +15,11 @@ use Rattle.nv_base.specs.Measures.{a_label, a_jump, both, IsAtMost, of_size}
 use Rattle.flat_ir.specs.Bulk.{Bulks, code_bulk, function_bulk, sum_bulk, main_bulk, bulk, AreBulks}
 use Rattle.nv_base.proofs.Measures.{most-trans}
 use Rattle.flat_ir.proofs.Bulks.{main-bounded}
-use Rattle.flat_values.specs.inner.Code.{form_or_unit}
-use Rattle.flat_values.specs.inner.Whole.{whole_of, group_of, Stands}
-use Rattle.flat_values.specs.inner.Simulation.{Names}
-use Rattle.flat_values.specs.inner.Made.{params_in, entry}
-use Rattle.flat_values.specs.inner.Small.{of_parts, uses, CallsSmall, Sized, IsSmallFun, AreSmallFuns}
+use Rattle.nv_flatten_values.specs.inner.Code.{form_or_unit}
+use Rattle.nv_flatten_values.specs.inner.Whole.{whole_of, group_of, Stands}
+use Rattle.nv_flatten_values.specs.inner.Simulation.{Names}
+use Rattle.nv_flatten_values.specs.inner.Made.{params_in, entry}
+use Rattle.nv_flatten_values.specs.inner.Small.{of_parts, uses, CallsSmall, Sized, IsSmallFun, AreSmallFuns}
 use Rattle.nv_flatten.proofs.Entering.{params-types}
 use Rattle.nv_flatten.proofs.GroupWalk.{IsIn}
 use Rattle.nv_flatten.proofs.SmallSizes.{picked, picked-below, part-found, size_at, size_of_group, group_parts, group-total, sized, size-there, size-of}

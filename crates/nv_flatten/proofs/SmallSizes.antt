@@ -9,8 +9,8 @@ use Rattle.nv_ast.specs.Sizes.{GroupNumbers, param_words, body_vars, expanded, g
 use Rattle.nv_ast.specs.Scope.{Known, nothing_known, known_after}
 use Rattle.nv_ast.specs.Faults.{program_faults}
 use Rattle.nv_meaning.specs.Meaning.{function_in}
-use Rattle.flat_values.specs.inner.Whole.{whole_of, group_of}
-use Rattle.flat_values.specs.inner.Simulation.{Names}
+use Rattle.nv_flatten_values.specs.inner.Whole.{whole_of, group_of}
+use Rattle.nv_flatten_values.specs.inner.Simulation.{Names}
 use Rattle.nv_flatten.proofs.GroupWalk.{Group, IsIn, group_in, number_of, with_group, numbers_behind, stands-in, number-in}
 
 -- ---- the parts of a group's size, one for each function

@@ -8,8 +8,8 @@ use Rattle.nv_ast.specs.Sizes.{GroupNumbers}
 use Rattle.flat_ir.specs.declared.flat.FlatFun.{FlatFun}
 use Rattle.nv_base.specs.Measures.{Bulk, nothing, a_label, a_jump, both, IsAtMost, of_size}
 use Rattle.flat_ir.specs.Bulk.{Bulks, function_bulk, sum_bulk}
-use Rattle.flat_values.specs.inner.Simulation.{Names}
-use Rattle.flat_values.specs.inner.Small.{of_parts, uses}
+use Rattle.nv_flatten_values.specs.inner.Simulation.{Names}
+use Rattle.nv_flatten_values.specs.inner.Small.{of_parts, uses}
 use Rattle.nv_flatten.proofs.SmallSizes.{picked}
 
 -- what a group of this size may have, besides the label and the jump of a call of it

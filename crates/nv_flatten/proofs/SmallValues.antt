@@ -20,19 +20,19 @@ use Rattle.flat_ir.specs.declared.spine.Step.TheVariants.{Let, Fetch, Bind}
 use Rattle.nv_base.specs.Measures.{Bulk, nothing, a_label, a_jump, a_node, both, IsAtMost}
 use Rattle.flat_ir.specs.Bulk.{code_bulk}
 use Rattle.flat_ir.specs.Pieces.{new_vars, steps_bulk}
-use Rattle.flat_values.specs.inner.Code.{variables as var_operands, is_given, form_or_unit, shift_of}
-use Rattle.flat_values.specs.inner.Symbols.{Symbol, Symbols, NamedSymbols, Word, Truth, Tuple, Record, no_named_symbols, named_symbol_and, SymbolScope, operands, all_operands, named_operands, form, fresh, numbers_from, words_symbol, word_operand, truth_operand, fields_of, field_named, symbol_in, vars_of}
-use Rattle.flat_values.specs.inner.Whole.{Whole, Stands}
-use Rattle.flat_values.specs.inner.Simulation.{Names, Extends}
-use Rattle.flat_values.specs.inner.Small.{of_parts, uses, value_rest, Sized, IsSmallValue, AreSmallValues, AreSmallFields, IsSmallStated, IsSmallTest, IsSmallEnd}
-use Rattle.flat_values.proofs.Fresh.{fresh-operands, numbers-length}
-use Rattle.flat_values.proofs.NarrowFacts.{words-of-form}
+use Rattle.nv_flatten_values.specs.inner.Code.{variables as var_operands, is_given, form_or_unit, shift_of}
+use Rattle.nv_flatten_values.specs.inner.Symbols.{Symbol, Symbols, NamedSymbols, Word, Truth, Tuple, Record, no_named_symbols, named_symbol_and, SymbolScope, operands, all_operands, named_operands, form, fresh, numbers_from, words_symbol, word_operand, truth_operand, fields_of, field_named, symbol_in, vars_of}
+use Rattle.nv_flatten_values.specs.inner.Whole.{Whole, Stands}
+use Rattle.nv_flatten_values.specs.inner.Simulation.{Names, Extends}
+use Rattle.nv_flatten_values.specs.inner.Small.{of_parts, uses, value_rest, Sized, IsSmallValue, AreSmallValues, AreSmallFields, IsSmallStated, IsSmallTest, IsSmallEnd}
+use Rattle.nv_flatten_values.proofs.Fresh.{fresh-operands, numbers-length}
+use Rattle.nv_flatten_values.proofs.NarrowFacts.{words-of-form}
 use Rattle.nv_flatten.proofs.NarrowValues.{result-words}
 use Rattle.nv_flatten.proofs.SmallBulks.{then-most, paid, stay-most, let-most, most-alone, most-words, bound-most, operands-most, steps-then}
-use Rattle.flat_values.proofs.PackedWords.{symbol-operands}
-use Rattle.flat_values.proofs.Following.{stands-inside}
-use Rattle.flat_values.proofs.Keeping.{extends-then}
-use Rattle.flat_values.proofs.WellBasics.{words-ty-words}
+use Rattle.nv_flatten_values.proofs.PackedWords.{symbol-operands}
+use Rattle.nv_flatten_values.proofs.Following.{stands-inside}
+use Rattle.nv_flatten_values.proofs.Keeping.{extends-then}
+use Rattle.nv_flatten_values.proofs.WellBasics.{words-ty-words}
 use Rattle.nv_ast.proofs.Faultless.{no_front, no_rest}
 
 -- ---- further names

@@ -12,17 +12,17 @@ use Rattle.nv_ast.specs.ExprView.{tree_of, list_trees, list_named_trees, stateme
 use Rattle.nv_ast.specs.Tree.{Tree, ShiftTree, no_statements, statement_and}
 use Rattle.flat_ir.specs.declared.spine.Step.{Step}
 use Rattle.flat_ir.specs.declared.spine.Step.TheVariants.{Let}
-use Rattle.flat_values.specs.declared.symbol.Symbol.{Symbol as CodeSymbol}
-use Rattle.flat_values.specs.inner.Code.{shift_of}
-use Rattle.flat_values.specs.inner.Symbols.{Symbol, SymbolScope, Word, word_operand}
-use Rattle.flat_values.specs.inner.Simulation.{Names, Extends, IsStated}
-use Rattle.flat_values.specs.inner.View.{view, list_symbols, list_named_symbols, scope_of, Named}
-use Rattle.flat_values.specs.inner.Whole.{Whole}
-use Rattle.flat_values.specs.inner.Small.{IsSmallValue, AreSmallValues, AreSmallFields, IsSmallStated}
+use Rattle.nv_flatten_values.specs.declared.symbol.Symbol.{Symbol as CodeSymbol}
+use Rattle.nv_flatten_values.specs.inner.Code.{shift_of}
+use Rattle.nv_flatten_values.specs.inner.Symbols.{Symbol, SymbolScope, Word, word_operand}
+use Rattle.nv_flatten_values.specs.inner.Simulation.{Names, Extends, IsStated}
+use Rattle.nv_flatten_values.specs.inner.View.{view, list_symbols, list_named_symbols, scope_of, Named}
+use Rattle.nv_flatten_values.specs.inner.Whole.{Whole}
+use Rattle.nv_flatten_values.specs.inner.Small.{IsSmallValue, AreSmallValues, AreSmallFields, IsSmallStated}
 use Rattle.nv_flatten.proofs.WellTypes.{middle-of}
 use Rattle.nv_flatten.proofs.SmallValues.{value-small-more, stated-small-more, shift-none-small, shift-small}
 use Rattle.nv_flatten.proofs.SmallLists.{small-values-nil, small-values-cons, small-fields-nil, small-fields-cons, small-stated-nil, small-stated-cons}
-use Rattle.flat_values.proofs.Keeping.{extends-then}
+use Rattle.nv_flatten_values.proofs.Keeping.{extends-then}
 use Rattle.nv_ast.proofs.Items.{next_item}
 use Rattle.nv_ast.proofs.Faultless.{not_where}
 

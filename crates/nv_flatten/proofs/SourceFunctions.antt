@@ -7,12 +7,12 @@ use Rattle.nv_ast.specs.Tree.{FunTree, ProgramTree}
 use Rattle.nv_meaning.specs.Meaning.{function_in}
 use Rattle.flat_ir.specs.declared.flat.FlatFun.{FlatFun}
 use Rattle.flat_ir.specs.Reached.{Reached, itself, called}
-use Rattle.flat_values.specs.inner.Made.{IsMade, IsComplete}
-use Rattle.flat_values.specs.inner.Simulation.{Names}
-use Rattle.flat_values.specs.inner.Well.{FunsMatch, Linked}
-use Rattle.flat_values.specs.inner.Whole.{Whole, whole_of}
-use Rattle.flat_values.proofs.Naming.{slice-there}
-use Rattle.flat_values.proofs.WellProgram.{AreFound, calls-formed}
+use Rattle.nv_flatten_values.specs.inner.Made.{IsMade, IsComplete}
+use Rattle.nv_flatten_values.specs.inner.Simulation.{Names}
+use Rattle.nv_flatten_values.specs.inner.Well.{FunsMatch, Linked}
+use Rattle.nv_flatten_values.specs.inner.Whole.{Whole, whole_of}
+use Rattle.nv_flatten_values.proofs.Naming.{slice-there}
+use Rattle.nv_flatten_values.proofs.WellProgram.{AreFound, calls-formed}
 use Rattle.nv_flatten.specs.Functions.{IsFunctionOf, AreFunctionsOf, AreCalledBefore}
 use Rattle.nv_flatten.proofs.Bodies.{bodies, has-main, narrow-raised}
 use Rattle.nv_flatten.proofs.Bounding.{IsBoundedMain}

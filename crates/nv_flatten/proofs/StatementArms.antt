@@ -21,14 +21,14 @@ use Rattle.flat_ir.specs.Running as flat
 use Rattle.flat_ir.specs.Meaning as code
 use Rattle.flat_ir.specs.Spine.{Act, step_does, steps_do}
 use Rattle.flat_ir.specs.declared.spine.Step.{Step}
-use Rattle.flat_values.specs.inner.Symbols.{Symbol, SymbolScope, operands, value_in, Fits, word_operand, ScopeFits, scope_in, vars_of, bound}
-use Rattle.flat_values.specs.inner.Runs.{flat_run, onward}
-use Rattle.flat_values.specs.inner.Whole.{Whole, Stands}
-use Rattle.flat_values.specs.inner.Simulation.{Names, Extends, Done, IsValue, IsStated, onward_stated}
-use Rattle.flat_values.proofs.Keeping.{scope-later, keeps-value, keeps-scope, keeps-scope_fits, begins-then, begins-done, done-then, words-fit, are-words, extends-itself, extends-then}
-use Rattle.flat_values.proofs.Fresh.{bound-values, bound-types, bound-fits, bound-older}
-use Rattle.flat_values.proofs.NoFaults.{value-has-type}
-use Rattle.flat_values.proofs.Following.{onward-stated, onward-further, steps-then, stands-inside, fewer, word-of}
+use Rattle.nv_flatten_values.specs.inner.Symbols.{Symbol, SymbolScope, operands, value_in, Fits, word_operand, ScopeFits, scope_in, vars_of, bound}
+use Rattle.nv_flatten_values.specs.inner.Runs.{flat_run, onward}
+use Rattle.nv_flatten_values.specs.inner.Whole.{Whole, Stands}
+use Rattle.nv_flatten_values.specs.inner.Simulation.{Names, Extends, Done, IsValue, IsStated, onward_stated}
+use Rattle.nv_flatten_values.proofs.Keeping.{scope-later, keeps-value, keeps-scope, keeps-scope_fits, begins-then, begins-done, done-then, words-fit, are-words, extends-itself, extends-then}
+use Rattle.nv_flatten_values.proofs.Fresh.{bound-values, bound-types, bound-fits, bound-older}
+use Rattle.nv_flatten_values.proofs.NoFaults.{value-has-type}
+use Rattle.nv_flatten_values.proofs.Following.{onward-stated, onward-further, steps-then, stands-inside, fewer, word-of}
 use Rattle.nv_flatten.proofs.AccessArms.{operands-count}
 use Rattle.nv_base.proofs.WordLemmas.{length-words}
 use Rattle.nv_ast.proofs.Faultless.{no_front, no_rest, no_kinds}

@@ -22,14 +22,14 @@ use Rattle.nv_meaning.specs.Meaning.{eval, binary, combined}
 use Rattle.flat_ir.specs.Running as flat
 use Rattle.flat_ir.specs.Spine.{Act, steps_do}
 use Rattle.flat_ir.specs.declared.spine.Step.{Step}
-use Rattle.flat_values.specs.inner.Symbols.{Symbol, Word, Truth, Tuple, Record, SymbolScope, operands, form, value_in, scope_in, Fits, IsOlder, AreOlder, ScopeOlder, word_operand, truth_operand}
-use Rattle.flat_values.specs.inner.Code.{comparison_of}
-use Rattle.flat_values.specs.inner.Runs.{flat_run, onward}
-use Rattle.flat_values.specs.inner.Whole.{Whole, Stands}
-use Rattle.flat_values.specs.inner.Simulation.{Names, Extends, Setting, Begins, Done, IsValue, IsTest}
-use Rattle.flat_values.proofs.Keeping.{older-later, scope-later, keeps-then, keeps-value, keeps-fit, keeps-scope, begins-then, extends-then}
-use Rattle.flat_values.proofs.NoFaults.{wanted-type}
-use Rattle.flat_values.proofs.Following.{onward-then, steps-then, stands-inside, value-more, word-of}
+use Rattle.nv_flatten_values.specs.inner.Symbols.{Symbol, Word, Truth, Tuple, Record, SymbolScope, operands, form, value_in, scope_in, Fits, IsOlder, AreOlder, ScopeOlder, word_operand, truth_operand}
+use Rattle.nv_flatten_values.specs.inner.Code.{comparison_of}
+use Rattle.nv_flatten_values.specs.inner.Runs.{flat_run, onward}
+use Rattle.nv_flatten_values.specs.inner.Whole.{Whole, Stands}
+use Rattle.nv_flatten_values.specs.inner.Simulation.{Names, Extends, Setting, Begins, Done, IsValue, IsTest}
+use Rattle.nv_flatten_values.proofs.Keeping.{older-later, scope-later, keeps-then, keeps-value, keeps-fit, keeps-scope, begins-then, extends-then}
+use Rattle.nv_flatten_values.proofs.NoFaults.{wanted-type}
+use Rattle.nv_flatten_values.proofs.Following.{onward-then, steps-then, stands-inside, value-more, word-of}
 use Rattle.nv_ast.proofs.Faultless.{no_front, no_rest}
 
 -- ---- what follows a value, equal at each

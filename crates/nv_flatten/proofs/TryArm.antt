@@ -17,16 +17,16 @@ use Rattle.nv_meaning.specs.Meaning.{eval}
 use Rattle.flat_ir.specs.Running as flat
 use Rattle.flat_ir.specs.Meaning as code
 use Rattle.flat_ir.specs.declared.flat.Flat.{Flat}
-use Rattle.flat_values.specs.inner.Symbols.{Symbol, Symbols, SymbolScope, form, vars_of, scope_in, ScopeOlder, all_fresh, all_bound, numbers_from}
-use Rattle.flat_values.specs.inner.Runs.{flat_run, ended}
-use Rattle.flat_values.specs.inner.Soundness.{ComesTo, AreWords, value_tys}
-use Rattle.flat_values.specs.inner.Whole.{Whole, Stands, raised_tys, raised_or_none}
-use Rattle.flat_values.specs.inner.Simulation.{Names, Extends, Begins, IsEnd}
-use Rattle.flat_values.proofs.Keeping.{scope-later, keeps-scope, keeps-scope_fits, types-of-scope, scope-words}
-use Rattle.flat_values.proofs.Fresh.{fresh-forms, all-fresh-older, numbers-keep, fresh-values, all-fresh-fit, all-bound-values, all-bound-types, all-bound-fit, all-bound-older}
-use Rattle.flat_values.proofs.Sound.{typed-eval}
-use Rattle.flat_values.proofs.NoFaults.{given}
-use Rattle.flat_values.proofs.Following.{stands-inside}
+use Rattle.nv_flatten_values.specs.inner.Symbols.{Symbol, Symbols, SymbolScope, form, vars_of, scope_in, ScopeOlder, all_fresh, all_bound, numbers_from}
+use Rattle.nv_flatten_values.specs.inner.Runs.{flat_run, ended}
+use Rattle.nv_flatten_values.specs.inner.Soundness.{ComesTo, AreWords, value_tys}
+use Rattle.nv_flatten_values.specs.inner.Whole.{Whole, Stands, raised_tys, raised_or_none}
+use Rattle.nv_flatten_values.specs.inner.Simulation.{Names, Extends, Begins, IsEnd}
+use Rattle.nv_flatten_values.proofs.Keeping.{scope-later, keeps-scope, keeps-scope_fits, types-of-scope, scope-words}
+use Rattle.nv_flatten_values.proofs.Fresh.{fresh-forms, all-fresh-older, numbers-keep, fresh-values, all-fresh-fit, all-bound-values, all-bound-types, all-bound-fit, all-bound-older}
+use Rattle.nv_flatten_values.proofs.Sound.{typed-eval}
+use Rattle.nv_flatten_values.proofs.NoFaults.{given}
+use Rattle.nv_flatten_values.proofs.Following.{stands-inside}
 use Rattle.nv_flatten.proofs.EndArms.{end-more, first-form}
 use Rattle.nv_ast.proofs.Faultless.{no_front, no_rest, no_kinds, not_where}
 

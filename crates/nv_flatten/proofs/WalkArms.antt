@@ -14,12 +14,12 @@ use Rattle.nv_ast.specs.Types.{packed_words, unpacked_ty}
 use Rattle.nv_meaning.specs.Packing.{value_at}
 use Rattle.flat_ir.specs.declared.spine.Step.{Step}
 use Rattle.flat_ir.specs.declared.spine.Step.TheVariants.{Let}
-use Rattle.flat_values.specs.inner.Code.{Computes, shift_of}
-use Rattle.flat_values.specs.inner.Symbols.{Symbol, Word, SymbolScope, operands, form, value_in, Fits, AreOlder, word_operand}
-use Rattle.flat_values.specs.inner.Soundness.{AreWords}
-use Rattle.flat_values.specs.inner.View.{Named, scope_of}
-use Rattle.flat_values.specs.inner.Whole.{Whole}
-use Rattle.flat_values.specs.inner.Simulation.{Names, Extends, IsValue}
+use Rattle.nv_flatten_values.specs.inner.Code.{Computes, shift_of}
+use Rattle.nv_flatten_values.specs.inner.Symbols.{Symbol, Word, SymbolScope, operands, form, value_in, Fits, AreOlder, word_operand}
+use Rattle.nv_flatten_values.specs.inner.Soundness.{AreWords}
+use Rattle.nv_flatten_values.specs.inner.View.{Named, scope_of}
+use Rattle.nv_flatten_values.specs.inner.Whole.{Whole}
+use Rattle.nv_flatten_values.specs.inner.Simulation.{Names, Extends, IsValue}
 use Rattle.nv_flatten.proofs.WordArms.{shift-same, shift-value}
 use Rattle.nv_flatten.proofs.AccessArms.{unpack-value}
 

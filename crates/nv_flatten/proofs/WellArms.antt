@@ -23,23 +23,23 @@ use Rattle.flat_ir.specs.declared.spine.Step.{Step}
 use Rattle.flat_ir.specs.declared.spine.Step.TheVariants.{Let, Fetch}
 use Rattle.nv_base.specs.Access as flat
 use Rattle.nv_base.specs.Access.{is_known, all_known, is_primitive}
-use Rattle.flat_values.specs.inner.Code.{shift_of, variables}
-use Rattle.flat_values.specs.inner.Symbols.{Symbol, Symbols, NamedSymbols, SymbolScope, Word, Truth, Tuple, Record, operands, form, word_operand, truth_operand, fields_of, field_named, symbol_in, numbers_from, words_symbol, vars_of}
-use Rattle.flat_values.specs.inner.Simulation.{Names, Extends, HasForm}
-use Rattle.flat_values.specs.inner.Whole.{Whole, Stands}
-use Rattle.flat_values.specs.inner.Well.{ScopeKnown, Rises, WellSteps, Knows, IsWellValue, AreWellValues, AreWellFields, IsWellStated, AreWellLets, steps_calls, AreCalled}
-use Rattle.flat_values.proofs.Sound.{wanted-type, value-has-type}
-use Rattle.flat_values.proofs.WellBasics.{knows-both, knows-left, knows-right, knows-one, knows-new, knows-variables, knows-word, knows-truth, knows-field, knows-in, operands-words, words-ty-words, rises-numbers}
+use Rattle.nv_flatten_values.specs.inner.Code.{shift_of, variables}
+use Rattle.nv_flatten_values.specs.inner.Symbols.{Symbol, Symbols, NamedSymbols, SymbolScope, Word, Truth, Tuple, Record, operands, form, word_operand, truth_operand, fields_of, field_named, symbol_in, numbers_from, words_symbol, vars_of}
+use Rattle.nv_flatten_values.specs.inner.Simulation.{Names, Extends, HasForm}
+use Rattle.nv_flatten_values.specs.inner.Whole.{Whole, Stands}
+use Rattle.nv_flatten_values.specs.inner.Well.{ScopeKnown, Rises, WellSteps, Knows, IsWellValue, AreWellValues, AreWellFields, IsWellStated, AreWellLets, steps_calls, AreCalled}
+use Rattle.nv_flatten_values.proofs.Sound.{wanted-type, value-has-type}
+use Rattle.nv_flatten_values.proofs.WellBasics.{knows-both, knows-left, knows-right, knows-one, knows-new, knows-variables, knows-word, knows-truth, knows-field, knows-in, operands-words, words-ty-words, rises-numbers}
 use Rattle.nv_flatten.proofs.WellTypes.{low-of, middle-of, right-of, move-same, address-formed}
-use Rattle.flat_values.proofs.WellNames.{called-none, steps-called-more, steps-called-then}
-use Rattle.flat_values.proofs.WellSteps.{steps-none, steps-names, steps-knowing, steps-then, steps-last, steps-compute}
-use Rattle.flat_values.proofs.NoFaults.{among-known}
-use Rattle.flat_values.proofs.Fresh.{numbers-length}
-use Rattle.flat_values.proofs.PackedWords.{symbol-operands}
-use Rattle.flat_values.proofs.Following.{stands-inside}
+use Rattle.nv_flatten_values.proofs.WellNames.{called-none, steps-called-more, steps-called-then}
+use Rattle.nv_flatten_values.proofs.WellSteps.{steps-none, steps-names, steps-knowing, steps-then, steps-last, steps-compute}
+use Rattle.nv_flatten_values.proofs.NoFaults.{among-known}
+use Rattle.nv_flatten_values.proofs.Fresh.{numbers-length}
+use Rattle.nv_flatten_values.proofs.PackedWords.{symbol-operands}
+use Rattle.nv_flatten_values.proofs.Following.{stands-inside}
 use Rattle.nv_flatten.proofs.WalkArms.{count-cases}
 use Rattle.nv_base.proofs.Operands.{atoms-more}
-use Rattle.flat_values.proofs.Lets.{shift-primitive}
+use Rattle.nv_flatten_values.proofs.Lets.{shift-primitive}
 use Rattle.nv_ast.proofs.Faultless.{no_front, no_rest, not_where}
 
 -- ---- without steps

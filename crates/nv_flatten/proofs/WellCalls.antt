@@ -16,22 +16,22 @@ use Rattle.flat_ir.specs.declared.spine.Step.TheVariants.{Bind}
 use Rattle.flat_ir.specs.Spine.{AreNodes}
 use Rattle.nv_base.specs.Access.{all_known}
 use Rattle.flat_ir.specs.Formed.{may_stand, can_call, is_formed, defined, raised}
-use Rattle.flat_values.specs.inner.Code.{form_or_unit, variables}
-use Rattle.flat_values.specs.inner.Symbols.{Symbol, Symbols, SymbolScope, operands, all_operands, form, forms, fresh, numbers_from, vars_of}
-use Rattle.flat_values.specs.inner.Simulation.{Names, Extends}
-use Rattle.flat_values.specs.inner.Whole.{Whole, Stands, raised_tys}
-use Rattle.flat_values.specs.inner.Well.{ScopeKnown, Rises, WellSteps, Knows, GivesWords, IsLiteral, IsWellValue, AreWellValues, IsWellStated, IsWellEnd, steps_calls, AreCalled}
-use Rattle.flat_values.proofs.Fresh.{fresh-operands, numbers-length}
-use Rattle.flat_values.proofs.Sound.{arguments-typed}
-use Rattle.flat_values.proofs.WellBasics.{knows-variables, all-operands-words, rises-append, rises-numbers, raised-both}
+use Rattle.nv_flatten_values.specs.inner.Code.{form_or_unit, variables}
+use Rattle.nv_flatten_values.specs.inner.Symbols.{Symbol, Symbols, SymbolScope, operands, all_operands, form, forms, fresh, numbers_from, vars_of}
+use Rattle.nv_flatten_values.specs.inner.Simulation.{Names, Extends}
+use Rattle.nv_flatten_values.specs.inner.Whole.{Whole, Stands, raised_tys}
+use Rattle.nv_flatten_values.specs.inner.Well.{ScopeKnown, Rises, WellSteps, Knows, GivesWords, IsLiteral, IsWellValue, AreWellValues, IsWellStated, IsWellEnd, steps_calls, AreCalled}
+use Rattle.nv_flatten_values.proofs.Fresh.{fresh-operands, numbers-length}
+use Rattle.nv_flatten_values.proofs.Sound.{arguments-typed}
+use Rattle.nv_flatten_values.proofs.WellBasics.{knows-variables, all-operands-words, rises-append, rises-numbers, raised-both}
 use Rattle.nv_flatten.proofs.WellTypes.{some-where, low-of, middle-of}
 use Rattle.flat_ir.specs.Reached.{calls}
-use Rattle.flat_values.proofs.WellNames.{called-more, code-called-more, code-called-then}
-use Rattle.flat_values.proofs.WellSteps.{steps-names, code-behind, code-inner}
+use Rattle.nv_flatten_values.proofs.WellNames.{called-more, code-called-more, code-called-then}
+use Rattle.nv_flatten_values.proofs.WellSteps.{steps-names, code-behind, code-inner}
 use Rattle.nv_flatten.proofs.WellArms.{stands-behind}
 use Rattle.nv_flatten.proofs.WellEnds.{gives-words, raised-from-one}
-use Rattle.flat_values.proofs.CallArms.{get-append}
-use Rattle.flat_values.proofs.Following.{stands-inside}
+use Rattle.nv_flatten_values.proofs.CallArms.{get-append}
+use Rattle.nv_flatten_values.proofs.Following.{stands-inside}
 use Rattle.nv_ast.proofs.Faultless.{no_front, no_rest, not_where}
 use Rattle.nv_ast.proofs.TypeWords.{plain_words}
 

@@ -22,19 +22,19 @@ use Rattle.nv_base.specs.Access.{is_known, all_known, is_primitive, can_move, is
 use Rattle.flat_ir.specs.Formed.{can_call, is_formed, defined, raised}
 use Rattle.nv_base.specs.Sets.{is_in}
 use Rattle.nv_base.proofs.Sets.{in-append}
-use Rattle.flat_values.specs.inner.Code.{is_given, is_comparison, variables}
-use Rattle.flat_values.specs.inner.Symbols.{Symbol, SymbolScope, operands, all_operands, form, all_fresh, numbers_from, vars_of, all_bound}
-use Rattle.flat_values.specs.inner.Simulation.{Names, Extends, HasForm}
-use Rattle.flat_values.specs.inner.Whole.{Whole, Stands, raised_tys, raised_or_none}
-use Rattle.flat_values.specs.inner.Well.{ScopeKnown, Rises, Knows, GivesWords, WellCode, IsWellValue, IsWellTest, IsWellEnd, GivesLiteral, IsChoice, AreCalled}
-use Rattle.flat_values.proofs.Fresh.{fresh-forms, fresh-operands, all-bound-types, numbers-length}
-use Rattle.flat_values.proofs.Sound.{wanted-type, given-has-type}
-use Rattle.flat_values.proofs.WellBasics.{knows-variables, operands-words, rises-append, rises-numbers, raised-both, all-bound-known, scope-more}
+use Rattle.nv_flatten_values.specs.inner.Code.{is_given, is_comparison, variables}
+use Rattle.nv_flatten_values.specs.inner.Symbols.{Symbol, SymbolScope, operands, all_operands, form, all_fresh, numbers_from, vars_of, all_bound}
+use Rattle.nv_flatten_values.specs.inner.Simulation.{Names, Extends, HasForm}
+use Rattle.nv_flatten_values.specs.inner.Whole.{Whole, Stands, raised_tys, raised_or_none}
+use Rattle.nv_flatten_values.specs.inner.Well.{ScopeKnown, Rises, Knows, GivesWords, WellCode, IsWellValue, IsWellTest, IsWellEnd, GivesLiteral, IsChoice, AreCalled}
+use Rattle.nv_flatten_values.proofs.Fresh.{fresh-forms, fresh-operands, all-bound-types, numbers-length}
+use Rattle.nv_flatten_values.proofs.Sound.{wanted-type, given-has-type}
+use Rattle.nv_flatten_values.proofs.WellBasics.{knows-variables, operands-words, rises-append, rises-numbers, raised-both, all-bound-known, scope-more}
 use Rattle.nv_flatten.proofs.WellTypes.{some-where, right-of, same-words, given-inside, comparison-inside}
 use Rattle.flat_ir.specs.Reached.{calls}
-use Rattle.flat_values.proofs.WellNames.{called-none, called-then, code-called-more, choice-called}
-use Rattle.flat_values.proofs.WellSteps.{steps-names, code-names, code-behind, code-choice}
-use Rattle.flat_values.proofs.Following.{stands-inside}
+use Rattle.nv_flatten_values.proofs.WellNames.{called-none, called-then, code-called-more, choice-called}
+use Rattle.nv_flatten_values.proofs.WellSteps.{steps-names, code-names, code-behind, code-choice}
+use Rattle.nv_flatten_values.proofs.Following.{stands-inside}
 use Rattle.nv_ast.proofs.Faultless.{no_front, no_rest, no_kinds}
 
 -- ---- how many words

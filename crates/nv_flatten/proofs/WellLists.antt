@@ -18,17 +18,17 @@ use Rattle.flat_ir.specs.declared.spine.Step.{Step}
 use Rattle.flat_ir.specs.declared.spine.Step.TheVariants.{Store}
 use Rattle.nv_base.specs.Access as flat
 use Rattle.nv_base.specs.Access.{is_known, all_known}
-use Rattle.flat_values.specs.inner.Symbols.{Symbol, Symbols, NamedSymbols, SymbolScope, no_symbols, symbol_and, no_named_symbols, named_symbol_and, operands, all_operands, named_operands, form, word_operand, truth_operand, vars_of, bound}
-use Rattle.flat_values.specs.inner.Simulation.{Names, Extends, HasForm}
-use Rattle.flat_values.specs.inner.Whole.{Whole, Stands}
-use Rattle.flat_values.specs.inner.Well.{ScopeKnown, WellSteps, Knows, IsWellValue, AreWellValues, AreWellFields, IsWellStated, IsWellTest, steps_calls, AreCalled}
-use Rattle.flat_values.proofs.Sound.{value-has-type}
-use Rattle.flat_values.proofs.WellBasics.{knows-left, knows-right, knows-two, knows-word, knows-truth, operands-words, bound-known}
+use Rattle.nv_flatten_values.specs.inner.Symbols.{Symbol, Symbols, NamedSymbols, SymbolScope, no_symbols, symbol_and, no_named_symbols, named_symbol_and, operands, all_operands, named_operands, form, word_operand, truth_operand, vars_of, bound}
+use Rattle.nv_flatten_values.specs.inner.Simulation.{Names, Extends, HasForm}
+use Rattle.nv_flatten_values.specs.inner.Whole.{Whole, Stands}
+use Rattle.nv_flatten_values.specs.inner.Well.{ScopeKnown, WellSteps, Knows, IsWellValue, AreWellValues, AreWellFields, IsWellStated, IsWellTest, steps_calls, AreCalled}
+use Rattle.nv_flatten_values.proofs.Sound.{value-has-type}
+use Rattle.nv_flatten_values.proofs.WellBasics.{knows-left, knows-right, knows-two, knows-word, knows-truth, operands-words, bound-known}
 use Rattle.nv_flatten.proofs.WellTypes.{move-same, address-formed}
-use Rattle.flat_values.proofs.WellNames.{called-none, steps-called-more, steps-called-then}
-use Rattle.flat_values.proofs.WellSteps.{steps-none, steps-names, steps-knowing, steps-then, steps-last}
+use Rattle.nv_flatten_values.proofs.WellNames.{called-none, steps-called-more, steps-called-then}
+use Rattle.nv_flatten_values.proofs.WellSteps.{steps-none, steps-names, steps-knowing, steps-then, steps-last}
 use Rattle.nv_flatten.proofs.WellArms.{two-values}
-use Rattle.flat_values.proofs.Following.{stands-inside}
+use Rattle.nv_flatten_values.proofs.Following.{stands-inside}
 use Rattle.nv_ast.proofs.Faultless.{no_front, no_rest, no_kinds, not_where}
 
 nil-both : {A : Type 0} (xs ys : List A) → xs ≡ [] → ys ≡ [] → xs ++ ys ≡ []

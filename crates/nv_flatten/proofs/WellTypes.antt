@@ -11,10 +11,10 @@ use Rattle.nv_ast.specs.Scope.{Context, inside}
 use Rattle.nv_ast.specs.Typing.{type_at}
 use Rattle.nv_ast.specs.Faults.{Expected, faults, low_kinds, middle_kinds, other_type, no_value, too_large_value, wrong_scratch, can_move}
 use Rattle.nv_base.specs.Access as flat
-use Rattle.flat_values.specs.inner.Symbols.{Symbol, Word, word_operand}
-use Rattle.flat_values.specs.inner.Code.{is_given, is_comparison}
-use Rattle.flat_values.specs.inner.Well.{IsLiteral}
-use Rattle.flat_values.proofs.NoFaults.{node-of}
+use Rattle.nv_flatten_values.specs.inner.Symbols.{Symbol, Word, word_operand}
+use Rattle.nv_flatten_values.specs.inner.Code.{is_given, is_comparison}
+use Rattle.nv_flatten_values.specs.inner.Well.{IsLiteral}
+use Rattle.nv_flatten_values.proofs.NoFaults.{node-of}
 use Rattle.nv_ast.proofs.Faultless.{no_front, no_rest, no_kinds, not_where}
 
 -- ---- kinds

@@ -6,12 +6,12 @@ use Rattle.nv_ast.specs.declared.tree.Stmt.{Stmt}
 use Rattle.nv_ast.specs.ExprView.{tree_of, list_trees, list_named_trees, statement_tree, list_statements}
 use Rattle.nv_ast.specs.Tree.{Tree, no_trees, no_named_trees, no_statements, statement_and}
 use Rattle.flat_ir.specs.declared.spine.Step.{Step}
-use Rattle.flat_values.specs.declared.symbol.Symbol.{Symbol as CodeSymbol}
-use Rattle.flat_values.specs.inner.Symbols.{Symbol, Symbols, NamedSymbols, SymbolScope, symbol_and, named_symbol_and}
-use Rattle.flat_values.specs.inner.Simulation.{Names, Extends}
-use Rattle.flat_values.specs.inner.View.{view, list_symbols, list_named_symbols, scope_of, Named}
-use Rattle.flat_values.specs.inner.Whole.{Whole}
-use Rattle.flat_values.specs.inner.Well.{AreWellLets, IsWellValue, AreWellValues, AreWellFields, IsWellStated}
+use Rattle.nv_flatten_values.specs.declared.symbol.Symbol.{Symbol as CodeSymbol}
+use Rattle.nv_flatten_values.specs.inner.Symbols.{Symbol, Symbols, NamedSymbols, SymbolScope, symbol_and, named_symbol_and}
+use Rattle.nv_flatten_values.specs.inner.Simulation.{Names, Extends}
+use Rattle.nv_flatten_values.specs.inner.View.{view, list_symbols, list_named_symbols, scope_of, Named}
+use Rattle.nv_flatten_values.specs.inner.Whole.{Whole}
+use Rattle.nv_flatten_values.specs.inner.Well.{AreWellLets, IsWellValue, AreWellValues, AreWellFields, IsWellStated}
 use Rattle.nv_flatten.proofs.WellLists.{and_last, and_last_named, each-none, each-more, fields-none, fields-more, AreTyped, typed-more, statements-none, statements-more}
 use Rattle.nv_ast.proofs.Items.{take_item}
 

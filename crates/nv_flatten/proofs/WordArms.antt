@@ -26,15 +26,15 @@ use Rattle.nv_meaning.specs.Meaning.{eval, binary, shifted}
 use Rattle.flat_ir.specs.Spine.{steps_do}
 use Rattle.flat_ir.specs.declared.spine.Step.{Step}
 use Rattle.flat_ir.specs.declared.spine.Step.TheVariants.{Let}
-use Rattle.flat_values.specs.inner.Code.{arithmetic_of, shift_of}
-use Rattle.flat_values.specs.inner.Symbols.{Symbol, Word, Truth, Tuple, Record, SymbolScope, operands, value_in, Fits, AreOlder, word_operand, scope_in}
-use Rattle.flat_values.specs.inner.Runs.{flat_run, onward}
-use Rattle.flat_values.specs.inner.Whole.{Whole}
-use Rattle.flat_values.specs.inner.Simulation.{Names, Extends, IsValue}
-use Rattle.flat_values.proofs.Keeping.{scope-later, keeps-value, keeps-fit, keeps-scope, begins-then, done-then}
-use Rattle.flat_values.proofs.NoFaults.{clean as is-clean}
-use Rattle.flat_values.proofs.Following.{onward-then, steps-then, stands-inside, fewer, word-of, word-fits, one-older, assigned-here, defined}
-use Rattle.flat_values.proofs.ValueArms.{unary}
+use Rattle.nv_flatten_values.specs.inner.Code.{arithmetic_of, shift_of}
+use Rattle.nv_flatten_values.specs.inner.Symbols.{Symbol, Word, Truth, Tuple, Record, SymbolScope, operands, value_in, Fits, AreOlder, word_operand, scope_in}
+use Rattle.nv_flatten_values.specs.inner.Runs.{flat_run, onward}
+use Rattle.nv_flatten_values.specs.inner.Whole.{Whole}
+use Rattle.nv_flatten_values.specs.inner.Simulation.{Names, Extends, IsValue}
+use Rattle.nv_flatten_values.proofs.Keeping.{scope-later, keeps-value, keeps-fit, keeps-scope, begins-then, done-then}
+use Rattle.nv_flatten_values.proofs.NoFaults.{clean as is-clean}
+use Rattle.nv_flatten_values.proofs.Following.{onward-then, steps-then, stands-inside, fewer, word-of, word-fits, one-older, assigned-here, defined}
+use Rattle.nv_flatten_values.proofs.ValueArms.{unary}
 use Rattle.nv_ast.proofs.Faultless.{no_front, no_rest, not_where}
 
 -- ---- shifts

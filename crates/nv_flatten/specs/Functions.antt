@@ -6,9 +6,9 @@ use Rattle.nv_ast.specs.Tree.{FunTree, ProgramTree}
 use Rattle.nv_meaning.specs.Meaning.{function_in}
 use Rattle.flat_ir.specs.declared.flat.FlatFun.{FlatFun}
 use Rattle.flat_ir.specs.Reached.{calls}
-use Rattle.flat_values.specs.inner.Bounded.{AreOnce}
-use Rattle.flat_values.specs.inner.Made.{IsMade}
-use Rattle.flat_values.specs.inner.Whole.{Whole, whole_of, group_of}
+use Rattle.nv_flatten_values.specs.inner.Bounded.{AreOnce}
+use Rattle.nv_flatten_values.specs.inner.Made.{IsMade}
+use Rattle.nv_flatten_values.specs.inner.Whole.{Whole, whole_of, group_of}
 
 -- a flat function is that of the program's function with the i-th of these names: it has its parameters, its result and its group, and does
 -- what its body does, where each call by number is one by name

@@ -6,11 +6,11 @@ ghost use Rattle.nv_ast.specs.declared.tree.Op.TheVariants.{Both, Either};
 ghost use Rattle.nv_ast.specs.ExprView.{tree_of, list_trees, list_statements};
 ghost use Rattle.nv_ast.specs.PatternView.{list_patterns};
 ghost use Rattle.nv_ast.specs.Tree.{BinaryTree, CallTree, RaiseTree, IfTree, TryTree, BlockTree};
-ghost use Rattle.flat_values.specs.inner.Code.{comparison_of, is_given, is_comparison};
+ghost use Rattle.nv_flatten_values.specs.inner.Code.{comparison_of, is_given, is_comparison};
 ghost use Rattle.nv_flatten.specs.inner.Flat.{IsFlatTest, IsFlatEnd};
-ghost use Rattle.flat_values.specs.inner.Simulation.{Extends};
-ghost use Rattle.flat_values.specs.inner.View.{view, scope_of};
-ghost use Rattle.flat_declarations.specs.inner.WholeView.{whole_in};
+ghost use Rattle.nv_flatten_values.specs.inner.Simulation.{Extends};
+ghost use Rattle.nv_flatten_values.specs.inner.View.{view, scope_of};
+ghost use Rattle.nv_flatten_declarations.specs.inner.WholeView.{whole_in};
 
 use crate::made_code::{
     Tail, both_code, calling, caught, chosen_code, compared, decided_code, either_code, ended,
@@ -18,14 +18,14 @@ use crate::made_code::{
 };
 use crate::values::{each, statements, value};
 use crate::want::made;
-use flat_declarations::branches::Test;
-use flat_declarations::source::Source;
-use flat_values::arms::{EndArm, TestArm, end_arm, test_arm};
-use flat_values::names::Names;
-use flat_values::scope::Scope;
-use flat_values::symbol::truth_in;
 use nv_ast::{Expr, Name, Op, Pat, Stmt};
 use nv_base::{Atom, Cmp, NoMemory};
+use nv_flatten_declarations::branches::Test;
+use nv_flatten_declarations::source::Source;
+use nv_flatten_values::arms::{EndArm, TestArm, end_arm, test_arm};
+use nv_flatten_values::names::Names;
+use nv_flatten_values::scope::Scope;
+use nv_flatten_values::symbol::truth_in;
 use std::alloc::Global;
 
 // ---- conditions

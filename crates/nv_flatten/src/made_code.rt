@@ -10,26 +10,26 @@ ghost use Rattle.nv_ast.specs.Tree.{Tree, Trees, BinaryTree, CallTree, RaiseTree
 ghost use Rattle.nv_ast.specs.Types.{total_words};
 ghost use Rattle.nv_meaning.specs.Running.{exception_number};
 ghost use Rattle.flat_ir.specs.Spine.{IsJoined};
-ghost use Rattle.flat_values.specs.inner.Code.{comparison_of, is_given, is_comparison};
-ghost use Rattle.flat_values.specs.inner.Simulation.{Extends};
-ghost use Rattle.flat_values.specs.inner.Symbols.{SymbolScope, numbers_from, all_fresh, all_bound};
-ghost use Rattle.flat_values.specs.inner.View.{view, list_symbols, scope_of};
-ghost use Rattle.flat_values.specs.inner.Whole.{Whole, raised_or_none};
-ghost use Rattle.flat_declarations.specs.inner.WholeView.{whole_in};
+ghost use Rattle.nv_flatten_values.specs.inner.Code.{comparison_of, is_given, is_comparison};
+ghost use Rattle.nv_flatten_values.specs.inner.Simulation.{Extends};
+ghost use Rattle.nv_flatten_values.specs.inner.Symbols.{SymbolScope, numbers_from, all_fresh, all_bound};
+ghost use Rattle.nv_flatten_values.specs.inner.View.{view, list_symbols, scope_of};
+ghost use Rattle.nv_flatten_values.specs.inner.Whole.{Whole, raised_or_none};
+ghost use Rattle.nv_flatten_declarations.specs.inner.WholeView.{whole_in};
 ghost use Rattle.nv_flatten.specs.inner.Flat.{IsFlatValue, AreFlatValues, IsFlatTest, IsFlatEnd};
 ghost use Rattle.nv_flatten.specs.inner.Handled.{IsHandled};
 
 use crate::made_values::{Listed, two_words};
 use crate::want::{boxed, made};
-use flat_declarations::branches::{Test, branch, give_truth};
-use flat_declarations::source::Source;
 use flat_ir::{Flat, Step, join};
-use flat_values::names::Names;
-use flat_values::parts::{short, short_vars};
-use flat_values::scope::{Scope, bind_all};
-use flat_values::symbol::{Symbol, Valued, all_operands_in, operands_in};
 use nv_ast::{Name, Pat};
 use nv_base::{Atom, Cmp, NoMemory};
+use nv_flatten_declarations::branches::{Test, branch, give_truth};
+use nv_flatten_declarations::source::Source;
+use nv_flatten_values::names::Names;
+use nv_flatten_values::parts::{short, short_vars};
+use nv_flatten_values::scope::{Scope, bind_all};
+use nv_flatten_values::symbol::{Symbol, Valued, all_operands_in, operands_in};
 use std::alloc::Global;
 
 /// Code that ends with an expression's words, and the form of its value, if it has one.

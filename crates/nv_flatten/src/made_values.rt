@@ -4,27 +4,27 @@ ghost use Rattle.std.specs.Prelude.{◌≡◌, ◌≤◌, ◌+◌, ◌++◌, [],
 ghost use Rattle.nv_ast.specs.declared.token.Span.{Span};
 ghost use Rattle.nv_ast.specs.declared.tree.Op.{Op};
 ghost use Rattle.nv_ast.specs.Tree.{Tree, InvertTree, NegateTree, BinaryTree, ShiftTree, UnpackTree, PackTree, FetchTree, StoreStatement};
-ghost use Rattle.flat_values.specs.inner.Arms.{is_named};
-ghost use Rattle.flat_values.specs.inner.Code.{arithmetic_of, form_or_unit};
-ghost use Rattle.flat_values.specs.inner.Simulation.{Extends};
-ghost use Rattle.flat_values.specs.inner.Symbols.{SymbolScope, fresh, numbers_from, word_operand};
-ghost use Rattle.flat_values.specs.inner.View.{view};
-ghost use Rattle.flat_values.specs.inner.Whole.{Whole};
-ghost use Rattle.flat_declarations.specs.inner.WholeView.{whole_in};
+ghost use Rattle.nv_flatten_values.specs.inner.Arms.{is_named};
+ghost use Rattle.nv_flatten_values.specs.inner.Code.{arithmetic_of, form_or_unit};
+ghost use Rattle.nv_flatten_values.specs.inner.Simulation.{Extends};
+ghost use Rattle.nv_flatten_values.specs.inner.Symbols.{SymbolScope, fresh, numbers_from, word_operand};
+ghost use Rattle.nv_flatten_values.specs.inner.View.{view};
+ghost use Rattle.nv_flatten_values.specs.inner.Whole.{Whole};
+ghost use Rattle.nv_flatten_declarations.specs.inner.WholeView.{whole_in};
 ghost use Rattle.nv_ast.specs.Types.{words};
 ghost use Rattle.nv_flatten.specs.inner.Flat.{IsFlatValue, IsFlatStatement, IsFlatEnd};
 
 use crate::made_code::Tail;
 use crate::want::{made, put};
-use flat_declarations::layouts::{packed, unpacked};
-use flat_declarations::source::Source;
 use flat_ir::Step;
-use flat_values::parts::{add_steps, define, new_variables, shifted, short};
-use flat_values::symbol::{
-    Field, Symbol, Valued, operands_in, renewed, symbol_of_words, truth_in, word_in,
-};
 use nv_ast::{Name, ShiftOp};
 use nv_base::{Atom, Bin, Mem, NoMemory, Prim, Una};
+use nv_flatten_declarations::layouts::{packed, unpacked};
+use nv_flatten_declarations::source::Source;
+use nv_flatten_values::parts::{add_steps, define, new_variables, shifted, short};
+use nv_flatten_values::symbol::{
+    Field, Symbol, Valued, operands_in, renewed, symbol_of_words, truth_in, word_in,
+};
 use std::alloc::Global;
 
 /// Steps, and the symbolic values that are there after them.

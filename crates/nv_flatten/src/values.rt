@@ -5,13 +5,13 @@ ghost use Rattle.nv_base.specs.declared.term.Atom.TheVariants.{Lit};
 ghost use Rattle.nv_ast.specs.declared.token.Span.{Span};
 ghost use Rattle.nv_ast.specs.ExprView.{tree_of, list_trees, list_named_trees, list_statements, statement_tree};
 ghost use Rattle.nv_ast.specs.Tree.{TupleTree, FieldsTree, DotTree, InvertTree, NegateTree, BinaryTree, ShiftTree, UnpackTree, PackTree, FetchTree, BlockTree, StoreStatement};
-ghost use Rattle.flat_values.specs.inner.Arms.{is_named};
-ghost use Rattle.flat_values.specs.inner.Code.{arithmetic_of};
+ghost use Rattle.nv_flatten_values.specs.inner.Arms.{is_named};
+ghost use Rattle.nv_flatten_values.specs.inner.Code.{arithmetic_of};
 ghost use Rattle.nv_flatten.specs.inner.Flat.{IsFlatValue, AreFlatValues, IsFlatStatement, IsFlatStated};
-ghost use Rattle.flat_values.specs.inner.Simulation.{Extends};
-ghost use Rattle.flat_values.specs.inner.Symbols.{Word, Truth};
-ghost use Rattle.flat_values.specs.inner.View.{view, list_symbols, scope_of};
-ghost use Rattle.flat_declarations.specs.inner.WholeView.{whole_in};
+ghost use Rattle.nv_flatten_values.specs.inner.Simulation.{Extends};
+ghost use Rattle.nv_flatten_values.specs.inner.Symbols.{Word, Truth};
+ghost use Rattle.nv_flatten_values.specs.inner.View.{view, list_symbols, scope_of};
+ghost use Rattle.nv_flatten_declarations.specs.inner.WholeView.{whole_in};
 
 use crate::endings::ending;
 use crate::made_values::{
@@ -19,15 +19,15 @@ use crate::made_values::{
     no_fields, no_values, packed_value, shifted_by, store_steps, unpacked_value,
 };
 use crate::want::made;
-use flat_declarations::source::Source;
 use flat_ir::Step;
-use flat_values::arms::{ValueArm, value_arm};
-use flat_values::names::Names;
-use flat_values::parts::add_steps;
-use flat_values::scope::{Scope, bind, variable};
-use flat_values::symbol::{Symbol, Valued, field_in};
 use nv_ast::{Expr, Name, Op, ShiftOp, Stmt};
 use nv_base::{Atom, Bin, Mem, NoMemory};
+use nv_flatten_declarations::source::Source;
+use nv_flatten_values::arms::{ValueArm, value_arm};
+use nv_flatten_values::names::Names;
+use nv_flatten_values::parts::add_steps;
+use nv_flatten_values::scope::{Scope, bind, variable};
+use nv_flatten_values::symbol::{Symbol, Valued, field_in};
 use std::alloc::Global;
 
 // ---- values

@@ -7,11 +7,11 @@ use Rattle.nv_base.specs.Memories.{Memories, stored}
 use Rattle.nv_base.specs.Meanings.{source_writes}
 use Rattle.nv_ast.specs.declared.token.Span.{Span}
 use Rattle.nv_ast.specs.Faults.{can_move}
-use Rattle.nv_values.specs.Notes.{Notes, Stores, traced_all, source_made, made_of_write}
-use Rattle.nv_values.specs.Values.{Scope}
-use Rattle.nv_values.specs.Running.{made_by, GoesOn, store, after_store}
+use Rattle.nv_meaning_values.specs.Notes.{Notes, Stores, traced_all, source_made, made_of_write}
+use Rattle.nv_meaning_values.specs.Values.{Scope}
+use Rattle.nv_meaning_values.specs.Running.{made_by, GoesOn, store, after_store}
 use Rattle.nv_meaning.specs.Meaning.{Declared}
-use Rattle.nv_values.specs.declared.stop.Interruption.TheVariants.{NoMemory, Fault}
+use Rattle.nv_meaning_values.specs.declared.stop.Interruption.TheVariants.{NoMemory, Fault}
 use Rattle.nv_meaning.specs.inner.Ran.{At, at, running, IsScope, RanScope, stated_result}
 use Rattle.nv_meaning.proofs.Grows.{grown-store}
 use Rattle.nv_meaning.proofs.Moments.{ran-here}

@@ -6,17 +6,17 @@ use Rattle.nv_ast.specs.declared.tree.Expr.{Expr}
 use Rattle.nv_ast.specs.declared.tree.Stmt.{Stmt}
 use Rattle.nv_ast.specs.ExprView.{tree_of, list_trees, list_named_trees, list_statements, statement_tree}
 use Rattle.nv_ast.specs.Tree.{Tree, Trees, NamedTrees, PatternTree}
-use Rattle.nv_values.specs.Values.{Value, Tuple, Record, Values, Scope, word_of, words_of, matched}
-use Rattle.nv_values.specs.Running.{Running, Result, Gives, Raises, Stated, GoesOn, and_then, and_all, and_named, and_further, then_more, then_named, then_stated, before_rest, before_named, store}
+use Rattle.nv_meaning_values.specs.Values.{Value, Tuple, Record, Values, Scope, word_of, words_of, matched}
+use Rattle.nv_meaning_values.specs.Running.{Running, Result, Gives, Raises, Stated, GoesOn, and_then, and_all, and_named, and_further, then_more, then_named, then_stated, before_rest, before_named, store}
 use Rattle.nv_meaning.specs.Meaning.{Declared, Calls, eval, eval_all, eval_named, run_one, run_all}
-use Rattle.nv_values.specs.declared.value.Value as code
+use Rattle.nv_meaning_values.specs.declared.value.Value as code
 use Rattle.nv_meaning.specs.declared.step.Step.{Step}
 use Rattle.nv_meaning.specs.declared.step.Step.TheVariants.{Done, Again}
-use Rattle.nv_values.specs.declared.stop.Interruption.{Interruption}
-use Rattle.nv_values.specs.declared.stop.Interruption.TheVariants.{NoMemory, Raised}
-use Rattle.nv_values.specs.inner.View.{Named, view, list_values, scope_of}
+use Rattle.nv_meaning_values.specs.declared.stop.Interruption.{Interruption}
+use Rattle.nv_meaning_values.specs.declared.stop.Interruption.TheVariants.{NoMemory, Raised}
+use Rattle.nv_meaning_values.specs.inner.View.{Named, view, list_values, scope_of}
 use Rattle.nv_meaning.specs.inner.Ran.{At, Ran, Interrupted, Grown, IsStep, IsValue, AreValues, AreFields, IsScope, all_result, named_result, stated_result, RanStep, RanValue, RanValues, RanFields, RanScope}
-use Rattle.nv_values.proofs.Rows.{tuple_view, record_view}
+use Rattle.nv_meaning_values.proofs.Rows.{tuple_view, record_view}
 use Rattle.nv_meaning.proofs.Grows.{Growing, grown-here, grown-before, grown-before_named, grown-store, grown-statement, eval-grows, all-grows, named-grows, statements-grow}
 use Rattle.nv_meaning.proofs.Moments.{ran-here, ran-as, ran-then}
 use Rattle.nv_meaning.proofs.Stops.{stop-then, stop-all, stop-named, stop-further, stop-more, stop-more_named, stop-statement, ahead, ahead-more, ahead-all, stop-ahead, ahead_named, ahead_named-more, ahead_named-all, stop-ahead_named}

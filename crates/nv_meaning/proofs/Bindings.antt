@@ -9,11 +9,11 @@ use Rattle.nv_ast.specs.PatternView.{pattern_tree, list_patterns}
 use Rattle.nv_ast.specs.TypeView.{list_named_types}
 use Rattle.nv_ast.specs.Tree.{TuplePattern, PatternTrees, no_patterns, pattern_and, NamedTypes, no_named_types, named_type_and}
 use Rattle.nv_ast.proofs.Reading.{tuple_pattern_is}
-use Rattle.nv_values.specs.Values.{Values, no_values, value_and, Scope, variable_in, matched, all_matched}
+use Rattle.nv_meaning_values.specs.Values.{Values, no_values, value_and, Scope, variable_in, matched, all_matched}
 use Rattle.nv_meaning.specs.Meaning.{entered}
-use Rattle.nv_values.specs.declared.value.Value as code
-use Rattle.nv_values.specs.inner.View.{Named, view, list_values, scope_of, Extends}
-use Rattle.nv_values.proofs.Rows.{tuple_view}
+use Rattle.nv_meaning_values.specs.declared.value.Value as code
+use Rattle.nv_meaning_values.specs.inner.View.{Named, view, list_values, scope_of, Extends}
+use Rattle.nv_meaning_values.proofs.Rows.{tuple_view}
 
 pub scope-append : (a b : List Named) (outer : Scope) → scope_of (a ++ b) outer ≡ scope_of b (scope_of a outer)
 scope-append [] b outer = refl

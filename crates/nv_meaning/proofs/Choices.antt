@@ -5,16 +5,16 @@ use Rattle.nv_base.specs.declared.term.Mem.{Mem}
 use Rattle.nv_ast.specs.declared.tree.Op.{Op}
 use Rattle.nv_ast.specs.declared.tree.Op.TheVariants.{Add, Sub, And, Or, Xor, Eq, Ne, Lt, Le, Gt, Ge, Both, Either}
 use Rattle.nv_ast.specs.Tree.{Tree, NumberTree, TruthTree, VarTree, ParenTree, TupleTree, FieldsTree, DotTree, InvertTree, NegateTree, BinaryTree, ShiftTree, CallTree, UnpackTree, PackTree, RaiseTree, IfTree, TryTree, FetchTree, BlockTree, StatementTrees, PatternTrees, FunTree}
-use Rattle.nv_values.specs.Values.{Value, Truth, Values, Scope, variable_in, word_of, truth_of, all_matched}
-use Rattle.nv_values.specs.Running.{Running, Result, Gives, Raises, Halts, Stated, and_then, and_stated, handled}
+use Rattle.nv_meaning_values.specs.Values.{Value, Truth, Values, Scope, variable_in, word_of, truth_of, all_matched}
+use Rattle.nv_meaning_values.specs.Running.{Running, Result, Gives, Raises, Halts, Stated, and_then, and_stated, handled}
 use Rattle.nv_meaning.specs.Meaning.{Declared, Calls, binary, eval, run_all, enter, entered, function_in}
 use Rattle.nv_meaning.specs.inner.Operand.{decided_by, joined_by, made_of}
-use Rattle.nv_values.specs.declared.value.Value as code
+use Rattle.nv_meaning_values.specs.declared.value.Value as code
 use Rattle.nv_meaning.specs.declared.step.Step.{Step}
 use Rattle.nv_meaning.specs.declared.step.Step.TheVariants.{Done}
-use Rattle.nv_values.specs.declared.stop.Interruption.{Interruption}
-use Rattle.nv_values.specs.declared.stop.Interruption.TheVariants.{NoMemory, Raised, Fault, Going}
-use Rattle.nv_values.specs.inner.View.{Named, view, list_values, scope_of, Extends}
+use Rattle.nv_meaning_values.specs.declared.stop.Interruption.{Interruption}
+use Rattle.nv_meaning_values.specs.declared.stop.Interruption.TheVariants.{NoMemory, Raised, Fault, Going}
+use Rattle.nv_meaning_values.specs.inner.View.{Named, view, list_values, scope_of, Extends}
 use Rattle.nv_meaning.specs.inner.Ran.{At, Grown, IsStep, IsValue, IsScope, RanStep, RanValue, RanScope}
 use Rattle.nv_meaning.proofs.Grows.{grown-here, grown-fetch, grown-if, grown-then, grown-handled, eval-grows}
 use Rattle.nv_meaning.proofs.Moments.{ran-here, ran-as, ran-then}

@@ -3,10 +3,10 @@ use Rattle.std.proofs.Common.{◌≡◌, ◌∙◌, refl, ap, sym, ℕ, zero, su
 use Rattle.nv_ast.specs.Bits.{number, packed}
 use Rattle.nv_ast.specs.Outline.{OutlineTree, BitsOutline, GapOutline, PartsOutline, OverlayOutline, JoinedOutline, OutlineTrees, no_outlines, outline_and, NamedOutlines, no_named_outlines, named_outline_and, size}
 use Rattle.nv_ast.specs.Types.{Ty, WordTy, BoolTy, TupleTy, RecordTy, Tys, no_tys, ty_and, NamedTys, no_named_tys, named_ty_and, words, total_words, total_named_words, Forms, no_forms, form_and, ◌+++◌, form_of, forms_of, joined_forms, record_forms, unpacked, unpacked_all}
-use Rattle.nv_values.specs.Values.{Word, Tuple, Record, value_and, named_value_and, ◌++_fields◌, fields_of, words_of, all_words, all_named_words, value_from, values_from, named_values_from}
-use Rattle.nv_values.specs.Packing.{value_at, parts_at, alternatives_at, joined_at}
+use Rattle.nv_meaning_values.specs.Values.{Word, Tuple, Record, value_and, named_value_and, ◌++_fields◌, fields_of, words_of, all_words, all_named_words, value_from, values_from, named_values_from}
+use Rattle.nv_meaning_values.specs.Packing.{value_at, parts_at, alternatives_at, joined_at}
 use Rattle.nv_meaning.specs.inner.Blanks.{blank, blanks, named_blanks, filled, all_filled, fields_filled}
-use Rattle.nv_values.proofs.Unpacking.{drop-nothing}
+use Rattle.nv_meaning_values.proofs.Unpacking.{drop-nothing}
 
 mutual
   pub blank-words : (t : Ty) → length (words_of (blank t)) ≡ words t

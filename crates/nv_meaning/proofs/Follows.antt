@@ -4,7 +4,7 @@ use Rattle.nv_base.specs.Memories.{Memories}
 use Rattle.nv_base.specs.Meanings.{left_by}
 use Rattle.nv_base.specs.Progress.{FollowsAll}
 use Rattle.nv_ast.specs.Tree.{ProgramTree, FunTree}
-use Rattle.nv_values.specs.Running.{Chain, plain, Running, Result, Gives, Raises, Halts, closed}
+use Rattle.nv_meaning_values.specs.Running.{Chain, plain, Running, Result, Gives, Raises, Halts, closed}
 use Rattle.nv_meaning.specs.Meaning.{Declared, source, declared, function_in, run_main, calls_within}
 use Rattle.nv_meaning.specs.Laws.{Seeking, Tracing}
 use Rattle.nv_meaning.specs.inner.Ran.{Grown, now_of}

@@ -11,8 +11,8 @@ use Rattle.nv_ast.specs.declared.tree.Op.TheVariants.{Add, Sub, And, Or, Xor, Eq
 use Rattle.nv_ast.specs.Faults.{can_move}
 use Rattle.nv_ast.specs.declared.token.Span.{Span}
 use Rattle.nv_ast.specs.Tree.{Tree, NumberTree, TruthTree, VarTree, ParenTree, TupleTree, FieldsTree, DotTree, InvertTree, NegateTree, BinaryTree, ShiftTree, CallTree, UnpackTree, PackTree, RaiseTree, IfTree, TryTree, FetchTree, BlockTree, Trees, no_trees, tree_and, NamedTrees, no_named_trees, named_tree_and, StatementTree, LetStatement, StoreStatement, StatementTrees, no_statements, statement_and, FunTree}
-use Rattle.nv_values.specs.Values.{Value, Tuple, Record, Values, NamedValues, Scope, word_of, truth_of, words_of, all_matched}
-use Rattle.nv_values.specs.Running.{Chain, Made, plain, made_by, Running, Result, Gives, Raises, Halts, Results, GiveAll, Breaks, NamedResults, GiveNamed, BreaksNamed, Stated, GoesOn, StopsAt, and_then, and_all, and_named, and_stated, and_further, then_more, then_named, then_stated, before_rest, before_named, handled, exception_number, fetch, after_fetch, store, after_store, taken, calling, back_to}
+use Rattle.nv_meaning_values.specs.Values.{Value, Tuple, Record, Values, NamedValues, Scope, word_of, truth_of, words_of, all_matched}
+use Rattle.nv_meaning_values.specs.Running.{Chain, Made, plain, made_by, Running, Result, Gives, Raises, Halts, Results, GiveAll, Breaks, NamedResults, GiveNamed, BreaksNamed, Stated, GoesOn, StopsAt, and_then, and_all, and_named, and_stated, and_further, then_more, then_named, then_stated, before_rest, before_named, handled, exception_number, fetch, after_fetch, store, after_store, taken, calling, back_to}
 use Rattle.nv_meaning.specs.Meaning.{Declared, Calls, combined, binary, eval, eval_all, eval_named, run_one, run_all, enter, entered, function_in, group_in, calls_within}
 use Rattle.nv_meaning.specs.inner.Ran.{Grown, now_of, all_result, named_result, stated_result}
 

@@ -3,18 +3,18 @@ use Rattle.std.proofs.Common.{◌≡◌, ℕ, zero, suc, ◌-◌, ◌<◌, ◌�
 use Rattle.nv_base.specs.declared.outcome.Outcome.TheVariants as outcome
 use Rattle.nv_base.specs.Log.{noted_all}
 use Rattle.nv_base.specs.Meanings.{source_writes}
-use Rattle.nv_values.specs.Notes.{Notes, Knows, HasRoom, traced_all, source_made}
-use Rattle.nv_values.specs.Callers.{IsAbove}
-use Rattle.nv_values.proofs.Trails.{room-before}
-use Rattle.nv_values.proofs.Above.{above-itself, above-called}
-use Rattle.nv_values.specs.Values.{Values}
-use Rattle.nv_values.specs.Running.{Chain, Made, plain, Running, Result, Gives, Raises, Halts, taken, called, calling, back_to}
+use Rattle.nv_meaning_values.specs.Notes.{Notes, Knows, HasRoom, traced_all, source_made}
+use Rattle.nv_meaning_values.specs.Callers.{IsAbove}
+use Rattle.nv_meaning_values.proofs.Trails.{room-before}
+use Rattle.nv_meaning_values.proofs.Above.{above-itself, above-called}
+use Rattle.nv_meaning_values.specs.Values.{Values}
+use Rattle.nv_meaning_values.specs.Running.{Chain, Made, plain, Running, Result, Gives, Raises, Halts, taken, called, calling, back_to}
 use Rattle.nv_meaning.specs.Meaning.{Declared, Calls, enter, function_in, group_in, calls_within}
-use Rattle.nv_values.specs.declared.value.Value as code
+use Rattle.nv_meaning_values.specs.declared.value.Value as code
 use Rattle.nv_meaning.specs.declared.step.Step.TheVariants.{Again}
-use Rattle.nv_values.specs.declared.stop.Interruption.{Interruption}
-use Rattle.nv_values.specs.declared.stop.Interruption.TheVariants.{NoMemory, Raised, Fault, Going}
-use Rattle.nv_values.specs.inner.View.{list_values}
+use Rattle.nv_meaning_values.specs.declared.stop.Interruption.{Interruption}
+use Rattle.nv_meaning_values.specs.declared.stop.Interruption.TheVariants.{NoMemory, Raised, Fault, Going}
+use Rattle.nv_meaning_values.specs.inner.View.{list_values}
 use Rattle.nv_meaning.specs.inner.Ran.{At, at, running, Wrote, IsValue, RanStep, RanValue, RanCall}
 use Rattle.nv_meaning.proofs.Grows.{back-grows, enter-grows, calls-grow}
 use Rattle.nv_meaning.proofs.Moments.{wrote-nothing, wrote-then, ran-here}

@@ -1,6 +1,6 @@
 -- Calls that are left, and scopes that are kept or grow, over plain variables.
 use Rattle.std.proofs.Common.{◌≡◌, ℕ, ◌≤◌, List, [], sym, ◌∙◌, subst, append-nil, Result, Ok, Err, OnOk, arith}
-use Rattle.nv_values.specs.inner.View.{Named, Extends}
+use Rattle.nv_meaning_values.specs.inner.View.{Named, Extends}
 
 pub fewer : (a b c : ℕ) → a ≤ b → b ≤ c → a ≤ c
 fewer a b c h k = omega arith

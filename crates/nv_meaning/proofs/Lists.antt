@@ -1,9 +1,9 @@
 -- Values in lists: what is said of a list as far as a loop has come.
 use Rattle.std.proofs.Common.{◌≡◌, ◌∙◌, refl, ap, sym, ℕ, ◌+◌, ◌<◌, List, [], ◌∷◌, ◌++◌, take, length, get_or, append_assoc, append-nil}
-use Rattle.nv_values.specs.declared.value.Value.{Value}
-use Rattle.nv_values.specs.Values.{value_and, named_value_and, words_of, all_words, all_named_words}
-use Rattle.nv_values.specs.Values as meaning
-use Rattle.nv_values.specs.inner.View.{Named, view, list_values, list_named_values}
+use Rattle.nv_meaning_values.specs.declared.value.Value.{Value}
+use Rattle.nv_meaning_values.specs.Values.{value_and, named_value_and, words_of, all_words, all_named_words}
+use Rattle.nv_meaning_values.specs.Values as meaning
+use Rattle.nv_meaning_values.specs.inner.View.{Named, view, list_values, list_named_values}
 use Rattle.nv_ast.proofs.Items.{take_item}
 
 -- ---- copies

@@ -5,9 +5,9 @@ use Rattle.nv_base.specs.Log.{noted_all}
 use Rattle.nv_base.specs.Meanings.{source_writes, is_source_write, left_by}
 use Rattle.nv_base.proofs.LogLemmas.{noted-append}
 use Rattle.nv_base.proofs.MemoryLemmas.{left-append}
-use Rattle.nv_values.specs.Notes.{traced_all, source_made}
-use Rattle.nv_values.proofs.Trails.{traced-append}
-use Rattle.nv_values.specs.Running.{Made, plain, Running}
+use Rattle.nv_meaning_values.specs.Notes.{traced_all, source_made}
+use Rattle.nv_meaning_values.proofs.Trails.{traced-append}
+use Rattle.nv_meaning_values.specs.Running.{Made, plain, Running}
 use Rattle.nv_meaning.specs.Meaning.{Declared, Calls, calls_within}
 use Rattle.nv_meaning.specs.inner.Ran.{At, running, Wrote, Ran}
 use Rattle.nv_meaning.proofs.Grows.{Growing, calls-grow, plain-append}

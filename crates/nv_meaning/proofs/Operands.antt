@@ -12,15 +12,15 @@ use Rattle.nv_ast.specs.declared.tree.Kind.TheViews as kinds
 use Rattle.nv_ast.specs.ExprView.{tree_of}
 use Rattle.nv_ast.specs.Outline.{outline}
 use Rattle.nv_ast.specs.Tree.{NamedLayout}
-use Rattle.nv_values.specs.Values.{Value, Word, Truth, word_of, truth_of, fields_of, field_named}
-use Rattle.nv_values.specs.Packing.{unpacked_value, packed_value}
-use Rattle.nv_values.specs.Running.{Running, Gives, fetch}
+use Rattle.nv_meaning_values.specs.Values.{Value, Word, Truth, word_of, truth_of, fields_of, field_named}
+use Rattle.nv_meaning_values.specs.Packing.{unpacked_value, packed_value}
+use Rattle.nv_meaning_values.specs.Running.{Running, Gives, fetch}
 use Rattle.nv_meaning.specs.Meaning.{Declared, shifted}
 use Rattle.nv_meaning.specs.inner.Operand.{made_of}
-use Rattle.nv_values.specs.declared.value.Value as code
-use Rattle.nv_values.specs.declared.stop.Interruption.{Interruption}
-use Rattle.nv_values.specs.declared.stop.Interruption.TheVariants.{NoMemory}
-use Rattle.nv_values.specs.inner.View.{view}
+use Rattle.nv_meaning_values.specs.declared.value.Value as code
+use Rattle.nv_meaning_values.specs.declared.stop.Interruption.{Interruption}
+use Rattle.nv_meaning_values.specs.declared.stop.Interruption.TheVariants.{NoMemory}
+use Rattle.nv_meaning_values.specs.inner.View.{view}
 use Rattle.nv_meaning.specs.inner.Ran.{IsValue}
 use Rattle.nv_meaning.proofs.Arms.{value-as}
 use Rattle.nv_meaning.proofs.Choices.{made-grows}

@@ -6,15 +6,15 @@ use Rattle.nv_ast.specs.declared.tree.TyText.{TyText}
 use Rattle.nv_ast.specs.TypeView.{type_tree, list_types, list_named_types}
 use Rattle.nv_ast.specs.Outline.{Layouts}
 use Rattle.nv_ast.specs.Types.{Ty, NamedTys, words, type_of, types_of, named_types_of, word_parts, words_ty, TupleTy, WordTy}
-use Rattle.nv_values.specs.declared.value.Value as code
-use Rattle.nv_values.specs.Values.{Tuple, value_and, no_values, named_value_and, no_named_values, words_of, all_words, all_named_words, value_from, named_values_from, Scope}
-use Rattle.nv_values.specs.Values as meaning
+use Rattle.nv_meaning_values.specs.declared.value.Value as code
+use Rattle.nv_meaning_values.specs.Values.{Tuple, value_and, no_values, named_value_and, no_named_values, words_of, all_words, all_named_words, value_from, named_values_from, Scope}
+use Rattle.nv_meaning_values.specs.Values as meaning
 use Rattle.nv_meaning.specs.Meaning.{named_scope}
 use Rattle.nv_meaning.specs.inner.Blanks.{blank, blanks, named_blanks, filled, all_filled, fields_filled}
-use Rattle.nv_values.specs.inner.View.{Named, view, list_values, list_named_values, scope_of}
+use Rattle.nv_meaning_values.specs.inner.View.{Named, view, list_values, list_named_values, scope_of}
 use Rattle.nv_meaning.proofs.Bindings.{scope-append}
 use Rattle.nv_meaning.proofs.Filling.{blank-words, blank-filled}
-use Rattle.nv_values.proofs.Unpacking.{drop-capped}
+use Rattle.nv_meaning_values.proofs.Unpacking.{drop-capped}
 use Rattle.nv_ast.proofs.Items.{take_item, next_item}
 
 -- ---- blank values of types one after another

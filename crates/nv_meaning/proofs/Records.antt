@@ -3,9 +3,9 @@ use Rattle.std.proofs.Common.{◌≡◌, refl, ℕ, zero, suc, Bool, true, false
 use Rattle.nv_ast.specs.Tests.{value_at as found_at}
 use Rattle.nv_ast.specs.Tree.{LayoutTree, NamedLayout, GapLayout, PartsLayout, JoinedLayout}
 use Rattle.nv_ast.specs.Outline.{Layouts, OutlineTree, PartsOutline, no_named_outlines, outline}
-use Rattle.nv_values.specs.Values.{Record, fields_of}
-use Rattle.nv_values.specs.Packing.{value_at}
-use Rattle.nv_values.specs.inner.Tables.{laid}
+use Rattle.nv_meaning_values.specs.Values.{Record, fields_of}
+use Rattle.nv_meaning_values.specs.Packing.{value_at}
+use Rattle.nv_meaning_values.specs.inner.Tables.{laid}
 
 abbrev pub IsRecord : OutlineTree → Type 0
 IsRecord o = (bs : List ℕ) → value_at o bs ≡ Record (fields_of (value_at o bs))

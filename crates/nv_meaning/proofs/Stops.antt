@@ -1,11 +1,11 @@
 -- A stop goes through what would have followed a value.
 use Rattle.std.proofs.Common.{◌≡◌, ℕ, List, [], ◌∷◌, ◌++◌, refl, ap}
-use Rattle.nv_values.specs.Values.{Value, Values, no_values, NamedValues, no_named_values, Scope}
-use Rattle.nv_values.specs.Running.{Running, Result, Results, GiveAll, Breaks, NamedResults, GiveNamed, BreaksNamed, Stated, GoesOn, StopsAt, and_then, and_all, and_named, and_stated, and_further, then_more, then_named, then_stated, before_rest, before_named}
-use Rattle.nv_values.specs.declared.value.Value as code
-use Rattle.nv_values.specs.declared.stop.Interruption.{Interruption}
-use Rattle.nv_values.specs.declared.stop.Interruption.TheVariants.{NoMemory, Raised, Fault, Going}
-use Rattle.nv_values.specs.inner.View.{Named, view, list_values, list_named_values}
+use Rattle.nv_meaning_values.specs.Values.{Value, Values, no_values, NamedValues, no_named_values, Scope}
+use Rattle.nv_meaning_values.specs.Running.{Running, Result, Results, GiveAll, Breaks, NamedResults, GiveNamed, BreaksNamed, Stated, GoesOn, StopsAt, and_then, and_all, and_named, and_stated, and_further, then_more, then_named, then_stated, before_rest, before_named}
+use Rattle.nv_meaning_values.specs.declared.value.Value as code
+use Rattle.nv_meaning_values.specs.declared.stop.Interruption.{Interruption}
+use Rattle.nv_meaning_values.specs.declared.stop.Interruption.TheVariants.{NoMemory, Raised, Fault, Going}
+use Rattle.nv_meaning_values.specs.inner.View.{Named, view, list_values, list_named_values}
 use Rattle.nv_meaning.specs.inner.Ran.{Interrupted, Grown, all_result, named_result, stated_result}
 use Rattle.nv_meaning.proofs.Grows.{grown-then, grown-all, grown-named, grown-stated, grown-further_on, grown-more, grown-more_named, grown-statement}
 

@@ -7,12 +7,12 @@ use Rattle.nv_ast.specs.declared.tree.Kind.TheViews as kinds
 use Rattle.nv_ast.specs.ExprView.{tree_of}
 use Rattle.nv_ast.specs.Tree.{Tree, DotTree, InvertTree, NegateTree, ShiftTree, UnpackTree, PackTree, FetchTree}
 use Rattle.nv_ast.proofs.TreeKinds.{dot-is, invert-is, negate-is, shift-is, unpack-is, pack-is, fetch-is}
-use Rattle.nv_values.specs.Values.{Scope}
-use Rattle.nv_values.specs.Running.{Running, and_then}
+use Rattle.nv_meaning_values.specs.Values.{Scope}
+use Rattle.nv_meaning_values.specs.Running.{Running, and_then}
 use Rattle.nv_meaning.specs.Meaning.{Declared, Calls, eval}
 use Rattle.nv_meaning.specs.inner.Operand.{made_of}
 use Rattle.nv_meaning.specs.declared.step.Step.{Step}
-use Rattle.nv_values.specs.declared.stop.Interruption.{Interruption}
+use Rattle.nv_meaning_values.specs.declared.stop.Interruption.{Interruption}
 use Rattle.nv_meaning.specs.inner.Ran.{At, IsStep, RanStep}
 use Rattle.nv_meaning.specs.inner.Weight.{weight}
 use Rattle.nv_meaning.proofs.Moments.{ran-as}

@@ -8,17 +8,17 @@ use Rattle.nv_base.specs.declared.error.NoMemory.{NoMemory}
 use Rattle.nv_base.specs.Log.{Log, noted_all}
 use Rattle.nv_base.specs.Memories.{Memories}
 use Rattle.nv_base.specs.Meanings.{source_writes, left_by, IsPrefix}
-use Rattle.nv_values.specs.Notes.{Notes, Knows, traced_all, source_made}
-use Rattle.nv_values.specs.Chains.{Kept, trail_of}
+use Rattle.nv_meaning_values.specs.Notes.{Notes, Knows, traced_all, source_made}
+use Rattle.nv_meaning_values.specs.Chains.{Kept, trail_of}
 use Rattle.nv_base.specs.Name.{IsName}
 use Rattle.nv_ast.specs.Tree.{ProgramTree, FunTree}
-use Rattle.nv_values.specs.Values.{Scope, words_of, all_words}
-use Rattle.nv_values.specs.Running.{InCall, Chain, Made, plain, Running, Result, Gives, Raises, Halts, TracedOutcome, closed, over}
+use Rattle.nv_meaning_values.specs.Values.{Scope, words_of, all_words}
+use Rattle.nv_meaning_values.specs.Running.{InCall, Chain, Made, plain, Running, Result, Gives, Raises, Halts, TracedOutcome, closed, over}
 use Rattle.nv_meaning.specs.Meaning.{Declared, eval, run_main, traced, declared, function_in, group_in, groups_from, in_main, calls_within}
-use Rattle.nv_values.specs.declared.value.Value as code
-use Rattle.nv_values.specs.declared.stop.Interruption.{Interruption}
-use Rattle.nv_values.specs.declared.stop.Interruption.TheVariants as stops
-use Rattle.nv_values.specs.inner.View.{view, list_values}
+use Rattle.nv_meaning_values.specs.declared.value.Value as code
+use Rattle.nv_meaning_values.specs.declared.stop.Interruption.{Interruption}
+use Rattle.nv_meaning_values.specs.declared.stop.Interruption.TheVariants as stops
+use Rattle.nv_meaning_values.specs.inner.View.{view, list_values}
 use Rattle.nv_meaning.specs.inner.Ran.{At, at, notes_of, running, Wrote, RanValue, IsValue, Grown, now_of, Noted, Executes}
 use Rattle.nv_meaning.proofs.Grows.{grown-here, plain-append}
 

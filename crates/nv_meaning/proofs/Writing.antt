@@ -9,11 +9,11 @@ use Rattle.nv_ast.specs.declared.tree.LayoutText.{LayoutText}
 use Rattle.nv_ast.specs.LayoutView.{layout_tree, field_tree}
 use Rattle.nv_ast.specs.Outline.{Layouts, OutlineTree, BitsOutline, GapOutline, PartsOutline, OverlayOutline, JoinedOutline, OutlineTrees, no_outlines, outline_and, NamedOutlines, no_named_outlines, named_outline_and, outline, field_outline, size, total_size, total_named_size, longest}
 use Rattle.nv_layout.proofs.BitLists.{length-bits, bits-split, packed-append, packed-cons, length-packed, length-front, replaced-middle}
-use Rattle.nv_values.specs.Values.{Value, NamedValues, word_of, fields_of, field_named, has_field}
-use Rattle.nv_values.specs.Packing.{bits_of, parts_bits, chosen_bits, joined_bits, words_of_bits}
+use Rattle.nv_meaning_values.specs.Values.{Value, NamedValues, word_of, fields_of, field_named, has_field}
+use Rattle.nv_meaning_values.specs.Packing.{bits_of, parts_bits, chosen_bits, joined_bits, words_of_bits}
 use Rattle.nv_meaning.specs.inner.Blanks.{IsBlankFrom}
 use Rattle.nv_meaning.proofs.Packed.{replaced-more, replaced-zeros, replicate-split, blank-behind, number-word}
-use Rattle.nv_values.proofs.Unpacking.{FieldItem, outlines_of, joined_of, drop-nothing}
+use Rattle.nv_meaning_values.proofs.Unpacking.{FieldItem, outlines_of, joined_of, drop-nothing}
 use Rattle.nv_ast.proofs.Items.{take_item, next_item}
 
 -- ---- no more bits than the size says

@@ -7,7 +7,7 @@ use Rattle.nv_base.specs.Memories.{Memories}
 use Rattle.nv_ast.specs.declared.token.Span.{Span}
 use Rattle.nv_ast.specs.declared.tree.Op.TheVariants.{Add, Lt}
 use Rattle.nv_ast.specs.Tree.{ProgramTree, DeclTree, ExceptionDecl, GroupDecl, no_named_types, named_type_and, WordType, no_types, type_and, pattern_and, no_patterns, NamePattern, Tree, NumberTree, VarTree, BinaryTree, CallTree, RaiseTree, IfTree, TryTree, BlockTree, Trees, no_trees, tree_and, StoreStatement, no_statements, statement_and}
-use Rattle.nv_values.specs.Running.{Made}
+use Rattle.nv_meaning_values.specs.Running.{Made}
 use Rattle.nv_meaning.specs.Meaning.{source, traced}
 
 -- meanings don't ask where a tree stands in the text

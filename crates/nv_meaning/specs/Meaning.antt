@@ -11,11 +11,11 @@ use Rattle.nv_ast.specs.Tree.{Tree, NumberTree, TruthTree, VarTree, ParenTree, T
 use Rattle.nv_ast.specs.Tree.{NamedLayout, NamedTypes, named_type_and, FunTree, ProgramTree}
 use Rattle.nv_ast.specs.Outline.{outline}
 use Rattle.nv_ast.specs.Types.{named_types_of}
-use Rattle.nv_values.specs.Values.{Word, Truth, Tuple, Record, Values, no_values, value_and, NamedValues, no_named_values, named_value_and, named_values_from, Scope, variable_in, word_of, truth_of, fields_of, field_named, words_of, all_matched, matched}
-pub use Rattle.nv_values.specs.Operators.{combined, shifted}
-pub use Rattle.nv_values.specs.Declarations.{Declared, with_decl, with_decls, declared, function_in, groups_from, group_in}
-use Rattle.nv_values.specs.Packing.{unpacked_value, packed_value}
-use Rattle.nv_values.specs.Running.{Chain, Running, Result, Gives, Raises, Halts, Results, GiveAll, NamedResults, GiveNamed, Stated, GoesOn, and_then, and_all, and_named, and_stated, and_further, then_more, then_named, then_stated, before_rest, before_named, handled, exception_number, fetch, store, taken, calling, back_to, TracedOutcome, closed, untraced}
+use Rattle.nv_meaning_values.specs.Values.{Word, Truth, Tuple, Record, Values, no_values, value_and, NamedValues, no_named_values, named_value_and, named_values_from, Scope, variable_in, word_of, truth_of, fields_of, field_named, words_of, all_matched, matched}
+pub use Rattle.nv_meaning_values.specs.Operators.{combined, shifted}
+pub use Rattle.nv_meaning_values.specs.Declarations.{Declared, with_decl, with_decls, declared, function_in, groups_from, group_in}
+use Rattle.nv_meaning_values.specs.Packing.{unpacked_value, packed_value}
+use Rattle.nv_meaning_values.specs.Running.{Chain, Running, Result, Gives, Raises, Halts, Results, GiveAll, NamedResults, GiveNamed, Stated, GoesOn, and_then, and_all, and_named, and_stated, and_further, then_more, then_named, then_stated, before_rest, before_named, handled, exception_number, fetch, store, taken, calling, back_to, TracedOutcome, closed, untraced}
 
 -- ---- operators: the left operand first; && and || evaluate the right one only where it decides
 abbrev pub binary : Op → Result → (Running → Result) → Result

@@ -1,4 +1,4 @@
-pub use Rattle.nv_values.specs.inner.View
+pub use Rattle.nv_meaning_values.specs.inner.View
 pub mod Ran
 pub mod Operand
 pub mod Weight

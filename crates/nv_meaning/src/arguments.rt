@@ -4,17 +4,17 @@ ghost use Rattle.nv_ast.specs.Outline.{outline};
 ghost use Rattle.nv_ast.specs.Tree.{NamedLayout};
 ghost use Rattle.nv_ast.specs.Types.{type_of, types_of, named_types_of, packed_ty, unpacked_ty, words_ty};
 ghost use Rattle.nv_ast.specs.TypeView.{type_tree, list_types, list_named_types};
-ghost use Rattle.nv_values.specs.Values.{named_values_from, words_of, all_words, all_named_words};
+ghost use Rattle.nv_meaning_values.specs.Values.{named_values_from, words_of, all_words, all_named_words};
 ghost use Rattle.nv_meaning.specs.Meaning.{named_scope};
 ghost use Rattle.nv_meaning.specs.inner.Blanks.{blank, blanks, named_blanks, filled as filling, all_filled, fields_filled};
-ghost use Rattle.nv_values.specs.inner.TableView.{declared_in};
-ghost use Rattle.nv_values.specs.inner.View.{view, list_values, list_named_values, scope_of};
+ghost use Rattle.nv_meaning_values.specs.inner.TableView.{declared_in};
+ghost use Rattle.nv_meaning_values.specs.inner.View.{view, list_values, list_named_values, scope_of};
 
 use crate::scope::Scope;
 use crate::unpack::record;
 use nv_ast::{Name, TyText};
 use nv_base::NoMemory;
-use nv_values::{Field, Table, Value};
+use nv_meaning_values::{Field, Table, Value};
 use std::alloc::Global;
 
 /// Adds the parameters, with their values out of the words in order.

@@ -6,7 +6,7 @@ ghost use Rattle.nv_base.specs.Progress.{FollowsAll};
 ghost use Rattle.nv_ast.specs.Tree.{ProgramTree};
 ghost use Rattle.nv_meaning.specs.Laws.{Seeking, Tracing};
 ghost use Rattle.nv_meaning.specs.Meaning.{source, traced};
-ghost use Rattle.nv_values.specs.Running.{untraced};
+ghost use Rattle.nv_meaning_values.specs.Running.{untraced};
 
 /// At each moment of a run the memories are the first ones after the writes so far.
 pub fn memories_follow_writes()

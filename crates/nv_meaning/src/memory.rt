@@ -2,16 +2,16 @@
 
 ghost use Rattle.std.specs.Prelude.{◌≡◌, ℕ, length, true};
 ghost use Rattle.nv_ast.specs.Faults.{can_move as may_move};
-ghost use Rattle.nv_values.specs.Values.{Scope, words_of};
-ghost use Rattle.nv_values.specs.Running.{store};
-ghost use Rattle.nv_values.specs.inner.View.{view};
+ghost use Rattle.nv_meaning_values.specs.Values.{Scope, words_of};
+ghost use Rattle.nv_meaning_values.specs.Running.{store};
+ghost use Rattle.nv_meaning_values.specs.inner.View.{view};
 ghost use Rattle.nv_meaning.specs.Meaning.{Declared};
 ghost use Rattle.nv_meaning.specs.inner.Ran.{at as moment, RanScope};
 
 use crate::parts::words_in;
 use nv_ast::Span;
 use nv_base::{Access, Mem, Packet, Words, Write};
-use nv_values::{Interruption, Notes, Value, can_move};
+use nv_meaning_values::{Interruption, Notes, Value, can_move};
 use std::alloc::Global;
 
 /// Stores the words of a value from an address on, and notes the write.

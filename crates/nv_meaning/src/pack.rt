@@ -5,17 +5,17 @@ ghost use Rattle.nv_ast.specs.LayoutView.{layout_tree, field_tree, list_fields, 
 ghost use Rattle.nv_ast.specs.Outline.{outline, outlines, field_outline, field_outlines, size as bit_size, total_size, total_named_size, longest as greatest_size};
 ghost use Rattle.nv_ast.specs.Tree.{NamedLayout};
 ghost use Rattle.nv_ast.specs.Types.{packed_words as size_words};
-ghost use Rattle.nv_values.specs.Values.{word_of, fields_of, field_named};
-ghost use Rattle.nv_values.specs.Packing.{packed_value, bits_of, parts_bits, chosen_bits, joined_bits, words_of_bits};
+ghost use Rattle.nv_meaning_values.specs.Values.{word_of, fields_of, field_named};
+ghost use Rattle.nv_meaning_values.specs.Packing.{packed_value, bits_of, parts_bits, chosen_bits, joined_bits, words_of_bits};
 ghost use Rattle.nv_meaning.specs.inner.Blanks.{IsBlankFrom};
-ghost use Rattle.nv_values.specs.inner.TableView.{declared_in};
-ghost use Rattle.nv_values.specs.inner.View.{view, list_named_values};
+ghost use Rattle.nv_meaning_values.specs.inner.TableView.{declared_in};
+ghost use Rattle.nv_meaning_values.specs.inner.View.{view, list_named_values};
 
 use crate::parts::find;
 use nv_ast::{FieldText, LayoutText, Name};
 use nv_base::NoMemory;
 use nv_layout::{Field as BitField, insert};
-use nv_values::{Field, Table, Value, value_of_words};
+use nv_meaning_values::{Field, Table, Value, value_of_words};
 use std::alloc::Global;
 
 // A layout of more bits has more words than memory holds.
@@ -77,7 +77,7 @@ fn write_all<'a>(t: &Table<'a>, l: &'a LayoutText, limit: usize, v: &Value<'a>, 
 }
 
 // The fields of a record, none of anything else.
-#[tactic(auto, using(nv_values::proofs::Rows::tuple_view, nv_values::proofs::Rows::record_view))]
+#[tactic(auto, using(nv_meaning_values::proofs::Rows::tuple_view, nv_meaning_values::proofs::Rows::record_view))]
 fn fields_in<'b, 'a>(v: &'b Value<'a>) -> &'b [Field<'a>]
     ensures { list_named_values result.now ≡ fields_of (view v.now) }
 {

@@ -1,16 +1,16 @@
 // Fields, copies and words of values.
 
 ghost use Rattle.std.specs.Prelude.{◌≡◌, ◌<◌, ◌++◌, true, false, length, slice_index_or, IfOk, IfSome, IfNone, OnOk};
-ghost use Rattle.nv_values.specs.Values.{fields_of, Word as WordOf, field_named, has_field, words_of, all_words, all_named_words};
-ghost use Rattle.nv_values.specs.inner.View.{Named, view, list_values, list_named_values};
+ghost use Rattle.nv_meaning_values.specs.Values.{fields_of, Word as WordOf, field_named, has_field, words_of, all_words, all_named_words};
+ghost use Rattle.nv_meaning_values.specs.inner.View.{Named, view, list_values, list_named_values};
 
 use nv_ast::Name;
 use nv_base::NoMemory;
-use nv_values::{Field, Value};
+use nv_meaning_values::{Field, Value};
 use std::alloc::Global;
 
 /// The value of a field, 0 where there is no such field.
-#[tactic(auto, using(nv_values::proofs::Rows::tuple_view, nv_values::proofs::Rows::record_view))]
+#[tactic(auto, using(nv_meaning_values::proofs::Rows::tuple_view, nv_meaning_values::proofs::Rows::record_view))]
 pub fn field_in<'a>(v: Value<'a>, x: &Name) -> Value<'a>
     ensures { view result ≡ field_named x.now (fields_of (view v.entry)) }
 {
@@ -48,7 +48,7 @@ pub fn find(fields: &[Field], x: &Name) -> Option<usize>
 
 /// A copy of a value.
 #[cycle(copied)]
-#[tactic(auto, using(nv_values::proofs::Rows::tuple_view, nv_values::proofs::Rows::record_view))]
+#[tactic(auto, using(nv_meaning_values::proofs::Rows::tuple_view, nv_meaning_values::proofs::Rows::record_view))]
 pub fn copied<'a>(alloc: Global, v: &Value<'a>) -> Result<Value<'a>, NoMemory>
     ensures { IfOk result (λ copy. view copy ≡ view v.now) }
 {
@@ -101,7 +101,7 @@ pub fn all_words_in(alloc: Global, vs: &[Value]) -> Result<Vec<u32>, NoMemory>
 }
 
 #[cycle(add_words)]
-#[tactic(auto, using(nv_values::proofs::Rows::tuple_view, nv_values::proofs::Rows::record_view))]
+#[tactic(auto, using(nv_meaning_values::proofs::Rows::tuple_view, nv_meaning_values::proofs::Rows::record_view))]
 fn add_words(v: &Value, words: &mut Vec<u32>) -> Result<(), NoMemory>
     ensures { OnOk result (words.new.items ≡ words.old.items ++ words_of (view v.now)) }
 {

@@ -5,13 +5,13 @@ ghost use Rattle.nv_base.specs.Log.{noted_all};
 ghost use Rattle.nv_base.specs.Meanings.{source_writes, left_by, IsPrefix};
 ghost use Rattle.nv_base.specs.declared.outcome.Write.{Write as WriteEvent};
 ghost use Rattle.nv_ast.specs.TypedView.{typed_program};
-ghost use Rattle.nv_values.specs.Notes.{Knows, traced_all, source_made};
-ghost use Rattle.nv_values.specs.Chains.{trail_of};
-ghost use Rattle.nv_values.specs.Callers.{calls_of};
+ghost use Rattle.nv_meaning_values.specs.Notes.{Knows, traced_all, source_made};
+ghost use Rattle.nv_meaning_values.specs.Chains.{trail_of};
+ghost use Rattle.nv_meaning_values.specs.Callers.{calls_of};
 ghost use Rattle.nv_meaning.specs.Meaning.{source, traced as traced_source, run_main as main_run};
 ghost use Rattle.nv_ast.specs.ProgramView.{fun_tree};
-ghost use Rattle.nv_values.specs.Running.{Chain, Made as MadeEvent, plain, Running, Result as RunResult, closed, over};
-ghost use Rattle.nv_values.specs.inner.TableView.{declared_in};
+ghost use Rattle.nv_meaning_values.specs.Running.{Chain, Made as MadeEvent, plain, Running, Result as RunResult, closed, over};
+ghost use Rattle.nv_meaning_values.specs.inner.TableView.{declared_in};
 ghost use Rattle.nv_meaning.specs.inner.Ran.{at, notes_of, Executes, IsValue, Grown};
 
 use crate::arguments::add_arguments;
@@ -19,7 +19,7 @@ use crate::parts::{all_words_in, words_in};
 use crate::run::settled;
 use nv_ast::{Fun, Name, Typed};
 use nv_base::{NoMemory, Outcome, Packet, WriteLog};
-use nv_values::{Caller, Interruption, Notes, Table, Trace, Value, first_words, groups};
+use nv_meaning_values::{Caller, Interruption, Notes, Table, Trace, Value, first_words, groups};
 use std::alloc::Global;
 use std::mem;
 

@@ -3,12 +3,12 @@
 ghost use Rattle.std.specs.Prelude.{◌≡◌, ◌≤◌, [], OnOk, None, Some, MatchOption, if◌then◌else◌};
 ghost use Rattle.nv_ast.specs.ExprView.{tree_of, list_trees, list_named_trees, list_statements, statement_tree};
 ghost use Rattle.nv_ast.specs.PatternView.{list_patterns};
-ghost use Rattle.nv_values.specs.Values.{variable_in, truth_of, word_of, words_of, all_matched, matched, Tuple as TupleOf, Record as RecordOf, Truth as TruthOf};
-ghost use Rattle.nv_values.specs.Running.{Running, Gives, Raises, and_then, and_all, and_named, and_stated, then_stated, handled, exception_number, store as store_of};
+ghost use Rattle.nv_meaning_values.specs.Values.{variable_in, truth_of, word_of, words_of, all_matched, matched, Tuple as TupleOf, Record as RecordOf, Truth as TruthOf};
+ghost use Rattle.nv_meaning_values.specs.Running.{Running, Gives, Raises, and_then, and_all, and_named, and_stated, then_stated, handled, exception_number, store as store_of};
 ghost use Rattle.nv_meaning.specs.Meaning.{Calls, eval as evaluated, eval_all, eval_named, run_one, run_all, binary as binary_of};
 ghost use Rattle.nv_meaning.specs.inner.Operand.{made_of as made, decided_by, joined_by};
-ghost use Rattle.nv_values.specs.inner.View.{view, list_values, scope_of, Extends};
-ghost use Rattle.nv_values.specs.inner.TableView.{declared_in};
+ghost use Rattle.nv_meaning_values.specs.inner.View.{view, list_values, scope_of, Extends};
+ghost use Rattle.nv_meaning_values.specs.inner.TableView.{declared_in};
 ghost use Rattle.nv_meaning.specs.inner.Ran.{at, RanStep, RanValue, RanValues, RanFields, RanScope, RanCall, IsStep, IsValue};
 
 use crate::memory::stored;
@@ -19,7 +19,7 @@ use crate::step::Step;
 use crate::unpack::unpacked;
 use nv_ast::{Expr, Kind, Name, Op, Pat, Span, Stmt};
 use nv_base::{Mem, Packet, word};
-use nv_values::{
+use nv_meaning_values::{
     Field, Interruption, Notes, Table, Value, combined, fetched, is_true, shifted, truth_in,
     word_in,
 };

@@ -3,14 +3,14 @@
 ghost use Rattle.std.specs.Prelude.{◌≡◌, ◌++◌, ℕ, [], IfOk, OnOk};
 ghost use Rattle.nv_ast.specs.PatternView.{pattern_tree, list_patterns};
 ghost use Rattle.nv_ast.specs.TypeView.{list_named_types};
-ghost use Rattle.nv_values.specs.Values.{variable_in, matched, all_matched};
+ghost use Rattle.nv_meaning_values.specs.Values.{variable_in, matched, all_matched};
 ghost use Rattle.nv_meaning.specs.Meaning.{entered};
-ghost use Rattle.nv_values.specs.inner.View.{view, list_values, scope_of, Extends};
+ghost use Rattle.nv_meaning_values.specs.inner.View.{view, list_values, scope_of, Extends};
 
 use crate::parts::copied;
 use nv_ast::{Name, Pat, TyText};
 use nv_base::NoMemory;
-use nv_values::Value;
+use nv_meaning_values::Value;
 use std::alloc::Global;
 
 /// The variables in scope with their values, the newest last.

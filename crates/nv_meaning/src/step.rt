@@ -1,7 +1,7 @@
 // What an expression comes to.
 
 use nv_ast::Name;
-use nv_values::Value;
+use nv_meaning_values::Value;
 
 /// What an expression comes to that is not raised or stopped: a value, or a call in its place, which
 /// is still to be made.

@@ -4,16 +4,16 @@ ghost use Rattle.nv_ast.specs.Bits.{number, packed as packed_bits};
 ghost use Rattle.nv_ast.specs.LayoutView.{layout_tree, field_tree, list_fields, list_layouts};
 ghost use Rattle.nv_ast.specs.Outline.{outline, outlines, field_outline, field_outlines, size as bit_size, total_size, total_named_size, longest};
 ghost use Rattle.nv_ast.specs.Tree.{NamedLayout};
-ghost use Rattle.nv_values.specs.Values.{fields_of, ◌++_fields◌};
-ghost use Rattle.nv_values.specs.Packing.{unpacked_value, value_at, parts_at, alternatives_at, joined_at};
-ghost use Rattle.nv_values.specs.inner.TableView.{declared_in};
-ghost use Rattle.nv_values.specs.inner.View.{view, list_named_values};
+ghost use Rattle.nv_meaning_values.specs.Values.{fields_of, ◌++_fields◌};
+ghost use Rattle.nv_meaning_values.specs.Packing.{unpacked_value, value_at, parts_at, alternatives_at, joined_at};
+ghost use Rattle.nv_meaning_values.specs.inner.TableView.{declared_in};
+ghost use Rattle.nv_meaning_values.specs.inner.View.{view, list_named_values};
 
 use crate::parts::words_in;
 use nv_ast::{FieldText, LayoutText, Name};
 use nv_base::NoMemory;
 use nv_layout::{Field as BitField, extract};
-use nv_values::{Field, Table, Value};
+use nv_meaning_values::{Field, Table, Value};
 use std::alloc::Global;
 
 // N words that no number holds their bits are more than memory holds.

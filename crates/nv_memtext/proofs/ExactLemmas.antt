@@ -1,10 +1,10 @@
 -- Of a text's answers one is true.
 use Rattle.std.proofs.Common.{◌≡◌, ℕ, ◌≤◌, List, [], ◌∷◌, ◌++◌, length, refl, sym, ap, ◌∙◌, subst, arith, Some, Result, Ok, Err, IfOk, IfErr, decimal}
 use Rattle.std.proofs.lemmas.List.{append-nil}
-use Rattle.line_text.specs.Line.{AllLack, text_of}
-use Rattle.line_text.specs.Format.{IsText, IsFormat}
-use Rattle.line_text.proofs.SplitLaws.{lines_one, split_one, text_of-cons}
-use Rattle.line_text.proofs.FormatLaws.{no_text, one_fault}
+use Rattle.nv_lines.specs.Line.{AllLack, text_of}
+use Rattle.nv_lines.specs.Format.{IsText, IsFormat}
+use Rattle.nv_lines.proofs.SplitLaws.{lines_one, split_one, text_of-cons}
+use Rattle.nv_lines.proofs.FormatLaws.{no_text, one_fault}
 use Rattle.nv_base.specs.Memories.{Memories, blank, first_too_large}
 use Rattle.nv_base.specs.MemoryNames.{memory_name}
 use Rattle.nv_memtext.specs.declared.line.Stretch.{Stretch}

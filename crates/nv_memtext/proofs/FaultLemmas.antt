@@ -1,9 +1,9 @@
 -- The first faulty line of a memory text.
 use Rattle.std.proofs.Common.{◌≡◌, ℕ, ◌+◌, List, [], ◌∷◌, ◌++◌, length, refl, sym, ap, ◌∙◌, subst, arith}
 use Rattle.std.proofs.lemmas.List.{append-nil}
-use Rattle.line_text.specs.Line.{Lacks, text_of}
-use Rattle.line_text.specs.Format.{IsText, FirstFault, wrong, short}
-use Rattle.line_text.proofs.SplitLaws.{lines_one, lacks_not, split_one, text_of-cons}
+use Rattle.nv_lines.specs.Line.{Lacks, text_of}
+use Rattle.nv_lines.specs.Format.{IsText, FirstFault, wrong, short}
+use Rattle.nv_lines.proofs.SplitLaws.{lines_one, lacks_not, split_one, text_of-cons}
 use Rattle.nv_base.specs.Memories.{Memories}
 use Rattle.nv_memtext.specs.declared.line.Stretch.{Stretch}
 use Rattle.nv_memtext.specs.MemoryText.{SpellsSizes, SpellsArgs, SpellsStretch, SpellStretches, IsWhole, IsFront, nothing, one_line, lines, IsTooLarge, IsBad}

@@ -1,10 +1,10 @@
 -- What each line's parts are.
 use Rattle.std.proofs.Common.{◌≡◌, ℕ, ◌+◌, ◌/◌, ◌%◌, ◌<◌, ◌≤◌, List, [], ◌∷◌, length, refl, sym, ap, ◌∙◌, subst, arith, codes, decimal, lit≤, Option, None, Some, IfSome, IfNone}
 use Rattle.nv_base.proofs.Operands.{access_eight}
-use Rattle.line_text.specs.Line.{Lacks, parts, parted}
-use Rattle.line_text.proofs.SplitLaws.{parts-parted, parted-parts, Lacks-test}
-use Rattle.line_text.proofs.NumberLaws.{Lacks-decimal}
-use Rattle.line_text.proofs.NumberLemmas.{decimal_one}
+use Rattle.nv_lines.specs.Line.{Lacks, parts, parted}
+use Rattle.nv_lines.proofs.SplitLaws.{parts-parted, parted-parts, Lacks-test}
+use Rattle.nv_lines.proofs.NumberLaws.{Lacks-decimal}
+use Rattle.nv_lines.proofs.NumberLemmas.{decimal_one}
 use Rattle.nv_base.specs.declared.term.Mem.{Mem}
 use Rattle.nv_base.specs.declared.term.Mem.TheVariants.{Sram, Sdram, Scratch}
 use Rattle.nv_base.specs.Memories.{IsAccess, first_word}

@@ -6,9 +6,9 @@ use Rattle.std.proofs.lemmas.Grind.{take_at_read}
 use Rattle.std.specs.List.{flat_map, list_all}
 use Rattle.std.proofs.lemmas.List.Concat.{flat_map-append}
 use Rattle.std.proofs.lemmas.List.Folds.{flat_map-map}
-use Rattle.line_text.specs.Line.{text_of, parted}
-use Rattle.line_text.specs.Number.{hex_word}
-use Rattle.line_text.proofs.SplitLaws.{parted-cons, text_of-append}
+use Rattle.nv_lines.specs.Line.{text_of, parted}
+use Rattle.nv_lines.specs.Number.{hex_word}
+use Rattle.nv_lines.proofs.SplitLaws.{parted-cons, text_of-append}
 use Rattle.nv_base.specs.declared.term.Mem.{Mem}
 use Rattle.nv_base.specs.MemoryNames.{memory_name}
 use Rattle.nv_memtext.specs.Places.{stretch_start}

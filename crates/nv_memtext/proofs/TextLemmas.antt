@@ -4,10 +4,10 @@ use Rattle.std.proofs.lemmas.Bool.{leb-true}
 use Rattle.std.proofs.lemmas.List.{append-nil, length-append, length-take-le, length-drop}
 use Rattle.std.proofs.lemmas.Bool.Decides.{nat_tests}
 use Rattle.std.proofs.lemmas.Option.{cond_some}
-use Rattle.line_text.specs.Line.{Lacks, AllLack, text_of}
-use Rattle.line_text.proofs.SplitLaws.{split_one, text_of-push, text_of-cons, Lacks-parted, Lacks-test}
-use Rattle.line_text.proofs.NumberLaws.{Lacks-decimal}
-use Rattle.line_text.proofs.NumberLemmas.{decimal_one}
+use Rattle.nv_lines.specs.Line.{Lacks, AllLack, text_of}
+use Rattle.nv_lines.proofs.SplitLaws.{split_one, text_of-push, text_of-cons, Lacks-parted, Lacks-test}
+use Rattle.nv_lines.proofs.NumberLaws.{Lacks-decimal}
+use Rattle.nv_lines.proofs.NumberLemmas.{decimal_one}
 use Rattle.nv_base.specs.Memories.{Memories, blank, first_too_large, stored, words_at}
 use Rattle.nv_base.specs.MemoryNames.{memory_name}
 use Rattle.nv_base.specs.declared.term.Mem.{Mem}

@@ -2,10 +2,10 @@
 use Rattle.std.proofs.Common.{◌≡◌, ℕ, ◌+◌, ◌<◌, ◌≤◌, List, [], ◌∷◌, ◌++◌, length, take, set, refl, sym, ap, ◌∙◌, subst, arith, append_assoc}
 use Rattle.std.proofs.lemmas.List.{append-nil, length-take-le, length-append, length-set}
 use Rattle.std.proofs.lemmas.Grind.{take-set_at}
-use Rattle.line_text.specs.Line.{AllLack}
+use Rattle.nv_lines.specs.Line.{AllLack}
 use Rattle.std.specs.Char.{digit_value}
-use Rattle.line_text.specs.Number.{SpellsWord}
-use Rattle.line_text.proofs.NumberLaws.{Lacks-word, word_one}
+use Rattle.nv_lines.specs.Number.{SpellsWord}
+use Rattle.nv_lines.proofs.NumberLaws.{Lacks-word, word_one}
 use Rattle.nv_memtext.specs.Spelling.{SpellWords}
 
 pub SpellWords-append : (ps qs : List (List ℕ)) (vs ws : List ℕ) → SpellWords ps vs → SpellWords qs ws → SpellWords (ps ++ qs) (vs ++ ws)

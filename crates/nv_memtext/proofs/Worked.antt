@@ -1,7 +1,7 @@
 -- A short memory text, and the text of a short outcome, by computing.
 use Rattle.std.proofs.Common.{[], ◌∷◌, refl, lit<, lit≤, codes}
 use Rattle.std.specs.Fmt.{digits}
-use Rattle.line_text.specs.Number.{SpellsWord, hex_word}
+use Rattle.nv_lines.specs.Number.{SpellsWord, hex_word}
 use Rattle.nv_base.specs.declared.term.Mem.TheVariants.{Sram, Sdram}
 use Rattle.nv_memtext.specs.OutcomeText.{outcome_text, named_text}
 use Rattle.nv_memtext.specs.Worked.{ShortText, ShortOutcome, NamedOutcome}

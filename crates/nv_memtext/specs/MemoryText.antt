@@ -1,7 +1,7 @@
 -- The text of a packet's memories and of the arguments of a run.
 use Rattle.std.specs.Prelude.{◌≡◌, ℕ, ◌+◌, ◌^◌, ◌<◌, ◌≤◌, List, [], ◌∷◌, ◌++◌, Some, None, length, codes, decimal, unwrap_or}
-use Rattle.line_text.specs.Line.{text_of, parted}
-use Rattle.line_text.specs.Format.{FirstFault}
+use Rattle.nv_lines.specs.Line.{text_of, parted}
+use Rattle.nv_lines.specs.Format.{FirstFault}
 use Rattle.nv_base.specs.Memories.{Memories, IsAccess, blank, first_too_large, first_word, stored}
 use Rattle.nv_base.specs.MemoryNames.{memory_name}
 use Rattle.nv_memtext.specs.declared.line.Stretch.{Stretch}

@@ -1,8 +1,8 @@
 -- The text of an outcome, of the writes that a log kept, and of the memories.
 use Rattle.std.specs.Prelude.{ℕ, zero, suc, ◌+◌, ◌*◌, ◌/◌, ◌==◌, List, [], ◌∷◌, ◌++◌, length, map, take, drop, codes, decimal, if◌then◌else◌}
 use Rattle.std.specs.List.{flat_map, list_all}
-use Rattle.line_text.specs.Line.{text_of, parted}
-use Rattle.line_text.specs.Number.{hex_word}
+use Rattle.nv_lines.specs.Line.{text_of, parted}
+use Rattle.nv_lines.specs.Number.{hex_word}
 use Rattle.nv_base.specs.Log.{Log}
 use Rattle.nv_base.specs.Memories.{Memories, source_scratch}
 use Rattle.nv_base.specs.MemoryNames.{memory_name}

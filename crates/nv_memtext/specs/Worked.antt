@@ -1,6 +1,6 @@
 -- A short memory text, and the texts of short outcomes.
 use Rattle.std.specs.Prelude.{◌≡◌, ℕ, List, [], ◌∷◌, codes, replicate}
-use Rattle.line_text.specs.Line.{text_of}
+use Rattle.nv_lines.specs.Line.{text_of}
 use Rattle.nv_base.specs.Log.{empty_log, noted}
 use Rattle.nv_base.specs.Memories.{Memories}
 use Rattle.nv_base.specs.declared.outcome.Outcome.TheVariants.{Raised}

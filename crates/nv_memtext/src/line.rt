@@ -8,8 +8,8 @@ ghost use Rattle.nv_memtext.specs.declared.line.Stretch.{Stretch};
 use crate::access::{is_access, is_inside};
 use crate::size::Sizes;
 use crate::words::words_of;
-use line_text::Parts;
 use nv_base::{Mem, Words};
+use nv_lines::Parts;
 
 /// The greatest number of at most ten digits.
 const TEN_DIGITS: u64 = 9_999_999_999;

@@ -2,14 +2,14 @@
 
 ghost use Rattle.std.specs.Prelude.{◌≡◌, ◌+◌, ◌*◌, ◌/◌, ◌<◌, ◌≤◌, ◌^◌, ◌++◌, ◌∷◌, ◌==◌, [], map, take, length, codes, decimal, IfOk, OnOk, MatchOption};
 ghost use Rattle.std.specs.List.{flat_map, list_all};
-ghost use Rattle.line_text.specs.Line.{text_of};
-ghost use Rattle.line_text.specs.Number.{hex_word};
+ghost use Rattle.nv_lines.specs.Line.{text_of};
+ghost use Rattle.nv_lines.specs.Number.{hex_word};
 ghost use Rattle.nv_base.specs.MemoryNames.{memory_name};
 ghost use Rattle.nv_memtext.specs.OutcomeText.{outcome_line, write_line, stretch_line, stretch_lines, memory_lines, sizes_line, log_lines, packet_lines, state_lines, run_lines, name_lines, outcome_text, named_text};
 
 use crate::stretch::start;
-use line_text::{push_counted, push_decimal, push_word};
 use nv_base::{Mem, NoMemory, Outcome, Packet, SOURCE_SCRATCH, Write, WriteLog};
+use nv_lines::{push_counted, push_decimal, push_word};
 use std::alloc::{AllocError, Global};
 
 /// How many writes an outcome text shows.

@@ -9,8 +9,8 @@ ghost use Rattle.nv_memtext.specs.declared.read.MemError.TheVariants.{NoMemory a
 
 use crate::line::{Stretch, args_of, sizes_of, stretch_of};
 use crate::size::{Sizes, too_large};
-use line_text::Lines;
 use nv_base::{NoMemory, Packet, PacketError, Words};
+use nv_lines::Lines;
 use std::alloc::Global;
 use thiserror::Error;
 

@@ -2,8 +2,8 @@
 ghost use Rattle.std.specs.Prelude.{◌≤◌, ℕ, List, length, IfSome, IfNone};
 ghost use Rattle.nv_memtext.specs.Spelling.{SpellWords};
 
-use line_text::{Parts, read_word};
 use nv_base::Words;
+use nv_lines::{Parts, read_word};
 
 /// The words of these parts, at most eight.
 pub fn words_of(parts: Parts) -> Option<Words>

@@ -8,13 +8,13 @@ use Rattle.nv_ast.specs.Positions.{Begins, BeginsLow, Dead, place_of, SyntaxAt, 
 use Rattle.nv_text.specs.declared.error.TextError.{TextError}
 use Rattle.nv_text.specs.declared.error.TextError.TheVariants.{NoMemory, Char, Number, Name, Syntax, Deep}
 use Rattle.nv_text.specs.Tokens.{IsTokens, TokenFault}
-use Rattle.nv_parser.specs.declared.cursor.Failure.{Failure}
+use Rattle.nv_text_parser.specs.declared.cursor.Failure.{Failure}
 use Rattle.nv_text.specs.Program.{IsTextOf, FaultOf}
 use Rattle.nv_text.specs.inner.Placing.{Says}
-use Rattle.nv_parser.specs.inner.Failing.{NoBound, AtMost, Many, HasRead, SameFront, Completes, Fails, FailsAs, no_memory, syntax, deep}
-use Rattle.nv_parser.specs.inner.Phrases.{ADecl, AtEnd}
+use Rattle.nv_text_parser.specs.inner.Failing.{NoBound, AtMost, Many, HasRead, SameFront, Completes, Fails, FailsAs, no_memory, syntax, deep}
+use Rattle.nv_text_parser.specs.inner.Phrases.{ADecl, AtEnd}
 use Rattle.nv_text.proofs.Reading.{tokens_one, fault_no_tokens, fault_one}
-use Rattle.nv_parser.proofs.DeclPhrases.{to_decls, of_decls}
+use Rattle.nv_text_parser.proofs.DeclPhrases.{to_decls, of_decls}
 
 -- ---- what the parser's failures say
 

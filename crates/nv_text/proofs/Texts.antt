@@ -6,7 +6,7 @@ use Rattle.nv_ast.specs.Grammar.{IsDecls}
 use Rattle.nv_text.specs.Tokens.{Reads, stop, skip, take_token, IsTokens}
 use Rattle.nv_text.specs.Program.{IsTextOf}
 use Rattle.nv_text.proofs.Reading.{longest_some, tokens_one}
-use Rattle.nv_parser.proofs.OneExpression.{det_decls}
+use Rattle.nv_text_parser.proofs.OneExpression.{det_decls}
 
 -- each token has a byte
 reads_few : {p q : ℕ} {bytes left : List ℕ} {ts : List Token} → Reads p bytes ts q left → length ts ≤ length bytes

@@ -9,7 +9,7 @@ ghost use Rattle.nv_text.specs.Program.{FaultOf};
 ghost use Rattle.nv_text.specs.Spelt.{AreSpelt, spelt_keywords, spelt_signs, spelt_operators};
 
 /// Tokens are one program at most.
-#[tactic(auto, using(nv_parser::proofs::OneExpression::det_decls))]
+#[tactic(auto, using(nv_text_parser::proofs::OneExpression::det_decls))]
 pub fn one_program()
     ensures { (ts : List Token) (ds es : List DeclTree) → IsDecls ds ts [] → IsDecls es ts [] → ds ≡ es }
 {}

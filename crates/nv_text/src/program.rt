@@ -11,7 +11,7 @@ ghost use Rattle.nv_text.specs.inner.Placing.{Says};
 use crate::error::TextError;
 use crate::scan::tokens;
 use nv_ast::{Program, Token};
-use nv_parser::{Failure, declarations};
+use nv_text_parser::{Failure, declarations};
 use std::alloc::Global;
 
 /// The most bytes of a text.

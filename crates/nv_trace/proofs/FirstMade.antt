@@ -2,10 +2,10 @@
 use Rattle.std.proofs.Common.{◌≡◌, ℕ, suc, ◌+◌, ◌-◌, ◌<◌, ◌≤◌, Bool, true, false, List, [], ◌∷◌, ◌++◌, length, map, take, zero, nat_lt, refl, sym, ap, ◌∙◌, append_assoc, if◌then◌else◌, arith}
 use Rattle.std.proofs.lemmas.List.{append-nil, length-append}
 use Rattle.nv_base.specs.Meanings.{is_source_write, source_writes}
-use Rattle.nv_values.specs.Running.{Made, plain}
-use Rattle.nv_values.specs.Chains.{made_in}
-use Rattle.nv_values.specs.declared.trace.Made as code
-use Rattle.nv_values.specs.Notes.{Trail, no_trail, traced_all, source_made}
+use Rattle.nv_meaning_values.specs.Running.{Made, plain}
+use Rattle.nv_meaning_values.specs.Chains.{made_in}
+use Rattle.nv_meaning_values.specs.declared.trace.Made as code
+use Rattle.nv_meaning_values.specs.Notes.{Trail, no_trail, traced_all, source_made}
 
 abbrev trail : ℕ → List Made → ℕ → Trail
 trail keep kept count = record { keep = keep; kept = kept; count = count }

@@ -4,14 +4,14 @@ use Rattle.std.specs.List.{flat_map}
 use Rattle.std.proofs.lemmas.Bool.{eqb-true, eq-eqb, cases_lt}
 use Rattle.std.proofs.lemmas.Grind.{take_at_read}
 use Rattle.std.proofs.lemmas.List.{map-append, take-map, take-take, take_all, drop_all, length-take, length-take-le, length-map}
-use Rattle.line_text.specs.Line.{text_of}
-use Rattle.line_text.specs.LineColumn.{line_at}
+use Rattle.nv_lines.specs.Line.{text_of}
+use Rattle.nv_lines.specs.LineColumn.{line_at}
 use Rattle.nv_ast.proofs.Items.{next_item}
-use Rattle.nv_values.specs.Chains.{made_in}
-use Rattle.nv_values.specs.declared.trace.Made as code
-use Rattle.nv_values.specs.Running.{Made}
+use Rattle.nv_meaning_values.specs.Chains.{made_in}
+use Rattle.nv_meaning_values.specs.declared.trace.Made as code
+use Rattle.nv_meaning_values.specs.Running.{Made}
 use Rattle.nv_base.specs.declared.term.Mem.{Mem}
-use Rattle.line_text.specs.Number.{hex_word}
+use Rattle.nv_lines.specs.Number.{hex_word}
 use Rattle.nv_base.specs.MemoryNames.{memory_name}
 use Rattle.nv_memtext.specs.OutcomeText.{write_line}
 use Rattle.nv_memtext.proofs.PrintLemmas.{join3, words_line}

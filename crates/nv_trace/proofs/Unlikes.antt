@@ -5,7 +5,7 @@ use Rattle.std.proofs.lemmas.Bool.{cases_lt}
 use Rattle.std.proofs.lemmas.Grind.{take_at_read}
 use Rattle.std.proofs.lemmas.List.{get_or-map, length-map}
 use Rattle.std.proofs.lemmas.Option.{same_Some, slice_get-get_or}
-use Rattle.nv_values.specs.declared.trace.Made as code
+use Rattle.nv_meaning_values.specs.declared.trace.Made as code
 use Rattle.nv_base.specs.declared.outcome.Write.{Write}
 use Rattle.nv_base.specs.declared.term.Mem.{Mem}
 use Rattle.nv_trace.specs.Unlike.{IsFirstUnlike, AgreeAsFar}

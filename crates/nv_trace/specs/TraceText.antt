@@ -1,9 +1,9 @@
 -- The text of the writes of a trace.
 use Rattle.std.specs.Prelude.{ℕ, ◌==◌, List, [], ◌∷◌, ◌++◌, Option, Some, None, length, map, codes, decimal, if◌then◌else◌}
 use Rattle.std.specs.List.{flat_map}
-use Rattle.line_text.specs.Line.{text_of}
-use Rattle.line_text.specs.LineColumn.{line_at}
-use Rattle.nv_values.specs.Running.{Made}
+use Rattle.nv_lines.specs.Line.{text_of}
+use Rattle.nv_lines.specs.LineColumn.{line_at}
+use Rattle.nv_meaning_values.specs.Running.{Made}
 use Rattle.nv_memtext.specs.OutcomeText.{write_line}
 
 -- the line of the source on which the statement of a write begins

@@ -7,6 +7,6 @@ mod unlike;
 
 pub use lines::line_of;
 pub use nv_meaning::traced;
-pub use nv_values::{Made, Trace};
+pub use nv_meaning_values::{Made, Trace};
 pub use text::trace_text;
 pub use unlike::compare;

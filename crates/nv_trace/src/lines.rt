@@ -1,7 +1,7 @@
 // Lines of a text.
 
 ghost use Rattle.std.specs.Prelude.{◌≡◌, ◌<◌, ◌≤◌, ◌^◌, ◌-◌, length};
-ghost use Rattle.line_text.specs.LineColumn.{line_at};
+ghost use Rattle.nv_lines.specs.LineColumn.{line_at};
 
 /// The line of the byte at a place, counted from 1.
 pub fn line_of(bytes: &[u8], at: u32) -> u32
@@ -9,5 +9,5 @@ pub fn line_of(bytes: &[u8], at: u32) -> u32
     requires small { at < 2 ^ 32 - 1 }
     ensures { result ≡ line_at bytes.now at }
 {
-    line_text::line_of(bytes, at as usize) as u32
+    nv_lines::line_of(bytes, at as usize) as u32
 }

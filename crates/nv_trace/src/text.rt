@@ -2,17 +2,17 @@
 
 ghost use Rattle.std.specs.Prelude.{◌≡◌, ◌-◌, ◌<◌, ◌≤◌, ◌^◌, ◌++◌, ◌∷◌, List, ℕ, [], length, map, take, IfOk, OnOk};
 ghost use Rattle.std.specs.List.{flat_map};
-ghost use Rattle.line_text.specs.LineColumn.{line_at};
-ghost use Rattle.nv_values.specs.Chains.{made_in, trail_of};
+ghost use Rattle.nv_lines.specs.LineColumn.{line_at};
+ghost use Rattle.nv_meaning_values.specs.Chains.{made_in, trail_of};
 ghost use Rattle.nv_memtext.specs.OutcomeText.{write_line};
 ghost use Rattle.nv_trace.specs.TraceText.{made_line, up_to_line, shown, trace_text as text_of_writes};
 
 use crate::lines::line_of;
-use line_text::push_decimal;
 use nv_ast::{Name, Span};
 use nv_base::{NoMemory, Write};
+use nv_lines::push_decimal;
+use nv_meaning_values::{Made, Trace};
 use nv_memtext::push_words;
-use nv_values::{Made, Trace};
 use std::alloc::{AllocError, Global};
 
 /// The text of the first writes of a trace of this source, at most so many; where a line is given,

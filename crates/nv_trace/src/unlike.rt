@@ -4,7 +4,7 @@ ghost use Rattle.std.specs.Prelude.{◌≡◌, ◌↔◌, IsTrue, IfSome, IfNone
 ghost use Rattle.nv_trace.specs.Unlike.{IsFirstUnlike, AgreeAsFar};
 
 use nv_base::{Write, WriteLog};
-use nv_values::Trace;
+use nv_meaning_values::Trace;
 
 /// The first place that both keep at which their writes differ.
 pub fn compare(t: &Trace, log: &WriteLog) -> Option<u32>

@@ -6,10 +6,10 @@ use Rattle.nv_ast.specs.Sizes.{expanded_size, room}
 use Rattle.nv_ast.specs.Accepted.{IsAccepted}
 use Rattle.nv_ast.proofs.RoomInSize.{room_bounded}
 use Rattle.nv_types.specs.declared.main_sizes.Sizes.{Sizes}
-use Rattle.type_table.specs.inner.Cells.{still}
-use Rattle.type_costs.specs.declared.error.TypeError.{TypeError}
-use Rattle.type_costs.specs.declared.error.TypeError.TheVariants.{NoMemory, Fault, TooLarge}
-use Rattle.type_costs.specs.inner.Faulty.{IsFirstOf}
+use Rattle.nv_types_table.specs.inner.Cells.{still}
+use Rattle.nv_types_table.specs.declared.error.TypeError.{TypeError}
+use Rattle.nv_types_table.specs.declared.error.TypeError.TheVariants.{NoMemory, Fault, TooLarge}
+use Rattle.nv_types_table.specs.inner.Faulty.{IsFirstOf}
 use Rattle.nv_types.specs.Refusals.{IsRefusal}
 use Rattle.nv_types.specs.inner.Measuring.{IsSized, main_need}
 

@@ -7,17 +7,17 @@ use Rattle.nv_ast.specs.Scope.{Signature, callable, plain_tys}
 use Rattle.nv_ast.specs.Faults.{main_name}
 use Rattle.nv_ast.specs.Sizes.{GroupNumbers, signature_words}
 use Rattle.nv_ast.proofs.TypeWords.{plain_words}
-use Rattle.type_costs.specs.declared.cost.Cost.{Cost}
-use Rattle.type_table.specs.declared.table.Facts.{Facts}
-use Rattle.type_scopes.specs.declared.functions.Function.{Function}
-use Rattle.type_scopes.specs.declared.functions.Checker.{Checker}
-use Rattle.type_table.specs.inner.Cells.{still}
-use Rattle.type_table.specs.inner.Knowing.{AreKnown}
-use Rattle.type_table.specs.inner.Store.{IsParts}
-use Rattle.type_scopes.specs.inner.Standing.{Alike, IsFunction}
+use Rattle.nv_types_table.specs.declared.cost.Cost.{Cost}
+use Rattle.nv_types_table.specs.declared.table.Facts.{Facts}
+use Rattle.nv_types_scopes.specs.declared.functions.Function.{Function}
+use Rattle.nv_types_scopes.specs.declared.functions.Checker.{Checker}
+use Rattle.nv_types_table.specs.inner.Cells.{still}
+use Rattle.nv_types_table.specs.inner.Knowing.{AreKnown}
+use Rattle.nv_types_table.specs.inner.Store.{IsParts}
+use Rattle.nv_types_scopes.specs.inner.Standing.{Alike, IsFunction}
 use Rattle.nv_types.specs.inner.Finding.{FindsMain}
-use Rattle.type_scopes.proofs.Alikes.{Both, alike_at, among_look_up}
-use Rattle.type_scopes.proofs.Groups.{known_names, own_none}
+use Rattle.nv_types_scopes.proofs.Alikes.{Both, alike_at, among_look_up}
+use Rattle.nv_types_scopes.proofs.Groups.{known_names, own_none}
 
 value_alike : (f : Cost → ℕ) (costs : List (List ℕ × Cost)) (sizes : GroupNumbers) → Alike (λ (cost : Cost) n. f cost ≡ still n) costs sizes → (x : List ℕ) (cost : Cost) → look_up x costs ≡ Some cost → f cost ≡ still (value_at 0 x sizes)
 value_alike f [] [] h x cost e = absurd (none-some cost e)

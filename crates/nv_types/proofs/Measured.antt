@@ -6,20 +6,20 @@ use Rattle.nv_ast.specs.Tests.{is_among, names_of, where_true}
 use Rattle.nv_ast.specs.Scope.{Known, nothing_known, known_after, in_group}
 use Rattle.nv_ast.specs.Faults.{main_name, at_span, decl_faults, decls_faults, known_behind, no_main, program_faults, IsTyped}
 use Rattle.nv_ast.specs.Sizes.{GroupNumbers, numbered, group_size, group_need, sizes_behind, needs_behind, main_words}
-use Rattle.type_costs.specs.declared.error.TypeError.{TypeError}
-use Rattle.type_costs.specs.declared.error.TypeError.TheVariants.{Fault}
-use Rattle.type_scopes.specs.declared.functions.Checker.{Checker}
+use Rattle.nv_types_table.specs.declared.error.TypeError.{TypeError}
+use Rattle.nv_types_table.specs.declared.error.TypeError.TheVariants.{Fault}
+use Rattle.nv_types_scopes.specs.declared.functions.Checker.{Checker}
 use Rattle.nv_types.specs.declared.main_sizes.Sizes.{Sizes}
-use Rattle.type_costs.specs.inner.Faulty.{IsFirstOf}
-use Rattle.type_table.specs.inner.Cells.{still}
-use Rattle.type_costs.specs.declared.cost.Cost.{Cost}
-use Rattle.type_scopes.specs.inner.Standing.{IsFunction, Counts}
-use Rattle.type_scopes.specs.inner.Declarations.{Between, Started, ChecksDecl, ChecksDecls}
+use Rattle.nv_types_table.specs.inner.Faulty.{IsFirstOf}
+use Rattle.nv_types_table.specs.inner.Cells.{still}
+use Rattle.nv_types_table.specs.declared.cost.Cost.{Cost}
+use Rattle.nv_types_scopes.specs.inner.Standing.{IsFunction, Counts}
+use Rattle.nv_types_scopes.specs.inner.Declarations.{Between, Started, ChecksDecl, ChecksDecls}
 use Rattle.nv_types.specs.inner.Finding.{FindsMain}
 use Rattle.nv_types.specs.inner.Measuring.{IsSized, Measures}
-use Rattle.type_scopes.proofs.Alikes.{alike_nothing}
-use Rattle.type_scopes.proofs.Standings.{nothing_seen}
-use Rattle.type_costs.proofs.Firsts.{first_append}
+use Rattle.nv_types_scopes.proofs.Alikes.{alike_nothing}
+use Rattle.nv_types_scopes.proofs.Standings.{nothing_seen}
+use Rattle.nv_types_table.proofs.Firsts.{first_append}
 use Rattle.nv_ast.proofs.MainWords.{main_narrow}
 
 behind_more : (k : Known) (done : List DeclTree) (d : DeclTree) → known_behind k (done ++ d ∷ []) ≡ known_after (known_behind k done) d

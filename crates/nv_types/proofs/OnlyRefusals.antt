@@ -5,8 +5,8 @@ use Rattle.nv_ast.specs.Tree.{ProgramTree}
 use Rattle.nv_ast.specs.Faults.{Fault as FaultAt, IsTyped, IsFault}
 use Rattle.nv_ast.specs.Sizes.{expanded_size}
 use Rattle.nv_ast.specs.Accepted.{IsAccepted}
-use Rattle.type_costs.specs.declared.error.TypeError.{TypeError}
-use Rattle.type_costs.specs.declared.error.TypeError.TheVariants.{NoMemory, Fault, TooLarge}
+use Rattle.nv_types_table.specs.declared.error.TypeError.{TypeError}
+use Rattle.nv_types_table.specs.declared.error.TypeError.TheVariants.{NoMemory, Fault, TooLarge}
 use Rattle.nv_types.specs.Refusals.{IsRefusal}
 
 pub typed_faultless : (p : ProgramTree) (kind : ℕ) (place : Span) → IsTyped p → IsFault p kind place → ⊥

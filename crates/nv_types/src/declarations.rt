@@ -3,15 +3,15 @@
 ghost use Rattle.std.specs.Prelude.{map};
 ghost use Rattle.nv_ast.specs.ProgramView.{fun_tree, decl_tree};
 ghost use Rattle.nv_ast.specs.Tree.{GroupDecl};
-ghost use Rattle.type_scopes.specs.inner.Declarations.{ChecksDecl, ChecksDecls, SignsAll, ChecksBody, ChecksBodies};
+ghost use Rattle.nv_types_scopes.specs.inner.Declarations.{ChecksDecl, ChecksDecls, SignsAll, ChecksBody, ChecksBodies};
 
 use crate::signatures::signature;
 use crate::walk::expr;
 use nv_ast::{Decl, Fun};
-use type_costs::cost::Cost;
-use type_costs::error::TypeError;
-use type_scopes::expected::Expected;
-use type_scopes::functions::Checker;
+use nv_types_scopes::expected::Expected;
+use nv_types_scopes::functions::Checker;
+use nv_types_table::cost::Cost;
+use nv_types_table::error::TypeError;
 
 /// Declarations in order, each of which is known to the later ones.
 pub fn declarations<'a>(checker: &mut Checker<'a>, ds: &'a [Decl]) -> Result<(), TypeError>

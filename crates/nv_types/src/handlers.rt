@@ -5,16 +5,16 @@ ghost use Rattle.nv_ast.specs.Tree.{Tree, TryTree};
 ghost use Rattle.nv_ast.specs.Types.{Ty};
 ghost use Rattle.nv_ast.specs.Faults.{same_as};
 ghost use Rattle.nv_ast.specs.PatternView.{list_patterns};
-ghost use Rattle.type_table.specs.inner.Store.{Store, IsValue};
-ghost use Rattle.type_scopes.specs.declared.expected.Expected.TheVariants.{Anything};
-ghost use Rattle.type_scopes.specs.inner.Judging.{IsExpected};
-ghost use Rattle.type_scopes.specs.inner.Patterns.{BindsHandler};
-ghost use Rattle.type_scopes.specs.inner.Walk.{Checks};
+ghost use Rattle.nv_types_table.specs.inner.Store.{Store, IsValue};
+ghost use Rattle.nv_types_scopes.specs.declared.expected.Expected.TheVariants.{Anything};
+ghost use Rattle.nv_types_scopes.specs.inner.Judging.{IsExpected};
+ghost use Rattle.nv_types_scopes.specs.inner.Patterns.{BindsHandler};
+ghost use Rattle.nv_types_scopes.specs.inner.Walk.{Checks};
 
 use nv_ast::{Expr, Name, Pat, Span};
-use type_costs::error::TypeError;
-use type_scopes::expected::Expected;
-use type_scopes::functions::{Checker, TypedExpr};
+use nv_types_scopes::expected::Expected;
+use nv_types_scopes::functions::{Checker, TypedExpr};
+use nv_types_table::error::TypeError;
 
 /// A try whose body and patterns have no fault: its handler and what is wanted of that, the types at which the
 /// patterns are bound, and what the body gave.

@@ -3,15 +3,15 @@
 ghost use Rattle.std.specs.Prelude.{◌≡◌, false, length};
 ghost use Rattle.nv_ast.specs.Tree.{Tree, LetStatement};
 ghost use Rattle.nv_ast.specs.PatternView.{pattern_tree};
-ghost use Rattle.type_scopes.specs.declared.expected.Expected.TheVariants.{Value};
-ghost use Rattle.type_scopes.specs.inner.Standing.{written_in};
-ghost use Rattle.type_scopes.specs.inner.Walk.{Checks};
-ghost use Rattle.type_scopes.specs.inner.Blocks.{ChecksStatement};
+ghost use Rattle.nv_types_scopes.specs.declared.expected.Expected.TheVariants.{Value};
+ghost use Rattle.nv_types_scopes.specs.inner.Standing.{written_in};
+ghost use Rattle.nv_types_scopes.specs.inner.Walk.{Checks};
+ghost use Rattle.nv_types_scopes.specs.inner.Blocks.{ChecksStatement};
 
 use nv_ast::{Pat, Span};
-use type_costs::error::TypeError;
-use type_costs::needs::Step;
-use type_scopes::functions::{Checker, TypedExpr};
+use nv_types_scopes::functions::{Checker, TypedExpr};
+use nv_types_table::error::TypeError;
+use nv_types_table::needs::Step;
 
 /// A let with what its value gave, in front of which `before` variables were written: the statement's step and its
 /// expanded size. A fault of the value counts before one of the pattern.

@@ -11,5 +11,5 @@ pub mod signatures;
 mod walk;
 
 pub use limits::fitting_size;
+pub use nv_types_table::error::TypeError;
 pub use program::check;
-pub use type_costs::error::TypeError;

@@ -2,7 +2,7 @@
 
 ghost use Rattle.std.specs.Prelude.{◌≡◌, ◌<◌, ◌≤◌, IfOk, IfErr};
 
-use type_costs::error::TypeError;
+use nv_types_table::error::TypeError;
 
 /// The greatest expanded size of a program that is accepted.
 const LARGEST: u32 = 4096;

@@ -5,8 +5,8 @@ ghost use Rattle.nv_ast.specs.Faults.{main_name};
 ghost use Rattle.nv_types.specs.inner.Finding.{FindsMain};
 
 use nv_ast::{Name, Span};
-use type_costs::error::TypeError;
-use type_scopes::functions::Checker;
+use nv_types_scopes::functions::Checker;
+use nv_types_table::error::TypeError;
 
 /// The sizes of a program.
 #[derive(Clone, Copy)]

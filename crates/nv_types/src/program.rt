@@ -9,16 +9,16 @@ ghost use Rattle.nv_ast.specs.Sizes.{expanded_size, room as room_of};
 ghost use Rattle.nv_ast.specs.Accepted.{IsAccepted};
 ghost use Rattle.nv_types.specs.Refusals.{IsRefusal};
 ghost use Rattle.nv_types.specs.inner.Measuring.{IsSized, Measures};
-ghost use Rattle.type_costs.specs.inner.Faulty.{Judges};
+ghost use Rattle.nv_types_table.specs.inner.Faulty.{Judges};
 
 use crate::declarations::declarations;
 use crate::limits::fitting_size;
 use crate::main_sizes::{Sizes, sizes_of_main};
 use nv_ast::{Name, Program, Span, Typed};
+use nv_types_scopes::functions::Checker;
+use nv_types_scopes::heads::MAIN;
+use nv_types_table::error::TypeError;
 use std::alloc::Global;
-use type_costs::error::TypeError;
-use type_scopes::functions::Checker;
-use type_scopes::heads::MAIN;
 
 /// The program as a typed one, with its sizes.
 ///

@@ -1,11 +1,11 @@
 //! The types in the texts of functions.
 
 ghost use Rattle.nv_ast.specs.ProgramView.{fun_tree};
-ghost use Rattle.type_scopes.specs.inner.Declarations.{SignsFunction};
+ghost use Rattle.nv_types_scopes.specs.inner.Declarations.{SignsFunction};
 
 use nv_ast::Fun;
-use type_costs::error::TypeError;
-use type_scopes::functions::{Checker, Function};
+use nv_types_scopes::functions::{Checker, Function};
+use nv_types_table::error::TypeError;
 
 /// The types in a function's text; 9: two parameters of one name. That counts before a main of other words than it
 /// may have.

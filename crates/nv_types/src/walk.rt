@@ -4,23 +4,23 @@ ghost use Rattle.std.specs.Prelude.{false};
 ghost use Rattle.nv_ast.specs.ExprView.{tree_of, list_trees, list_named_trees, list_statements, statement_tree};
 ghost use Rattle.nv_ast.specs.Tree.{TupleTree, FieldsTree, DotTree, BinaryTree, ShiftTree, CallTree, UnpackTree, PackTree, RaiseTree, IfTree, TryTree, FetchTree, BlockTree, LetStatement, StoreStatement};
 ghost use Rattle.nv_ast.specs.PatternView.{pattern_tree, list_patterns};
-ghost use Rattle.type_scopes.specs.inner.Walk.{Checks, ChecksAll};
-ghost use Rattle.type_scopes.specs.inner.Blocks.{ChecksStatement};
+ghost use Rattle.nv_types_scopes.specs.inner.Walk.{Checks, ChecksAll};
+ghost use Rattle.nv_types_scopes.specs.inner.Blocks.{ChecksStatement};
 
 use crate::handlers::open_handler;
 use crate::lets::let_value;
 use nv_ast::{Expr, Kind, Name, Op, Pat, ShiftOp, Span, Stmt};
 use nv_base::Mem;
-use type_costs::cost::Cost;
-use type_costs::error::{TypeError, fault_where};
-use type_costs::needs::Step;
-use type_scopes::expected::Expected;
-use type_scopes::functions::{Checker, TypedExpr};
-use type_scopes::nodes::{
+use nv_types_scopes::expected::Expected;
+use nv_types_scopes::functions::{Checker, TypedExpr};
+use nv_types_scopes::nodes::{
     called_cost, can_move, field_cost, is_in_reach, is_outside, kind_where, operand_type,
     result_type,
 };
-use type_table::table::{BOOL, WORD};
+use nv_types_table::cost::Cost;
+use nv_types_table::error::{TypeError, fault_where};
+use nv_types_table::needs::Step;
+use nv_types_table::table::{BOOL, WORD};
 
 /// An expression, in tail position or not, of which something is wanted. First its parts from left to
 /// right, then the expression itself.

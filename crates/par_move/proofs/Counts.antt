@@ -3,7 +3,7 @@ use Rattle.std.proofs.Common.{◌≡◌, ℕ, zero, suc, ◌+◌, ◌<◌, ◌�
 use Rattle.std.proofs.lemmas.Bool.{eqb-true, eq-eqb, ne_eqb, false≢true, cases_lt}
 use Rattle.std.proofs.lemmas.List.Sums.{sum_by-cons, sum_by-set, get_or-le-sum_by}
 use Rattle.std.proofs.lemmas.List.{get_or_past}
-use Rattle.placement.specs.declared.place.Place.{Place}
+use Rattle.place_plan.specs.declared.place.Place.{Place}
 use Rattle.par_move.specs.inner.Pending.{number, Table, source_at, reads, readings, pending_count, IsPending}
 
 -- 1 where a test holds, else 0

@@ -2,7 +2,7 @@
 use Rattle.std.proofs.Common.{◌≡◌, ◌≢◌, ℕ, zero, suc, ◌+◌, ◌<◌, ◌-◌, true, nat_eq, ◌⊎◌, Option, Some, None, is_some, List, [], ◌∷◌, ◌++◌, length, get_or, set, slice_index, replicate, IfSome, refl, sym, ap, subst, ◌∙◌, inl, inr, ⊎_elim, append_assoc, arith}
 use Rattle.std.proofs.lemmas.Bool.{eq-eqb, ne_eqb, false≢true, cases_eq}
 use Rattle.std.proofs.lemmas.List.{get_or-set_same, get_or-set_other, length-set, length-replicate, get_or-replicate}
-use Rattle.placement.specs.declared.place.Place.{Place}
+use Rattle.place_plan.specs.declared.place.Place.{Place}
 use Rattle.par_move.specs.Moves.{Move, Words, temporary, put, one_by_one, StandFor}
 use Rattle.par_move.specs.inner.Pending.{number, numbers, Table, source_at, reads, readings, pending_count, AreApart, word_from, Counted, Stands}
 use Rattle.par_move.proofs.Counts.{one_if, count-cons, count-set, read-by-one, within-table}

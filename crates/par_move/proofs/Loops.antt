@@ -2,7 +2,7 @@
 use Rattle.std.proofs.Common.{◌≡◌, ℕ, ◌+◌, ◌*◌, ◌<◌, ◌≤◌, Some, None, is_some, List, [], ◌∷◌, ◌++◌, length, get_or, set, drop, sym, ap, subst, ◌∙◌, inl, inr, arith}
 use Rattle.std.proofs.lemmas.Bool.{false≢true}
 use Rattle.std.proofs.lemmas.List.{drop_more, drop_all}
-use Rattle.placement.specs.declared.place.Place.{Place}
+use Rattle.place_plan.specs.declared.place.Place.{Place}
 use Rattle.par_move.specs.declared.pending.Pending.{Pending}
 use Rattle.par_move.specs.Moves.{Move, HaveOwnTargets, SpareTemporary, temporary}
 use Rattle.par_move.specs.inner.Pending.{number, Table, source_at, readings, pending_count, HasTarget, Counted, Stands, GoTo, FreeGoTo, Ran, Turned, Begun}

@@ -2,7 +2,7 @@
 use Rattle.std.proofs.Common.{◌≡◌, ◌≢◌, ℕ, ◌+◌, ◌<◌, ◌≤◌, ◌⊎◌, Option, Some, None, is_some, Result, Ok, Err, IfOk, List, [], ◌∷◌, ◌++◌, set, refl, sym, ap, subst, ◌∙◌, inl, inr, ⊎_elim, arith}
 use Rattle.std.proofs.lemmas.Bool.{false≢true, cases_eq, cases_lt}
 use Rattle.std.proofs.lemmas.List.{length_push}
-use Rattle.placement.specs.declared.place.Place.{Place}
+use Rattle.place_plan.specs.declared.place.Place.{Place}
 use Rattle.par_move.specs.Moves.{Move, temporary}
 use Rattle.par_move.specs.inner.Pending.{number, Table, source_at, readings, pending_count, IsPending, HasTarget, FreeGoTo, Ran, Turned}
 use Rattle.par_move.proofs.Numbers.{number-injective}

@@ -2,9 +2,9 @@
 use Rattle.std.proofs.Common.{◌≡◌, ◌≢◌, ℕ, zero, suc, ◌+◌, ◌<◌, ◌≤◌, Bool, true, false, if◌then◌else◌, Option, Some, None, is_some, List, [], ◌∷◌, ◌++◌, length, get_or, set, take, refl, sym, ap, subst, ◌∙◌, inl, inr, ⊎_elim, arith}
 use Rattle.std.proofs.lemmas.Bool.{false≢true, cases_eq, cases_lt}
 use Rattle.std.proofs.lemmas.List.{take_more, take_all, get_or_read, append-nil}
-use Rattle.placement.specs.declared.place.Place.{Place}
-use Rattle.placement.specs.Places.{same_place}
-use Rattle.placement.proofs.Places.{same_place-true, same_place-from, same_place-false}
+use Rattle.place_plan.specs.declared.place.Place.{Place}
+use Rattle.place_plan.specs.Places.{same_place}
+use Rattle.place_plan.proofs.Places.{same_place-true, same_place-from, same_place-false}
 use Rattle.par_move.specs.Moves.{Move, Words, temporary, put, one_by_one, all_at_once, HaveOwnTargets, SpareTemporary, IsNoTarget, StandFor}
 use Rattle.par_move.specs.Moves as moves
 use Rattle.par_move.specs.inner.Pending.{number, numbers, Table, source_at, readings, pending_count, IsPending, HasTarget, AreApart, word_from, left_by, StandForRest, Counted, Stands, GoTo, FreeGoTo, source_of, Begun}

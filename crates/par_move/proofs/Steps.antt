@@ -2,9 +2,9 @@
 use Rattle.std.proofs.Common.{◌≡◌, ◌≢◌, ℕ, ◌<◌, Bool, true, false, if◌then◌else◌, ◌⊎◌, Option, Some, None, is_some, List, [], ◌∷◌, ◌++◌, length, set, refl, sym, ap, subst, ◌∙◌, inl, inr}
 use Rattle.std.proofs.lemmas.Bool.{false≢true}
 use Rattle.std.proofs.lemmas.List.{get_or-set_same, get_or-set_other}
-use Rattle.placement.specs.declared.place.Place.{Place}
-use Rattle.placement.specs.Places.{same_place}
-use Rattle.placement.proofs.Places.{same_place-true, same_place-from, same_place-false}
+use Rattle.place_plan.specs.declared.place.Place.{Place}
+use Rattle.place_plan.specs.Places.{same_place}
+use Rattle.place_plan.proofs.Places.{same_place-true, same_place-from, same_place-false}
 use Rattle.par_move.specs.Moves.{Move, Words, temporary, put, one_by_one}
 use Rattle.par_move.specs.inner.Pending.{number, numbers, Table, source_at, reads, readings, pending_count, IsPending, HasTarget, AreApart, word_from, left_by, StandForRest, Counted, Stands, GoTo, FreeGoTo, Ran}
 use Rattle.par_move.specs.inner.Pending as inner

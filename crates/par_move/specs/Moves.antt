@@ -1,8 +1,8 @@
 -- Moves of words between places: what they do all at once, what they do one by one, and which single moves stand for them.
 use Rattle.std.specs.Prelude.{◌≢◌, ℕ, List, [], ◌∷◌, ◌++◌, if◌then◌else◌, All, AllPairs}
-use Rattle.placement.specs.declared.place.Place.{Place}
-use Rattle.placement.specs.declared.place.Place.TheVariants.{A}
-use Rattle.placement.specs.Places.{same_place}
+use Rattle.place_plan.specs.declared.place.Place.{Place}
+use Rattle.place_plan.specs.declared.place.Place.TheVariants.{A}
+use Rattle.place_plan.specs.Places.{same_place}
 
 -- a move of a word: from the first place to the second
 abbrev pub Move : Type 0

@@ -2,12 +2,12 @@
 
 ghost use Rattle.std.specs.Prelude.{ℕ, ◌≡◌, ◌≢◌, ◌+◌, ◌*◌, ◌≤◌, [], IfOk, length};
 ghost use Rattle.par_move.specs.Moves.{Words, HaveOwnTargets, SpareTemporary, IsNoTarget, StandFor, all_at_once, one_by_one, temporary};
-ghost use Rattle.placement.specs.declared.place.Place as places;
+ghost use Rattle.place_plan.specs.declared.place.Place as places;
 ghost use Rattle.par_move.specs.inner.Pending.{Counted, Stands, FreeGoTo, GoTo, pending_count};
 
 use crate::pending::Pending;
 use nv_base::NoMemory;
-use placement::Place;
+use place_plan::Place;
 use std::alloc::Global;
 
 /// Does the moves that no cycle holds up.

@@ -6,7 +6,7 @@ ghost use Rattle.par_move.specs.inner.Pending as inner;
 ghost use Rattle.par_move.specs.inner.Pending.{source_at, readings, pending_count, numbers, AreApart, IsPending, Counted, Stands, GoTo, FreeGoTo, Ran, Turned};
 
 use nv_base::NoMemory;
-use placement::Place;
+use place_plan::Place;
 use std::alloc::Global;
 
 /// The compiler's own register.

@@ -11,21 +11,21 @@ use Rattle.ssu_ir.specs.Points as pure
 use Rattle.ssu_ir.specs.Points.{Point, points, IsLive}
 use Rattle.ssu_ir.specs.Single.{single}
 use Rattle.ssu_ir.proofs.Liveness.{points_held}
-use Rattle.placement.specs.declared.place.Pass.{Pass}
-use Rattle.placement.specs.Plan.{Home, Plan}
-use Rattle.placement.specs.Uses.{accesses, Value, place_values, values, reads_at, place_accesses, uses}
-use Rattle.placement.specs.Fits.{IsHoused, wants_home, IsServed, KeepsRead, FitsAt, at_operand, use_operand, Fits}
+use Rattle.place_plan.specs.declared.place.Pass.{Pass}
+use Rattle.place_plan.specs.Plan.{Home, Plan}
+use Rattle.place_plan.specs.Uses.{accesses, Value, place_values, values, reads_at, place_accesses, uses}
+use Rattle.place_plan.specs.Fits.{IsHoused, wants_home, IsServed, KeepsRead, FitsAt, at_operand, use_operand, Fits}
 use Rattle.ssu_liveness.specs.inner.Numbers.{values_among}
-use Rattle.placement_checks.specs.inner.NodeLookups.{nowhere, place_at, place_node, value_in}
-use Rattle.placement.specs.Order.{IsInOrder}
-use Rattle.placement.proofs.Ordered.{lists-in-order}
-use Rattle.placement_checks.specs.inner.Checks.{all_below, has_home, value_fits, access_fits, live_fits, keeps_read, word_fits, operands_fit, passes_fit, point_fits, rise, is_wanted, firsts_fit, serves_fit, is_there, lists_fit, use_fits, does_fit, found}
+use Rattle.place_ir_checks.specs.inner.NodeLookups.{nowhere, place_at, place_node, value_in}
+use Rattle.place_plan.specs.Order.{IsInOrder}
+use Rattle.place_plan.proofs.Ordered.{lists-in-order}
+use Rattle.place_ir_checks.specs.inner.Checks.{all_below, has_home, value_fits, access_fits, live_fits, keeps_read, word_fits, operands_fit, passes_fit, point_fits, rise, is_wanted, firsts_fit, serves_fit, is_there, lists_fit, use_fits, does_fit, found}
 use Rattle.ssu_liveness.proofs.Scoped.{in-itself, in-either}
-use Rattle.placement.proofs.Sound.{Each, entry_params, Sound, uses_among, sound-points}
-use Rattle.placement.proofs.Spilled.{each-all, all-each, each-at, each-weaker, used-wanted, param_vars, params-wanted}
-use Rattle.placement.proofs.Fitting.{uses-are, values-are, entries-in, each-values, values-part, each-accesses, accesses-part}
-use Rattle.placement_checks.proofs.Recovered.{named-points, serves-listed, listed-serves, found-uses}
-use Rattle.placement_checks.proofs.Valued.{each-of, of-each, IsPlaced, placed-from, placed-to}
+use Rattle.place_plan.proofs.Sound.{Each, entry_params, Sound, uses_among, sound-points}
+use Rattle.place_plan.proofs.Spilled.{each-all, all-each, each-at, each-weaker, used-wanted, param_vars, params-wanted}
+use Rattle.place_plan.proofs.Fitting.{uses-are, values-are, entries-in, each-values, values-part, each-accesses, accesses-part}
+use Rattle.place_ir_checks.proofs.Recovered.{named-points, serves-listed, listed-serves, found-uses}
+use Rattle.place_ir_checks.proofs.Valued.{each-of, of-each, IsPlaced, placed-from, placed-to}
 use Rattle.place_ir.proofs.Ruled.{rise-from, rise-to, wanting, wanted-from, wanted-to, firsts-from, firsts-to, HasFirst, access-from, access-to, served-from, served-to}
 use Rattle.place_ir.proofs.Pointed.{Known, at-home, held-from, held-to, reads-from, reads-to, waiting-from, waiting-to, operands-from, operands-to, passes-from, passes-to, place-is}
 

@@ -14,24 +14,24 @@ use Rattle.ssu_ir.specs.Tree.{Lit, Una, Bin, Clone, Read, Write, Jump, Halt, Lab
 use Rattle.ssu_ir.specs.Points as pure
 use Rattle.ssu_ir.specs.Points.{PointKind as Spot, Entry, At, Point, points}
 use Rattle.ssu_ir.specs.Single.{single}
-use Rattle.placement.specs.declared.place.Place.{Place}
-use Rattle.placement.specs.declared.place.Place.TheVariants.{A, B, L, LD, S, SD, Slot}
-use Rattle.placement.specs.Places.{same_place}
-use Rattle.placement.specs.Plan.{Home, Plan, home, first, serve, pass}
-use Rattle.placement.specs.Uses.{ValueOrigin, Parameter, Fetched, Value, numbered, place_values, reads_at, writes_at, Role, Argument, Ending, roles, place_roles, Use, uses_at, uses, is_used}
-use Rattle.placement.specs.Fits as rules
-use Rattle.placement.specs.Fits.{read_place, write_place, is_general, is_slot, is_read_register, served, word_register, is_early, has_place, none_shared, general_places, read_places, kept_register, maybe, run_of, is_waiting, same_use, IsEighth, KeepsHeld, point_values, KeepsRead, Waits, KeepsWaiting, AreApart, comes_to_slot, PassesSlots}
-use Rattle.placement_checks.specs.inner.NodeLookups.{place_at, below_at, place_node}
-use Rattle.placement_checks.specs.inner.Checks as checks
-use Rattle.placement_checks.specs.inner.Checks.{is_within, in_read_run, in_write_run, used, is_known, is_before, is_after, has_home, general_apart, values_apart, may_meet, goes_through, passes_by, live_fits, spares, keeps_read, waits, is_written, is_free, is_other, word_fits, operands_fit, has_use, any_from_slot, reads_slot, reads_fit, is_result, to_slot, writes_fit, passes_fit, found}
-use Rattle.placement.proofs.Places.{same_place-true, same_place-from, same_place-false}
+use Rattle.place_plan.specs.declared.place.Place.{Place}
+use Rattle.place_plan.specs.declared.place.Place.TheVariants.{A, B, L, LD, S, SD, Slot}
+use Rattle.place_plan.specs.Places.{same_place}
+use Rattle.place_plan.specs.Plan.{Home, Plan, home, first, serve, pass}
+use Rattle.place_plan.specs.Uses.{ValueOrigin, Parameter, Fetched, Value, numbered, place_values, reads_at, writes_at, Role, Argument, Ending, roles, place_roles, Use, uses_at, uses, is_used}
+use Rattle.place_plan.specs.Fits as rules
+use Rattle.place_plan.specs.Fits.{read_place, write_place, is_general, is_slot, is_read_register, served, word_register, is_early, has_place, none_shared, general_places, read_places, kept_register, maybe, run_of, is_waiting, same_use, IsEighth, KeepsHeld, point_values, KeepsRead, Waits, KeepsWaiting, AreApart, comes_to_slot, PassesSlots}
+use Rattle.place_ir_checks.specs.inner.NodeLookups.{place_at, below_at, place_node}
+use Rattle.place_ir_checks.specs.inner.Checks as checks
+use Rattle.place_ir_checks.specs.inner.Checks.{is_within, in_read_run, in_write_run, used, is_known, is_before, is_after, has_home, general_apart, values_apart, may_meet, goes_through, passes_by, live_fits, spares, keeps_read, waits, is_written, is_free, is_other, word_fits, operands_fit, has_use, any_from_slot, reads_slot, reads_fit, is_result, to_slot, writes_fit, passes_fit, found}
+use Rattle.place_plan.proofs.Places.{same_place-true, same_place-from, same_place-false}
 use Rattle.ssu_liveness.proofs.Scoped.{in-itself}
-use Rattle.placement.proofs.Sound.{Each, length-of-map}
-use Rattle.placement.proofs.Spilled.{each-all, all-each, none-with-nothing}
-use Rattle.placement.proofs.Fitting.{vars-of-place}
-use Rattle.placement_checks.proofs.Recovered.{Named, names_of, many-names, made, made-point, point-there, named-at, named-points}
-use Rattle.placement_checks.proofs.Seen.{and-nothing, before-is, after-is, known-is, below-at, below-from}
-use Rattle.placement_checks.proofs.Valued.{any-filter, used-is}
+use Rattle.place_plan.proofs.Sound.{Each, length-of-map}
+use Rattle.place_plan.proofs.Spilled.{each-all, all-each, none-with-nothing}
+use Rattle.place_plan.proofs.Fitting.{vars-of-place}
+use Rattle.place_ir_checks.proofs.Recovered.{Named, names_of, many-names, made, made-point, point-there, named-at, named-points}
+use Rattle.place_ir_checks.proofs.Seen.{and-nothing, before-is, after-is, known-is, below-at, below-from}
+use Rattle.place_ir_checks.proofs.Valued.{any-filter, used-is}
 
 -- ---- values that have homes
 

@@ -11,22 +11,22 @@ use Rattle.nv_base.proofs.Sets.{same-number, in-append}
 use Rattle.ssu_ir.specs.Tree.{Lit, Una, Bin, Clone, Read, Write, Label, Does, Forks, Ends}
 use Rattle.ssu_ir.specs.Points as pure
 use Rattle.ssu_ir.specs.Points.{PointKind as Spot, Entry, At, Point, points}
-use Rattle.placement.specs.declared.place.Place.{Place}
-use Rattle.placement.specs.declared.place.Place.TheVariants.{A, B, L, LD, S, SD, Slot}
-use Rattle.placement.specs.declared.place.Serve.{Serve}
-use Rattle.placement.specs.Places.{same_place}
-use Rattle.placement.specs.Plan.{Plan, home, first, pass}
-use Rattle.placement.specs.Uses.{Access, Parameter, Fetched, Value, numbered, place_values, values_from, values, place_accesses, accesses_from, Role, Operand, Address, Written, Argument, Ending, Use, uses, is_used}
-use Rattle.placement.specs.Fits.{Rises, wants_home, IsFirst, is_home, IsOperandAt, IsAddressAt, parameter, IsServedAt, IsServed, served, word_register}
-use Rattle.placement_checks.specs.inner.NodeLookups.{place_at, place_node}
-use Rattle.placement_checks.specs.inner.Checks.{used, rise, is_read, wants_at, is_wanted, is_access, next_is, firsts_fit, is_first, access_fits, is_read_through, is_operand_at, is_address_at, role_fits, use_fits, found}
-use Rattle.placement.proofs.Places.{same_place-true, same_place-from}
+use Rattle.place_plan.specs.declared.place.Place.{Place}
+use Rattle.place_plan.specs.declared.place.Place.TheVariants.{A, B, L, LD, S, SD, Slot}
+use Rattle.place_plan.specs.declared.place.Serve.{Serve}
+use Rattle.place_plan.specs.Places.{same_place}
+use Rattle.place_plan.specs.Plan.{Plan, home, first, pass}
+use Rattle.place_plan.specs.Uses.{Access, Parameter, Fetched, Value, numbered, place_values, values_from, values, place_accesses, accesses_from, Role, Operand, Address, Written, Argument, Ending, Use, uses, is_used}
+use Rattle.place_plan.specs.Fits.{Rises, wants_home, IsFirst, is_home, IsOperandAt, IsAddressAt, parameter, IsServedAt, IsServed, served, word_register}
+use Rattle.place_ir_checks.specs.inner.NodeLookups.{place_at, place_node}
+use Rattle.place_ir_checks.specs.inner.Checks.{used, rise, is_read, wants_at, is_wanted, is_access, next_is, firsts_fit, is_first, access_fits, is_read_through, is_operand_at, is_address_at, role_fits, use_fits, found}
+use Rattle.place_plan.proofs.Places.{same_place-true, same_place-from}
 use Rattle.ssu_liveness.proofs.Scoped.{in-itself}
-use Rattle.placement.proofs.Sound.{Each}
-use Rattle.placement_checks.proofs.Recovered.{point-there}
-use Rattle.placement_checks.proofs.Seen.{below-at, below-from}
-use Rattle.placement_checks.proofs.Valued.{used-is}
-use Rattle.placement_checks.specs.inner.NodeLookups as numbers
+use Rattle.place_plan.proofs.Sound.{Each}
+use Rattle.place_ir_checks.proofs.Recovered.{point-there}
+use Rattle.place_ir_checks.proofs.Seen.{below-at, below-from}
+use Rattle.place_ir_checks.proofs.Valued.{used-is}
+use Rattle.place_ir_checks.specs.inner.NodeLookups as numbers
 
 -- ---- numbers that rise
 

@@ -1,11 +1,11 @@
 -- Small placements, to see the rules at work.
 use Rattle.std.specs.Prelude.{ℕ, Option, List, [], ◌∷◌}
-use Rattle.placement.specs.declared.place.Place.{Place}
-use Rattle.placement.specs.declared.place.Place.TheVariants.{A, B, L, S, Slot}
-use Rattle.placement.specs.declared.place.First.{First}
-use Rattle.placement.specs.declared.place.Serve.{Serve}
-use Rattle.placement.specs.declared.place.Pass.{Pass}
-use Rattle.placement.specs.Plan.{Home, Plan}
+use Rattle.place_plan.specs.declared.place.Place.{Place}
+use Rattle.place_plan.specs.declared.place.Place.TheVariants.{A, B, L, S, Slot}
+use Rattle.place_plan.specs.declared.place.First.{First}
+use Rattle.place_plan.specs.declared.place.Serve.{Serve}
+use Rattle.place_plan.specs.declared.place.Pass.{Pass}
+use Rattle.place_plan.specs.Plan.{Home, Plan}
 
 abbrev pub at_home : ℕ → Place → List Place → Home
 at_home x q copied = record { var = x; defined = q; copied = copied }

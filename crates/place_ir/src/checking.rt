@@ -6,19 +6,19 @@ ghost use Rattle.std.specs.List.{list_all};
 ghost use Rattle.ssu_ir.specs.Points.{points};
 ghost use Rattle.ssu_ir.specs.Single.{single};
 ghost use Rattle.ssu_ir.specs.View.{labels_view};
-ghost use Rattle.placement.specs.Fits.{Fits};
-ghost use Rattle.placement.specs.Order.{IsInOrder};
-ghost use Rattle.placement.specs.Plan.{plan_view};
-ghost use Rattle.placement_checks.specs.inner.Checks as checks;
-ghost use Rattle.placement_checks.specs.inner.Checks.{found};
-ghost use Rattle.placement_checks.specs.inner.NodeLookups.{place_at, place_node};
+ghost use Rattle.place_plan.specs.Fits.{Fits};
+ghost use Rattle.place_plan.specs.Order.{IsInOrder};
+ghost use Rattle.place_plan.specs.Plan.{plan_view};
+ghost use Rattle.place_ir_checks.specs.inner.Checks as checks;
+ghost use Rattle.place_ir_checks.specs.inner.Checks.{found};
+ghost use Rattle.place_ir_checks.specs.inner.NodeLookups.{place_at, place_node};
 
 use crate::keeps::{access_fits, keeps_held, keeps_read, keeps_waiting, operands_fit, passes_fit};
-use placement::{Placement, Serve};
-use placement_checks::pieces::use_count;
-use placement_checks::points::{count, has, node_at, point_id_at, values_at};
-use placement_checks::values::values_fit;
-use placement_checks::words::{is_used, uses_fit};
+use place_ir_checks::pieces::use_count;
+use place_ir_checks::points::{count, has, node_at, point_id_at, values_at};
+use place_ir_checks::values::values_fit;
+use place_ir_checks::words::{is_used, uses_fit};
+use place_plan::{Placement, Serve};
 use ssu_ir::{Ssu, SsuNode};
 
 /// Whether a placement fits a form: whether each value has a home, each access its registers, each use

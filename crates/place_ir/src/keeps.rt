@@ -5,24 +5,24 @@ ghost use Rattle.std.specs.List.{list_all, list_any};
 ghost use Rattle.ssu_ir.specs.Slots.{node_of};
 ghost use Rattle.ssu_ir.specs.Points.{place_values};
 ghost use Rattle.ssu_ir.specs.View.{labels_view};
-ghost use Rattle.placement.specs.Fits as rules;
-ghost use Rattle.placement.specs.Fits.{general_places};
-ghost use Rattle.placement.specs.Order.{IsInOrder};
-ghost use Rattle.placement.specs.Plan.{plan_view};
-ghost use Rattle.placement.specs.inner.UseViews.{use_view};
-ghost use Rattle.placement_checks.specs.inner.Checks as checks;
-ghost use Rattle.placement_checks.specs.inner.Checks.{found, word_place};
-ghost use Rattle.placement_checks.specs.inner.NodeLookups.{place_at, place_node};
+ghost use Rattle.place_plan.specs.Fits as rules;
+ghost use Rattle.place_plan.specs.Fits.{general_places};
+ghost use Rattle.place_plan.specs.Order.{IsInOrder};
+ghost use Rattle.place_plan.specs.Plan.{plan_view};
+ghost use Rattle.place_plan.specs.inner.UseViews.{use_view};
+ghost use Rattle.place_ir_checks.specs.inner.Checks as checks;
+ghost use Rattle.place_ir_checks.specs.inner.Checks.{found, word_place};
+ghost use Rattle.place_ir_checks.specs.inner.NodeLookups.{place_at, place_node};
 
 use nv_base::Mem;
-use placement::{Place, Placement, Use};
-use placement_checks::pieces::use_count;
-use placement_checks::points::{has, is_above, node_at, values_at};
-use placement_checks::registers::{
+use place_ir_checks::pieces::use_count;
+use place_ir_checks::points::{has, is_above, node_at, values_at};
+use place_ir_checks::registers::{
     Word, among, different_groups, has_slot, in_read_run, in_write_run, is_first, is_through,
     same_word,
 };
-use placement_checks::words::{is_below, is_early, is_used, is_used_below, stays, use_of, word_of};
+use place_ir_checks::words::{is_below, is_early, is_used, is_used_below, stays, use_of, word_of};
+use place_plan::{Place, Placement, Use};
 use ssu_ir::{Ssu, SsuNode};
 
 // ---- live values

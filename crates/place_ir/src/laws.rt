@@ -1,20 +1,20 @@
 //! Laws of the definitions in specs/: each is the contract of a function that does nothing.
 
 ghost use Rattle.std.specs.Prelude.{◌≡◌, ◌≤◌, ◌+◌, ℕ, true, Some, None, List, [], ◌∷◌, All, Contains, map, filter};
-ghost use Rattle.placement.specs.Costs.{defined_cost, copied_cost, served_cost};
-ghost use Rattle.placement.specs.Uses.{Parameter, Result};
-ghost use Rattle.placement.specs.declared.place.Place.TheVariants.{A, B, L, S, Slot};
+ghost use Rattle.place_plan.specs.Costs.{defined_cost, copied_cost, served_cost};
+ghost use Rattle.place_plan.specs.Uses.{Parameter, Result};
+ghost use Rattle.place_plan.specs.declared.place.Place.TheVariants.{A, B, L, S, Slot};
 ghost use Rattle.ssu_ir.specs.Examples.{sum_of_two, copied_and_added};
 ghost use Rattle.ssu_ir.specs.Points.{points};
 ghost use Rattle.ssu_ir.specs.Single.{single};
 ghost use Rattle.ssu_ir.specs.Tree.{Label};
 ghost use Rattle.place_ir.specs.Examples.{at_home, serve_at, pass_at, sum_in, sum_through, words_in};
-ghost use Rattle.placement.specs.Fits.{Fits, Rises, wants_home};
-ghost use Rattle.placement.specs.Plan.{Home, Plan};
-ghost use Rattle.placement.specs.Uses.{values};
+ghost use Rattle.place_plan.specs.Fits.{Fits, Rises, wants_home};
+ghost use Rattle.place_plan.specs.Plan.{Home, Plan};
+ghost use Rattle.place_plan.specs.Uses.{values};
 ghost use Rattle.nv_base.specs.Sets.{Within};
 ghost use Rattle.ssu_liveness.specs.inner.Numbers.{Numbers};
-ghost use Rattle.placement.specs.inner.Spilled.{spilled, value_home, AreSpilled, IsNumbered};
+ghost use Rattle.place_plan.specs.inner.Spilled.{spilled, value_home, AreSpilled, IsNumbered};
 
 /// A placement in slots alone fits, where at each point the live values have different slots
 /// among those that may be used.

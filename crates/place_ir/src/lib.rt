@@ -7,8 +7,8 @@ mod keeps;
 mod laws;
 
 pub use checking::fits;
-pub use label_weights::Weights;
-pub use placement::{First, Home, Pass, Place, PlaceError, Placement, Serve, spill_all};
+pub use place_plan::{First, Home, Pass, Place, PlaceError, Placement, Serve, spill_all};
+pub use place_weights::Weights;
 pub use ssu_liveness::{
     Copies, PointId, Slots, copies_of, held, peak, point_ids_of, row_numbers, value_of,
 };

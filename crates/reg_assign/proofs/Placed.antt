@@ -6,26 +6,26 @@ use Rattle.std.proofs.lemmas.List.{at_drop_more, at_drop_all, append-nil}
 use Rattle.ssu_ir.specs.Tree.{Label}
 use Rattle.ssu_ir.specs.Points.{Point, points}
 use Rattle.ssu_ir.specs.Single.{single}
-use Rattle.placement.specs.declared.place.Place.{Place}
-use Rattle.placement.specs.declared.place.First.{First as KeptFirst}
-use Rattle.placement.specs.declared.place.Serve.{Serve}
-use Rattle.placement.specs.declared.place.Pass.{Pass}
-use Rattle.placement.specs.declared.place.Home.{Home as KeptHome}
-use Rattle.placement.specs.declared.place.Placement.{Placement}
-use Rattle.placement.specs.Plan.{Home, Plan, home_view}
-use Rattle.placement.specs.Uses.{Value, accesses, Use, uses, uses_of}
-use Rattle.placement.specs.inner.UseViews.{use_view}
-use Rattle.bank_form.specs.declared.column.Bank.TheVariants.{A, B, M}
-use Rattle.bank_form.specs.declared.form.Value.{Value as KeptValue}
-use Rattle.bank_form.specs.Columns.{each_point}
+use Rattle.place_plan.specs.declared.place.Place.{Place}
+use Rattle.place_plan.specs.declared.place.First.{First as KeptFirst}
+use Rattle.place_plan.specs.declared.place.Serve.{Serve}
+use Rattle.place_plan.specs.declared.place.Pass.{Pass}
+use Rattle.place_plan.specs.declared.place.Home.{Home as KeptHome}
+use Rattle.place_plan.specs.declared.place.Placement.{Placement}
+use Rattle.place_plan.specs.Plan.{Home, Plan, home_view}
+use Rattle.place_plan.specs.Uses.{Value, accesses, Use, uses, uses_of}
+use Rattle.place_plan.specs.inner.UseViews.{use_view}
+use Rattle.bank_prog_form.specs.declared.column.Bank.TheVariants.{A, B, M}
+use Rattle.bank_prog_form.specs.declared.form.Value.{Value as KeptValue}
+use Rattle.bank_prog_form.specs.Columns.{each_point}
 use Rattle.bank_prog.specs.Meaning.{Chosen}
-use Rattle.bank_form.specs.inner.Form.{value_view, access_view, summary_view, parts}
-use Rattle.bank_form.proofs.Loops.{each-parts, flat-filter}
+use Rattle.bank_prog_form.specs.inner.Form.{value_view, access_view, summary_view, parts}
+use Rattle.bank_prog_form.proofs.Loops.{each-parts, flat-filter}
 use Rattle.reg_assign.specs.declared.given.AssignmentInputs.{AssignmentInputs}
-use Rattle.bank_assignment.specs.inner.ReadOff.{Numbers, goes_early, word_place, origin_place, place_in, fill_at, fills_of, copies_of, access_first, use_serve, pass_l, pass_s, pass_by, passes_from, read_off}
+use Rattle.reg_assign_reading.specs.inner.ReadOff.{Numbers, goes_early, word_place, origin_place, place_in, fill_at, fills_of, copies_of, access_first, use_serve, pass_l, pass_s, pass_by, passes_from, read_off}
 use Rattle.reg_assign.specs.inner.AssignmentInputs.{labels_in, says_in, numbers_in}
-use Rattle.bank_assignment.specs.inner.Reading.{known_place, place_noted, early_word, preferred_home, part_pass, IsReadOff}
-use Rattle.bank_assignment.proofs.HomesRead.{homes-read}
+use Rattle.reg_assign_reading.specs.inner.Reading.{known_place, place_noted, early_word, preferred_home, part_pass, IsReadOff}
+use Rattle.reg_assign_reading.proofs.HomesRead.{homes-read}
 
 -- ---- where values come
 

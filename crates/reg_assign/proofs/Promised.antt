@@ -6,28 +6,28 @@ use Rattle.ssu_ir.specs.declared.ssu.Ssu.{Ssu}
 use Rattle.ssu_ir.specs.Tree.{Label}
 use Rattle.ssu_ir.specs.Single.{single}
 use Rattle.ssu_ir.specs.View.{labels_view}
-use Rattle.placement.specs.declared.place.Placement.{Placement}
-use Rattle.placement.specs.Costs.{cost}
-use Rattle.placement.specs.Fits.{Fits}
-use Rattle.placement.specs.Plan.{Plan, home_view, plan_view}
+use Rattle.place_plan.specs.declared.place.Placement.{Placement}
+use Rattle.place_plan.specs.Costs.{cost}
+use Rattle.place_plan.specs.Fits.{Fits}
+use Rattle.place_plan.specs.Plan.{Plan, home_view, plan_view}
 use Rattle.zo_model.specs.Program.{vector, costs_of}
-use Rattle.bank_form.specs.Columns.{priced, costs}
+use Rattle.bank_prog_form.specs.Columns.{priced, costs}
 use Rattle.bank_prog.specs.Meaning.{on, named_cost, IsFeasible}
 use Rattle.bank_prog.proofs.LawsColumns.{on-there}
 use Rattle.bank_prog.proofs.LawsCost.{costs-by-name}
 use Rattle.reg_assign.specs.declared.given.AssignmentInputs.{AssignmentInputs}
-use Rattle.bank_assignment.specs.declared.numbers.BankNumbers.{BankNumbers}
-use Rattle.bank_assignment.specs.declared.reading.Reading.{Reading}
-use Rattle.placement.specs.ByLabel.{label_cost}
-use Rattle.bank_assignment.specs.ByLabel.{label_price}
-use Rattle.bank_assignment.specs.inner.Facts.{OnlyThere}
-use Rattle.bank_assignment.specs.inner.ReadOff.{Numbers, AreNumbered, read_off}
+use Rattle.reg_assign_reading.specs.declared.numbers.BankNumbers.{BankNumbers}
+use Rattle.reg_assign_reading.specs.declared.reading.Reading.{Reading}
+use Rattle.place_plan.specs.ByLabel.{label_cost}
+use Rattle.reg_assign_reading.specs.ByLabel.{label_price}
+use Rattle.reg_assign_reading.specs.inner.Facts.{OnlyThere}
+use Rattle.reg_assign_reading.specs.inner.ReadOff.{Numbers, AreNumbered, read_off}
 use Rattle.reg_assign.specs.inner.AssignmentInputs.{labels_in, says_in, numbers_in}
-use Rattle.bank_assignment.specs.inner.Reading.{labels_of, says, numbers_of, IsReadOff}
+use Rattle.reg_assign_reading.specs.inner.Reading.{labels_of, says, numbers_of, IsReadOff}
 use Rattle.reg_assign.specs.Assigned.{IsAssigned}
-use Rattle.bank_assignment.proofs.CostAll.{plan-cost, label-paid}
-use Rattle.bank_assignment.proofs.Weighed.{weighted-paid}
-use Rattle.bank_assignment.proofs.FitAll.{read-off-fits}
+use Rattle.reg_assign_reading.proofs.CostAll.{plan-cost, label-paid}
+use Rattle.reg_assign_reading.proofs.Weighed.{weighted-paid}
+use Rattle.reg_assign_reading.proofs.FitAll.{read-off-fits}
 
 read-assigned : (labels : List Label) (n : ℕ) (v : ℕ → Bool) (numbers : Numbers) (p : Placement) → single labels ≡ true → n ≤ 128 → IsFeasible labels n v → AreNumbered labels n (on labels v) numbers → IsReadOff labels n (on labels v) numbers p
     → IsAssigned labels n v p

@@ -1,21 +1,21 @@
 -- What the placement of a vector keeps to, and the vector of a placement.
 use Rattle.std.specs.Prelude.{◌≡◌, ◌≤◌, ℕ, Bool, List, length, map}
 use Rattle.ssu_ir.specs.Tree.{Label}
-use Rattle.placement.specs.declared.place.Placement.{Placement}
-use Rattle.placement.specs.Costs.{cost}
-use Rattle.placement.specs.Fits.{Fits}
-use Rattle.placement.specs.Plan.{plan_view}
+use Rattle.place_plan.specs.declared.place.Placement.{Placement}
+use Rattle.place_plan.specs.Costs.{cost}
+use Rattle.place_plan.specs.Fits.{Fits}
+use Rattle.place_plan.specs.Plan.{plan_view}
 use Rattle.zo_model.specs.declared.program.Assignment.{Assignment}
 use Rattle.zo_model.specs.Program.{vector, costs_of}
-use Rattle.bank_form.specs.Columns.{columns, costs}
+use Rattle.bank_prog_form.specs.Columns.{columns, costs}
 use Rattle.bank_prog.specs.Meaning.{IsFeasible, on}
 use Rattle.bank_prog.specs.Weighted.{weighted_costs}
-use Rattle.placement.specs.ByLabel.{label_cost}
-use Rattle.placement.specs.Weighted.{weighted_cost}
-use Rattle.bank_assignment.specs.ByLabel.{label_price}
-use Rattle.bank_assignment.specs.inner.Chosen.{chosen}
-use Rattle.bank_assignment.specs.inner.ReadOff.{AreNumbered, Numbers}
-use Rattle.bank_assignment.specs.inner.Reading.{IsReadOff}
+use Rattle.place_plan.specs.ByLabel.{label_cost}
+use Rattle.place_plan.specs.Weighted.{weighted_cost}
+use Rattle.reg_assign_reading.specs.ByLabel.{label_price}
+use Rattle.reg_assign_reading.specs.inner.Chosen.{chosen}
+use Rattle.reg_assign_reading.specs.inner.ReadOff.{AreNumbered, Numbers}
+use Rattle.reg_assign_reading.specs.inner.Reading.{IsReadOff}
 
 -- the placement says what the columns that are 1 say, and gives each home a number: of a register of its bank, or of a slot, that no other
 -- value has while both live

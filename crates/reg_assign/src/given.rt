@@ -2,14 +2,14 @@
 
 ghost use Rattle.std.specs.Prelude.{◌≡◌, ℕ, nat_eq, IfOk};
 ghost use Rattle.std.specs.HashMap.{get};
-ghost use Rattle.placement.specs.Uses.{values};
-ghost use Rattle.bank_assignment.specs.inner.ReadOff as pure;
-ghost use Rattle.bank_assignment.specs.inner.Reading.{says, labels_of, known_place};
+ghost use Rattle.place_plan.specs.Uses.{values};
+ghost use Rattle.reg_assign_reading.specs.inner.ReadOff as pure;
+ghost use Rattle.reg_assign_reading.specs.inner.Reading.{says, labels_of, known_place};
 
 use crate::places::{ReadPlaces, read_places_of};
-use bank_assignment::numbers::BankNumbers;
-use bank_assignment::reading::Reading;
 use nv_base::NoMemory;
+use reg_assign_reading::numbers::BankNumbers;
+use reg_assign_reading::reading::Reading;
 use std::alloc::Global;
 
 /// What places are read off from.

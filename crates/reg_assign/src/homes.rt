@@ -3,20 +3,20 @@
 ghost use Rattle.std.specs.Prelude.{◌≡◌, ◌++◌, map, IfOk, OnOk};
 ghost use Rattle.std.specs.List.{flat_map};
 ghost use Rattle.std.specs.List.Sorted.{IsPermutation, IsNonDecreasingBy};
-ghost use Rattle.placement.specs.Fits as fits;
-ghost use Rattle.placement.specs.Plan.{home_view};
-ghost use Rattle.placement.specs.inner.UseViews.{use_view};
-ghost use Rattle.bank_form.specs.inner.Form.{value_view};
-ghost use Rattle.bank_assignment.specs.inner.ReadOff as pure;
+ghost use Rattle.place_plan.specs.Fits as fits;
+ghost use Rattle.place_plan.specs.Plan.{home_view};
+ghost use Rattle.place_plan.specs.inner.UseViews.{use_view};
+ghost use Rattle.bank_prog_form.specs.inner.Form.{value_view};
+ghost use Rattle.reg_assign_reading.specs.inner.ReadOff as pure;
 ghost use Rattle.reg_assign.specs.inner.AssignmentInputs.{labels_in, says_in, numbers_in};
-ghost use Rattle.bank_assignment.specs.inner.Reading.{says, early_word, preferred_home};
+ghost use Rattle.reg_assign_reading.specs.inner.Reading.{says, early_word, preferred_home};
 
 use crate::given::AssignmentInputs;
 use crate::places::{home_place, origin_place, word_place};
-use bank_assignment::reading::Reading;
 use bank_prog::{Bank, Column, Origin, Use, Value};
 use nv_base::NoMemory;
-use placement::{Home, Place};
+use place_plan::{Home, Place};
+use reg_assign_reading::reading::Reading;
 use std::alloc::Global;
 
 /// The copy of a value in a bank, if it has one there.

@@ -2,19 +2,19 @@
 
 ghost use Rattle.std.specs.Prelude.{◌≡◌, ◌+◌, ℕ, nat_eq, map, IfOk, OnOk};
 ghost use Rattle.std.specs.HashMap.{get};
-ghost use Rattle.bank_form.specs.inner.Form.{value_view, origin_view};
-ghost use Rattle.bank_assignment.specs.inner.ReadOff as pure;
+ghost use Rattle.bank_prog_form.specs.inner.Form.{value_view, origin_view};
+ghost use Rattle.reg_assign_reading.specs.inner.ReadOff as pure;
 ghost use Rattle.reg_assign.specs.inner.AssignmentInputs.{labels_in, says_in, numbers_in};
-ghost use Rattle.bank_assignment.specs.inner.Reading.{says, known_place, numbers_of, place_noted};
-ghost use Rattle.placement.specs.inner.UseViews.{use_view};
+ghost use Rattle.reg_assign_reading.specs.inner.Reading.{says, known_place, numbers_of, place_noted};
+ghost use Rattle.place_plan.specs.inner.UseViews.{use_view};
 
 use crate::given::AssignmentInputs;
-use bank_assignment::columns::Family;
-use bank_assignment::numbers::BankNumbers;
-use bank_assignment::reading::Reading;
 use bank_prog::{Bank, Origin, Role, Use, Value};
 use nv_base::NoMemory;
-use placement::Place;
+use place_plan::Place;
+use reg_assign_reading::columns::Family;
+use reg_assign_reading::numbers::BankNumbers;
+use reg_assign_reading::reading::Reading;
 use std::alloc::Global;
 use std::collections::HashMap;
 
@@ -121,7 +121,7 @@ pub fn bank_place(g: &AssignmentInputs<'_>, u: Use, h: Bank) -> Result<Place, No
         Bank::B => Ok(Place::B(g.numbers.number(h, u.value))),
         Bank::M => Ok(Place::Slot(g.numbers.number(h, u.value))),
         Bank::T => Ok(read_place_of(&g.came, u.value)),
-        Bank::L => Ok(Place::L(g.reading.first_on(Family::PasL(u.point)).unwrap_or(0))),
+        Bank::L => Ok(Place::L(g.reading.first_on(Family::ReadVia(u.point)).unwrap_or(0))),
         Bank::A15 => Ok(Place::A(15)),
         Bank::W => word_place(&g.reading, u),
     }

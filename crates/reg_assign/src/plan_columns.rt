@@ -3,19 +3,19 @@
 ghost use Rattle.std.specs.Prelude.{◌≡◌, nat_eq, not, ◌&&◌, map, if◌then◌else◌, IfOk};
 ghost use Rattle.std.specs.List.{list_any};
 ghost use Rattle.ssu_ir.specs.View.{labels_view};
-ghost use Rattle.placement.specs.Order.{IsInOrder};
-ghost use Rattle.placement.specs.Plan.{plan_view};
-ghost use Rattle.placement.specs.Uses.{uses_of};
-ghost use Rattle.placement.specs.inner.UseViews.{role_view, use_view};
-ghost use Rattle.bank_form.specs.Program as program;
-ghost use Rattle.bank_form.specs.declared.column.Bank.TheVariants.{A15};
-ghost use Rattle.bank_assignment.specs.inner.Chosen as chosen;
-ghost use Rattle.bank_assignment.specs.inner.PlanTables as tables;
+ghost use Rattle.place_plan.specs.Order.{IsInOrder};
+ghost use Rattle.place_plan.specs.Plan.{plan_view};
+ghost use Rattle.place_plan.specs.Uses.{uses_of};
+ghost use Rattle.place_plan.specs.inner.UseViews.{role_view, use_view};
+ghost use Rattle.bank_prog_form.specs.Program as program;
+ghost use Rattle.bank_prog_form.specs.declared.column.Bank.TheVariants.{A15};
+ghost use Rattle.reg_assign_reading.specs.inner.Chosen as chosen;
+ghost use Rattle.reg_assign_reading.specs.inner.PlanTables as tables;
 
-use bank_assignment::plan::PlanTables;
 use bank_prog::{Bank, Column, Form, Role, Use};
 use nv_base::NoMemory;
-use placement::Place;
+use place_plan::Place;
+use reg_assign_reading::plan::PlanTables;
 use std::alloc::Global;
 
 // ---- places and banks
@@ -281,14 +281,14 @@ fn is_on(f: &Form<'_>, t: &PlanTables<'_>, c: Column) -> bool
 {
     match c {
         Column::Def(x, h) => is_in_bank(h, defined_of(t, x)),
-        Column::Dir(k, i, n) => is_put(t, k, i, n),
+        Column::DirectWrite(k, i, n) => is_put(t, k, i, n),
         Column::Fill(x, h) => has_copy(t, x, h),
         Column::Stay(x, n) => is_kept(f, t, x, n),
-        Column::Ear(k, i, n) => is_copied(t, k, i, n),
+        Column::EarlyWrite(k, i, n) => is_copied(t, k, i, n),
         Column::First(k, n) => begins(t, k, n),
-        Column::Srv(k, i, h, j) => is_way(t, k, i, h, j),
-        Column::PasL(k, r) => names(l_of(t, k), r),
-        Column::PasS(k, r) => names(s_of(t, k), r),
+        Column::Serve(k, i, h, j) => is_way(t, k, i, h, j),
+        Column::ReadVia(k, r) => names(l_of(t, k), r),
+        Column::WriteVia(k, r) => names(s_of(t, k), r),
     }
 }
 

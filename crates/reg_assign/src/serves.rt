@@ -2,20 +2,20 @@
 
 ghost use Rattle.std.specs.Prelude.{◌≡◌, ◌++◌, map, IfOk, OnOk};
 ghost use Rattle.std.specs.List.{flat_map};
-ghost use Rattle.bank_form.specs.inner.Form.{access_view, summary_view};
-ghost use Rattle.bank_assignment.specs.inner.ReadOff as pure;
+ghost use Rattle.bank_prog_form.specs.inner.Form.{access_view, summary_view};
+ghost use Rattle.reg_assign_reading.specs.inner.ReadOff as pure;
 ghost use Rattle.reg_assign.specs.inner.AssignmentInputs.{labels_in, says_in, numbers_in};
-ghost use Rattle.bank_assignment.specs.inner.Reading.{says, part_pass};
-ghost use Rattle.placement.specs.inner.UseViews.{role_view, use_view};
+ghost use Rattle.reg_assign_reading.specs.inner.Reading.{says, part_pass};
+ghost use Rattle.place_plan.specs.inner.UseViews.{role_view, use_view};
 
 use crate::given::AssignmentInputs;
 use crate::places::{bank_place, home_place, small, word_place};
-use bank_assignment::columns::Family;
-use bank_assignment::reading::Reading;
 use bank_prog::services::services;
 use bank_prog::{Access, Bank, PointSummary, Role, Service, Use};
 use nv_base::NoMemory;
-use placement::{First, Pass, Place, Serve};
+use place_plan::{First, Pass, Place, Serve};
+use reg_assign_reading::columns::Family;
+use reg_assign_reading::reading::Reading;
 use std::alloc::Global;
 
 /// Where a use wants its word.
@@ -99,8 +99,8 @@ pub fn firsts_of(
 fn push_pass(out: &mut Vec<Pass>, r: &Reading<'_>, point: u32) -> Result<(), NoMemory>
     ensures { OnOk result (out.new.items ≡ out.old.items ++ pure.pass_by point (pure.pass_l (says r.now) point) (pure.pass_s (says r.now) point)) }
 {
-    let l = r.first_on(Family::PasL(point));
-    let s = r.first_on(Family::PasS(point));
+    let l = r.first_on(Family::ReadVia(point));
+    let s = r.first_on(Family::WriteVia(point));
     if l.is_some() || s.is_some() {
         out.push(Pass { point, l, s })?;
     }

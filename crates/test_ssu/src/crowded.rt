@@ -4,7 +4,7 @@ ghost use Rattle.ssu_ir.specs.Slots.{successors_of};
 ghost use Rattle.test_ssu.specs.Roots.{HasRoot};
 
 use bank_prog::{bank_tables_of, form_of, program_of};
-use bank_start::by_next_use;
+use bank_prog_start::by_next_use;
 use nova_back::need_of;
 use nv_base::{Bin, Mem, NoMemory, Vars};
 use place_ir::{Weights, spill_all};

@@ -1,7 +1,7 @@
 // The text of weights.
 
+use place_weights_text::{WeightsError, print_counts, read_weights};
 use std::test::Fail;
-use weights_text::{WeightsError, print_counts, read_weights};
 
 // A count is raised to 1 or lowered to 1,023, and a label without a line weighs 1.
 #[test]

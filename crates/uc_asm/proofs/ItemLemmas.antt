@@ -1,6 +1,6 @@
 -- What the reader of a line answers.
 use Rattle.std.proofs.Common.{◌≡◌, ◌≢◌, ℕ, ◌<◌, ◌^◌, List, [], ◌∷◌, ◌++◌, sym, ◌∙◌, codes, Option, None, Some, IfSome, IfNone}
-use Rattle.line_text.specs.Line.{parts}
+use Rattle.nv_lines.specs.Line.{parts}
 use Rattle.uc_isa.specs.declared.instruction.Cond.{Cond}
 use Rattle.uc_isa.specs.declared.instruction.Instr.{Instr}
 use Rattle.uc_isa.specs.declared.instruction.Instr.TheVariants.{Br}

@@ -1,7 +1,7 @@
 -- No line of a text has a line feed in it.
 use Rattle.std.proofs.Common.{ℕ, ◌≤◌, List, [], ◌∷◌, map, refl, arith, codes, decimal}
-use Rattle.line_text.specs.Line.{Lacks, AllLack}
-use Rattle.line_text.proofs.SplitLaws.{Lacks-test, Lacks-append}
+use Rattle.nv_lines.specs.Line.{Lacks, AllLack}
+use Rattle.nv_lines.proofs.SplitLaws.{Lacks-test, Lacks-append}
 use Rattle.uc_asm.proofs.LineLemmas.{name-lacks}
 use Rattle.uc_asm.proofs.WordFeeds.{parted-lacks, instruction-lacks, condition-lacks, number-lacks}
 use Rattle.uc_asm.specs.Words.{condition_name}

@@ -1,7 +1,7 @@
 -- What each line's parts are.
 use Rattle.std.proofs.Common.{◌≡◌, ◌≢◌, ℕ, suc, ◌<◌, ◌≤◌, ◌^◌, List, [], ◌∷◌, ◌++◌, length, get_or, drop, ◌==◌, true, refl, sym, ap, ◌∙◌, subst, arith, codes, decimal}
-use Rattle.line_text.specs.Line.{Lacks, parts, parted}
-use Rattle.line_text.proofs.SplitLaws.{parts-parted, parted-parts, Lacks-test, lacks_not, split_one}
+use Rattle.nv_lines.specs.Line.{Lacks, parts, parted}
+use Rattle.nv_lines.proofs.SplitLaws.{parts-parted, parted-parts, Lacks-test, lacks_not, split_one}
 use Rattle.uc_isa.specs.declared.instruction.Cond.{Cond}
 use Rattle.uc_isa.specs.declared.instruction.Instr.{Instr}
 use Rattle.uc_isa.specs.declared.instruction.Instr.TheVariants.{Br}

@@ -4,8 +4,8 @@ use Rattle.std.specs.List.{All}
 use Rattle.std.proofs.lemmas.Bool.Decides.{nat_tests}
 use Rattle.std.proofs.lemmas.Bool.{cases_eq}
 use Rattle.std.proofs.lemmas.List.{append-nil, map-append, take_more, drop_more, drop_all, length-set, length-take-le, get_or-set_same, get_or-set_other, get_or_append_left, get_or_push}
-use Rattle.line_text.specs.Line.{text_of}
-use Rattle.line_text.proofs.SplitLaws.{text_of-append}
+use Rattle.nv_lines.specs.Line.{text_of}
+use Rattle.nv_lines.proofs.SplitLaws.{text_of-append}
 use Rattle.uc_isa.specs.Code.{IsCode}
 use Rattle.uc_isa.specs.Lawful.{IsLawful}
 use Rattle.uc_isa.specs.declared.instruction.Instr.{Instr}

@@ -1,10 +1,10 @@
 -- Bytes are read one way.
 use Rattle.std.proofs.Common.{◌≡◌, ◌≢◌, ℕ, ◌≤◌, List, [], ◌∷◌, ◌++◌, get_or, map, refl, sym, ap, ◌∙◌, subst, arith, codes}
-use Rattle.line_text.specs.Line.{AllLack, parted}
-use Rattle.line_text.specs.Format.{IsText, Begins, IsFormat}
-use Rattle.line_text.proofs.SplitLaws.{lines_one, split_one}
-use Rattle.line_text.proofs.NumberLemmas.{decimal_one}
-use Rattle.line_text.proofs.FormatLaws.{begins_format, no_text, one_fault}
+use Rattle.nv_lines.specs.Line.{AllLack, parted}
+use Rattle.nv_lines.specs.Format.{IsText, Begins, IsFormat}
+use Rattle.nv_lines.proofs.SplitLaws.{lines_one, split_one}
+use Rattle.nv_lines.proofs.NumberLemmas.{decimal_one}
+use Rattle.nv_lines.proofs.FormatLaws.{begins_format, no_text, one_fault}
 use Rattle.uc_isa.specs.declared.instruction.Cond.{Cond}
 use Rattle.uc_isa.specs.declared.instruction.Instr.{Instr}
 use Rattle.uc_asm.specs.Words.{words, register_name, InRange, condition_name}

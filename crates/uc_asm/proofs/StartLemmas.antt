@@ -4,7 +4,7 @@ use Rattle.std.specs.List.{All}
 use Rattle.std.proofs.lemmas.Bool.Decides.{nat_tests}
 use Rattle.std.proofs.lemmas.Fmt.{decimal_by_steps, decimal_injective, length-decimal-le}
 use Rattle.std.proofs.lemmas.List.Elements.{All-nil, All-cons, All-head, All-tail, All-push, All-weaker}
-use Rattle.line_text.specs.Line.{text_of}
+use Rattle.nv_lines.specs.Line.{text_of}
 use Rattle.uc_isa.specs.Code.{CodeView, IsCode}
 use Rattle.uc_isa.specs.Lawful.{IsLawful}
 use Rattle.uc_isa.specs.declared.instruction.Instr.{Instr}

@@ -1,10 +1,10 @@
 -- Whole texts, and where they go wrong.
 use Rattle.std.proofs.Common.{◌≡◌, ◌≢◌, ℕ, ◌+◌, ◌≤◌, List, [], ◌∷◌, ◌++◌, length, map, refl, sym, ap, ◌∙◌, subst, arith, codes, append_assoc, length-append}
 use Rattle.std.proofs.lemmas.List.{append-nil, length-map}
-use Rattle.line_text.specs.Line.{Lacks, parts, parted, text_of}
-use Rattle.line_text.specs.Format.{IsText, Begins, FirstFault, wrong, short}
-use Rattle.line_text.proofs.LineLemmas.{parts_whole}
-use Rattle.line_text.proofs.SplitLaws.{text_of-append, lacks_not, lines_one, Lacks-append, Lacks-test}
+use Rattle.nv_lines.specs.Line.{Lacks, parts, parted, text_of}
+use Rattle.nv_lines.specs.Format.{IsText, Begins, FirstFault, wrong, short}
+use Rattle.nv_lines.proofs.LineLemmas.{parts_whole}
+use Rattle.nv_lines.proofs.SplitLaws.{text_of-append, lacks_not, lines_one, Lacks-append, Lacks-test}
 use Rattle.uc_isa.specs.declared.instruction.Cond.{Cond}
 use Rattle.uc_isa.specs.declared.instruction.Instr.{Instr}
 use Rattle.uc_isa.specs.declared.instruction.Instr.TheVariants.{Alu, Un, Immed, Br, Read, Write, Halt}

@@ -3,9 +3,9 @@ use Rattle.std.proofs.Common.{◌≡◌, ℕ, ◌<◌, ◌^◌, List, [], ◌∷
 use Rattle.std.specs.Str.Parse.{digits_value}
 use Rattle.std.proofs.lemmas.Fmt.{digits_value-decimal}
 use Rattle.std.proofs.lemmas.Bool.Decides.{nat_tests}
-use Rattle.line_text.specs.Line.{Lacks}
-use Rattle.line_text.proofs.NumberLemmas.{own}
-use Rattle.line_text.proofs.NumberLaws.{Lacks-decimal}
+use Rattle.nv_lines.specs.Line.{Lacks}
+use Rattle.nv_lines.proofs.NumberLemmas.{own}
+use Rattle.nv_lines.proofs.NumberLaws.{Lacks-decimal}
 use Rattle.nv_base.specs.declared.term.Mem.{Mem}
 use Rattle.nv_base.specs.declared.term.Mem.TheVariants.{Sram, Sdram, Scratch}
 use Rattle.nv_base.specs.declared.term.Bin.{Bin}

@@ -1,8 +1,8 @@
 -- No word of an instruction has a line feed in it.
 use Rattle.std.proofs.Common.{ℕ, ◌<◌, ◌^◌, List, [], ◌∷◌, ◌++◌, refl, arith, codes, decimal, lit≤}
-use Rattle.line_text.specs.Line.{Lacks, AllLack, parted}
-use Rattle.line_text.proofs.SplitLaws.{Lacks-test, Lacks-append, AllLack-append}
-use Rattle.line_text.proofs.NumberLaws.{Lacks-decimal}
+use Rattle.nv_lines.specs.Line.{Lacks, AllLack, parted}
+use Rattle.nv_lines.proofs.SplitLaws.{Lacks-test, Lacks-append, AllLack-append}
+use Rattle.nv_lines.proofs.NumberLaws.{Lacks-decimal}
 use Rattle.nv_base.specs.declared.term.Mem.{Mem}
 use Rattle.nv_base.specs.declared.term.Mem.TheVariants.{Sram, Sdram, Scratch}
 use Rattle.nv_base.specs.declared.term.Bin.{Bin}

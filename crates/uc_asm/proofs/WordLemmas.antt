@@ -1,8 +1,8 @@
 -- What the words of an instruction are.
 use Rattle.std.proofs.Common.{◌≡◌, ◌≢◌, ℕ, ◌+◌, ◌*◌, ◌<◌, ◌≤◌, ◌^◌, List, [], ◌∷◌, ◌++◌, get_or, drop, refl, sym, ap, ◌∙◌, arith, codes, decimal, lit≤}
-use Rattle.line_text.specs.Line.{Lacks, AllLack, parts, parted}
-use Rattle.line_text.proofs.SplitLaws.{parts-parted, Lacks-test, Lacks-append, AllLack-append}
-use Rattle.line_text.proofs.NumberLaws.{Lacks-decimal}
+use Rattle.nv_lines.specs.Line.{Lacks, AllLack, parts, parted}
+use Rattle.nv_lines.proofs.SplitLaws.{parts-parted, Lacks-test, Lacks-append, AllLack-append}
+use Rattle.nv_lines.proofs.NumberLaws.{Lacks-decimal}
 use Rattle.nv_base.specs.declared.term.Mem.{Mem}
 use Rattle.nv_base.specs.declared.term.Mem.TheVariants.{Sram, Sdram, Scratch}
 use Rattle.nv_base.specs.declared.term.Bin.{Bin}

@@ -1,6 +1,6 @@
 -- The lines of an assembly text after the first: what they are, how they are written, and where labels stand among them.
 use Rattle.std.specs.Prelude.{◌≡◌, ℕ, ◌+◌, ◌≤◌, ◌⊎◌, List, [], ◌∷◌, ◌++◌, codes, decimal, length, All}
-use Rattle.line_text.specs.Line.{parted}
+use Rattle.nv_lines.specs.Line.{parted}
 use Rattle.uc_isa.specs.declared.instruction.Cond.{Cond}
 use Rattle.uc_isa.specs.declared.instruction.Instr.{Instr}
 use Rattle.uc_asm.specs.Words.{words, InRange, condition_name}

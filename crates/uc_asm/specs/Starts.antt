@@ -1,6 +1,6 @@
 -- The listing of an object: that of its code, and before the instruction at each start a line with the label of its number.
 use Rattle.std.specs.Prelude.{ℕ, ◌+◌, ◌==◌, List, [], ◌∷◌, ◌++◌, codes, decimal, map, if◌then◌else◌}
-use Rattle.line_text.specs.Line.{text_of}
+use Rattle.nv_lines.specs.Line.{text_of}
 use Rattle.uc_isa.specs.declared.instruction.Instr.{Instr}
 use Rattle.uc_object.specs.Tagged.{TaggedView}
 use Rattle.uc_object.specs.declared.object.Object.{Object}

@@ -1,7 +1,7 @@
 -- Assembly text: line 1 has the number of parameters, each other line a label or an instruction.
 use Rattle.std.specs.Prelude.{◌≡◌, ℕ, ◌≤◌, List, [], ◌∷◌, map}
-use Rattle.line_text.specs.Line.{text_of}
-use Rattle.line_text.specs.Format.{Begins, FirstFault}
+use Rattle.nv_lines.specs.Line.{text_of}
+use Rattle.nv_lines.specs.Format.{Begins, FirstFault}
 use Rattle.uc_isa.specs.Code.{CodeView}
 use Rattle.uc_asm.specs.Items.{Item, IsItem, count, item_line, instruction_line, params_line}
 

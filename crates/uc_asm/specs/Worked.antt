@@ -1,6 +1,6 @@
 -- The listings of short code, and of a short object.
 use Rattle.std.specs.Prelude.{◌≡◌, [], ◌∷◌, codes}
-use Rattle.line_text.specs.Line.{text_of}
+use Rattle.nv_lines.specs.Line.{text_of}
 use Rattle.uc_isa.specs.Worked.{sum_code, moving_code}
 use Rattle.uc_object.specs.Worked.{raising}
 use Rattle.uc_asm.specs.Starts.{tagged_listing}

@@ -13,7 +13,7 @@ use crate::item::{Item, has_instruction};
 use crate::labels::declarations;
 use crate::line::{item_of, params_of};
 use crate::resolve::{instructions, line_at, line_of};
-use line_text::Lines;
+use nv_lines::Lines;
 use std::alloc::Global;
 use uc_isa::{Code, Dst, Gpr, Instr, Src, lint};
 

@@ -10,7 +10,7 @@ use crate::condition::condition_of;
 use crate::item::Item;
 use crate::name::is_name;
 use crate::reading::read_instruction;
-use line_text::{Parts, read_decimal, split_once, strip};
+use nv_lines::{Parts, read_decimal, split_once, strip};
 use uc_isa::{Cond, Instr};
 
 /// The number of parameters of a first line.

@@ -8,8 +8,8 @@ ghost use Rattle.uc_isa.specs.declared.instruction.Dst.{Dst};
 ghost use Rattle.uc_isa.specs.declared.instruction.Gpr.{Gpr};
 ghost use Rattle.uc_isa.specs.declared.instruction.UnOp.{UnOp};
 
-use line_text::{Parts, read_decimal, strip};
 use nv_base::{Bin, Mem};
+use nv_lines::{Parts, read_decimal, strip};
 use uc_isa::{Dst, Gpr, RegA, RegB, RegL, RegLD, RegS, RegSD, Src, UnOp};
 
 // The number below `count` that a register of a bank has.

@@ -10,8 +10,8 @@ ghost use Rattle.uc_isa.specs.declared.instruction.UnOp.{UnOp};
 ghost use Rattle.uc_isa.specs.declared.instruction.Instr.{Instr};
 
 use crate::part::{next_address, next_binary, next_memory, next_source, next_target, next_unary};
-use line_text::Parts;
 use nv_base::Mem;
+use nv_lines::Parts;
 use uc_isa::{Gpr, Instr};
 
 /// The instruction of this kind that isn't a branch.

@@ -1,6 +1,6 @@
 //! The labels at the starts of an object, and its listing.
 ghost use Rattle.std.specs.Prelude.{◌≡◌, ◌<◌, ◌≤◌, ◌^◌, ◌++◌, ◌∷◌, [], All, length, map, IfOk, OnOk};
-ghost use Rattle.line_text.specs.Line.{text_of};
+ghost use Rattle.nv_lines.specs.Line.{text_of};
 ghost use Rattle.uc_isa.specs.Lawful.{IsLawful};
 ghost use Rattle.uc_object.specs.Object.{code_of};
 ghost use Rattle.uc_asm.specs.Items.{item_line};
@@ -9,8 +9,8 @@ ghost use Rattle.uc_asm.specs.Starts.{start_label, object_listing, tagged_listin
 ghost use Rattle.uc_asm.specs.inner.Numbered.{AreNumbered};
 
 use crate::listing::{print, push_instruction, push_params};
-use line_text::push_decimal;
 use nv_base::NoMemory;
+use nv_lines::push_decimal;
 use smallvec::SmallVec;
 use std::alloc::{AllocError, Global};
 use std::marker::Model;

@@ -1,11 +1,11 @@
 //! The words of instructions, as a listing has them.
 ghost use Rattle.std.specs.Prelude.{◌≡◌, ◌++◌, ◌∷◌, [], OnOk, decimal};
 ghost use Rattle.std.specs.List.{flat_map};
-ghost use Rattle.line_text.specs.Line.{parted};
+ghost use Rattle.nv_lines.specs.Line.{parted};
 ghost use Rattle.uc_asm.specs.Words.{words, source_name, target_name, address_name, binary_name, unary_words, condition_name, memory_name};
 
-use line_text::push_decimal;
 use nv_base::{Bin, Mem};
+use nv_lines::push_decimal;
 use std::alloc::AllocError;
 use uc_isa::{Cond, Dst, Gpr, Instr, Src, UnOp};
 

@@ -3,8 +3,8 @@
 ghost use Rattle.std.specs.Prelude.{◌≡◌, ◌+◌, ◌<◌, ◌≤◌, ◌^◌, ◌↔◌, ℕ, List, false, IfOk, length, slice_index};
 ghost use Rattle.uc_isa.specs.Agrees.{Agrees, SourceMeaning};
 ghost use Rattle.uc_isa.specs.Lawful.{IsLawful};
-ghost use Rattle.uc_executions.specs.Program.{IsProgram};
-ghost use Rattle.uc_executions.specs.Starts.{AreInside};
+ghost use Rattle.uc_isa_executions.specs.Program.{IsProgram};
+ghost use Rattle.uc_isa_executions.specs.Starts.{AreInside};
 ghost use Rattle.uc_peep.specs.Kept.{is_gone};
 ghost use Rattle.uc_peep.specs.Liveness.{IsClosed, IsLiveAt};
 ghost use Rattle.uc_peep.specs.Becomes.{IsPeeped, IsRound};

@@ -4,7 +4,7 @@ use Rattle.std.specs.Prelude.{List}
 use Rattle.uc_isa.specs.Agrees.{Agrees}
 use Rattle.ssu_ir.specs.Tree.{Label}
 use Rattle.ssu_ir.specs.Meaning.{ssu_meaning, ssu_params}
-use Rattle.placement.specs.Plan.{Plan}
+use Rattle.place_plan.specs.Plan.{Plan}
 use Rattle.ucode_emit.specs.Pieces.{Sequences, instr_of, items, starts, parallel_moves}
 use Rattle.ucode_emit.specs.Emits.{AreSequences}
 use Rattle.ucode_emit.specs.inner.Layers.{Placed}

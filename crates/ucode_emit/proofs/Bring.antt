@@ -7,12 +7,12 @@ use Rattle.std.proofs.lemmas.List.Elements.{All-from_recursion}
 use Rattle.nv_base.specs.Words.{Env}
 use Rattle.ssu_ir.specs.Tree.{Label}
 use Rattle.ssu_ir.specs.Points.{Point}
-use Rattle.placement.specs.declared.place.Place.{Place}
-use Rattle.placement.specs.declared.place.Place.TheVariants.{A, B, L, LD, S, SD, Slot}
-use Rattle.placement.specs.Places.{same_place}
-use Rattle.placement.specs.Plan.{Plan, serve, pass}
-use Rattle.placement.specs.Fits.{is_slot}
-use Rattle.placement.proofs.Places.{same_place-true, same_place-from}
+use Rattle.place_plan.specs.declared.place.Place.{Place}
+use Rattle.place_plan.specs.declared.place.Place.TheVariants.{A, B, L, LD, S, SD, Slot}
+use Rattle.place_plan.specs.Places.{same_place}
+use Rattle.place_plan.specs.Plan.{Plan, serve, pass}
+use Rattle.place_plan.specs.Fits.{is_slot}
+use Rattle.place_plan.proofs.Places.{same_place-true, same_place-from}
 use Rattle.par_move.specs.Moves.{Move, Words, put, one_by_one, all_at_once}
 use Rattle.par_move.proofs.Steps.{put-other}
 use Rattle.ucode_emit.specs.Pieces.{named, bring, single_move, single_moves, served_moves}

@@ -9,8 +9,8 @@ use Rattle.ssu_ir.specs.Tree.{Step, Lit, Una, Bin, Clone, Read, Write, Last, Jum
 use Rattle.ssu_ir.specs.Points.{Names, own}
 use Rattle.ssu_ir.specs.Single.{takes_as_many, is_narrow, IsNarrow}
 use Rattle.ssu_ir.proofs.Narrow.{narrow_is}
-use Rattle.placement.specs.declared.place.Serve.{Serve}
-use Rattle.placement.specs.Plan.{Plan, serve, first, pass}
+use Rattle.place_plan.specs.declared.place.Serve.{Serve}
+use Rattle.place_plan.specs.Plan.{Plan, serve, first, pass}
 use Rattle.par_move.specs.Moves.{Move}
 use Rattle.ucode_emit.specs.Pieces.{operands, words, result_place, to_slot, copies, all_copies, single_moves, shift_of, entry_point, Sequences, sequence_at, served_moves, last_moves, entry_moves, label_moves, tree_moves, parallel_moves}
 use Rattle.ucode_emit.specs.Emits.{IsSequence, AreSequences}

@@ -4,12 +4,12 @@ use Rattle.std.specs.List.{list_any}
 use Rattle.std.proofs.lemmas.Bool.{or_cases, or_left, or_right, or_parts, false≢true, eq-eqb}
 use Rattle.nv_base.specs.Sets.{is_in}
 use Rattle.nv_base.proofs.Sets.{same-number}
-use Rattle.placement.specs.declared.place.Place.{Place}
-use Rattle.placement.specs.declared.place.Place.TheVariants.{S}
-use Rattle.placement.specs.Places.{same_place}
-use Rattle.placement.specs.Plan.{Plan, home, pass}
-use Rattle.placement.specs.Fits.{is_slot, has_place}
-use Rattle.placement.proofs.Places.{same_place-true, same_place-itself, same_place-from}
+use Rattle.place_plan.specs.declared.place.Place.{Place}
+use Rattle.place_plan.specs.declared.place.Place.TheVariants.{S}
+use Rattle.place_plan.specs.Places.{same_place}
+use Rattle.place_plan.specs.Plan.{Plan, home, pass}
+use Rattle.place_plan.specs.Fits.{is_slot, has_place}
+use Rattle.place_plan.proofs.Places.{same_place-true, same_place-itself, same_place-from}
 use Rattle.ssu_liveness.proofs.Scoped.{in-itself}
 use Rattle.par_move.specs.Moves.{Move, Words, put, one_by_one}
 use Rattle.par_move.proofs.Steps.{put-other}

@@ -2,11 +2,11 @@
 use Rattle.std.proofs.Common.{◌≡◌, ℕ, zero, suc, ◌+◌, ◌*◌, List, [], ◌∷◌, ◌++◌, map, refl, ap, ◌∙◌, arith}
 use Rattle.ssu_ir.specs.Tree.{Label, Lit, Una, Bin, Clone, Read, Write, Does, Forks, Ends}
 use Rattle.ssu_ir.specs.Points.{PointKind, Entry, At, Point, points}
-use Rattle.placement.specs.Plan.{Plan, serve}
-use Rattle.placement.specs.Uses.{ValueOrigin, Value, numbered, values_from, values, place_values, Use, uses}
-use Rattle.placement.specs.Fits.{use_operand}
-use Rattle.placement.specs.Costs.{served_cost, value_cost, values_cost}
-use Rattle.placement.specs.Weighted.{point_weight, values_weighted, uses_weighted, weighted_cost}
+use Rattle.place_plan.specs.Plan.{Plan, serve}
+use Rattle.place_plan.specs.Uses.{ValueOrigin, Value, numbered, values_from, values, place_values, Use, uses}
+use Rattle.place_plan.specs.Fits.{use_operand}
+use Rattle.place_plan.specs.Costs.{served_cost, value_cost, values_cost}
+use Rattle.place_plan.specs.Weighted.{point_weight, values_weighted, uses_weighted, weighted_cost}
 use Rattle.ucode_emit.specs.inner.Marks.{Mark, marks}
 use Rattle.ucode_emit.specs.inner.Cursors.{place_operands, operands_from, marks_operands}
 use Rattle.ucode_emit.proofs.CostMoves.{operands_cost}

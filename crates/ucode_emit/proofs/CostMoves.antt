@@ -2,12 +2,12 @@
 use Rattle.std.proofs.Common.{◌≡◌, ℕ, zero, suc, ◌+◌, ◌≤◌, Bool, true, false, nat_eq, ◌&&◌, if◌then◌else◌, List, [], ◌∷◌, ◌++◌, Option, refl, sym, ap, subst, arith}
 use Rattle.std.proofs.lemmas.Bool.{false≢true}
 use Rattle.uc_isa.specs.Moves.{weight}
-use Rattle.placement.specs.declared.place.Place.{Place}
-use Rattle.placement.specs.declared.place.Place.TheVariants.{A, B, L, LD, S, SD, Slot}
-use Rattle.placement.specs.Places.{same_place}
-use Rattle.placement.specs.Plan.{Plan, serve, pass}
-use Rattle.placement.specs.Fits.{is_slot, is_read_register}
-use Rattle.placement.specs.Costs.{served_cost, copied_cost, all_copied_cost}
+use Rattle.place_plan.specs.declared.place.Place.{Place}
+use Rattle.place_plan.specs.declared.place.Place.TheVariants.{A, B, L, LD, S, SD, Slot}
+use Rattle.place_plan.specs.Places.{same_place}
+use Rattle.place_plan.specs.Plan.{Plan, serve, pass}
+use Rattle.place_plan.specs.Fits.{is_slot, is_read_register}
+use Rattle.place_plan.specs.Costs.{served_cost, copied_cost, all_copied_cost}
 use Rattle.par_move.specs.Moves.{Move, temporary, StandFor, none, once, around, at_rest}
 use Rattle.ucode_emit.specs.Pieces.{move_instr, named, bring, brought, to_temporary, to_read_register, each_operand, operands, words, copied, all_copied, single_move, single_moves, served_moves}
 

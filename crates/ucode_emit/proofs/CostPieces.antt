@@ -20,12 +20,12 @@ use Rattle.uc_isa.specs.Moves.{weight, access_weight}
 use Rattle.ssu_ir.specs.Tree.{Step, Lit, Una, Bin, Clone, Read, Write, Last, Jump, Halt, Tree, Do, If, End, Label, Does, Ends}
 use Rattle.ssu_ir.specs.Points.{Names, PointKind as PointPlace, Entry, At, Point, points, place_values as place_variables}
 use Rattle.ssu_ir.proofs.Lists.{in-itself}
-use Rattle.placement.specs.declared.place.Place.{Place}
-use Rattle.placement.specs.declared.place.Place.TheVariants.{A, B, L, LD, S, SD, Slot}
-use Rattle.placement.specs.Plan.{Plan, home, first, pass}
-use Rattle.placement.specs.Uses.{ValueOrigin, Parameter, Fetched, numbered, place_values, Address, is_used}
-use Rattle.placement.specs.Fits.{is_slot, IsAddressAt}
-use Rattle.placement.specs.Costs.{served_cost, entry_cost, result_cost, all_copied_cost, values_cost}
+use Rattle.place_plan.specs.declared.place.Place.{Place}
+use Rattle.place_plan.specs.declared.place.Place.TheVariants.{A, B, L, LD, S, SD, Slot}
+use Rattle.place_plan.specs.Plan.{Plan, home, first, pass}
+use Rattle.place_plan.specs.Uses.{ValueOrigin, Parameter, Fetched, numbered, place_values, Address, is_used}
+use Rattle.place_plan.specs.Fits.{is_slot, IsAddressAt}
+use Rattle.place_plan.specs.Costs.{served_cost, entry_cost, result_cost, all_copied_cost, values_cost}
 use Rattle.par_move.specs.Moves.{Move}
 use Rattle.ucode_emit.specs.Pieces.{Item, Moved, Plain, Branch, move_instr, moved, named, operands, operand_at, words, result_place, to_slot, copies, all_copies, single_moves, un_op, source, target, address_of, shift_of, defines, step_items, entry_point, entry_moves, last_moves}
 use Rattle.ucode_emit.specs.Emits.{IsSequence}

@@ -4,14 +4,14 @@ use Rattle.std.specs.Prelude.{nat_lt, ⊤}
 use Rattle.std.proofs.lemmas.Bool.{le-leb, lt-ltb, false_from_ne_true, leb-true, ltb-true}
 use Rattle.std.proofs.lemmas.List.{map-append, length-map, length-append}
 use Rattle.uc_isa.specs.Moves.{label_weight, moves_from, moves}
-use Rattle.uc_executions.specs.StraightCode.{weights}
-use Rattle.uc_executions.proofs.Costs.{moves-append, moves-level}
+use Rattle.uc_isa_executions.specs.StraightCode.{weights}
+use Rattle.uc_isa_executions.proofs.Costs.{moves-append, moves-level}
 use Rattle.ssu_ir.specs.Tree.{Label}
 use Rattle.ssu_ir.specs.Points.{own, Entry, nodes, label_points}
 use Rattle.ssu_ir.proofs.PointLemmas.{length-tree_points}
-use Rattle.placement.specs.Plan.{Plan}
-use Rattle.placement.specs.ByLabel.{label_from}
-use Rattle.placement.specs.Weighted.{point_weight, weighted_cost}
+use Rattle.place_plan.specs.Plan.{Plan}
+use Rattle.place_plan.specs.ByLabel.{label_from}
+use Rattle.place_plan.specs.Weighted.{point_weight, weighted_cost}
 use Rattle.ucode_emit.specs.inner.Layers.{Placed}
 use Rattle.ucode_emit.specs.inner.Marks.{Mark, mark, tree_marks, marks_from, marks, point_piece, pieces, joined}
 use Rattle.ucode_emit.specs.Pieces.{Item, moved, instr_of, single_moves, all_copies, label_items, starts, Sequences, sequence_at, parallel_moves}

@@ -5,10 +5,10 @@ use Rattle.std.proofs.lemmas.Option.{slice_get_within, get_or_from_slice_get}
 use Rattle.uc_isa.specs.Moves.{weight, moves_from, moves}
 use Rattle.ssu_ir.specs.Tree.{Tree, Do, If, End, Label, Does, Forks, step_values}
 use Rattle.ssu_ir.specs.Points.{Names, own, names_after, PointKind, Entry, At, Point, points, points_from, tree_points}
-use Rattle.placement.specs.Plan.{Plan, serve}
-use Rattle.placement.specs.Uses.{Value, values_from, values, place_values, Use, uses}
-use Rattle.placement.specs.Fits.{use_operand}
-use Rattle.placement.specs.Costs.{served_cost, value_cost, values_cost, uses_cost, cost}
+use Rattle.place_plan.specs.Plan.{Plan, serve}
+use Rattle.place_plan.specs.Uses.{Value, values_from, values, place_values, Use, uses}
+use Rattle.place_plan.specs.Fits.{use_operand}
+use Rattle.place_plan.specs.Costs.{served_cost, value_cost, values_cost, uses_cost, cost}
 use Rattle.ucode_emit.specs.Pieces.{Item, Moved, Plain, Branch, instr_of, items, starts, Sequences, sequence_at, parallel_moves}
 use Rattle.ucode_emit.specs.Emits.{AreSequences}
 use Rattle.ucode_emit.specs.inner.Layers.{Placed}

@@ -8,13 +8,13 @@ use Rattle.std.proofs.lemmas.List.{drop_at, take_at, map-append, length-map, len
 use Rattle.ssu_ir.specs.Tree.{Step, Lit, Una, Bin, Clone, Read, Write, Last, Jump, Halt, Tree, Do, If, End, Label, Does, Forks, Ends, step_values, step_uses, last_uses}
 use Rattle.ssu_ir.specs.Points.{Names, own, names_after, PointKind, Entry, At, Point, points_from, tree_points, nodes}
 use Rattle.ssu_ir.proofs.PointLemmas.{length-tree_points}
-use Rattle.placement.specs.declared.place.First.{First}
-use Rattle.placement.specs.declared.place.Serve.{Serve}
-use Rattle.placement.specs.declared.place.Pass.{Pass}
-use Rattle.placement.specs.Plan.{first_in, serve_in, pass_in}
-use Rattle.placement.specs.Uses.{Access, accesses_from, accesses, place_accesses, Role, step_roles, last_roles, Operand, Written, Argument, Ending, Use, uses_at, uses_from, uses, place_roles}
-use Rattle.placement.specs.Fits.{Rises, at_operand, use_operand}
-use Rattle.placement.proofs.Sound.{length-roles}
+use Rattle.place_plan.specs.declared.place.First.{First}
+use Rattle.place_plan.specs.declared.place.Serve.{Serve}
+use Rattle.place_plan.specs.declared.place.Pass.{Pass}
+use Rattle.place_plan.specs.Plan.{first_in, serve_in, pass_in}
+use Rattle.place_plan.specs.Uses.{Access, accesses_from, accesses, place_accesses, Role, step_roles, last_roles, Operand, Written, Argument, Ending, Use, uses_at, uses_from, uses, place_roles}
+use Rattle.place_plan.specs.Fits.{Rises, at_operand, use_operand}
+use Rattle.place_plan.proofs.Sound.{length-roles}
 use Rattle.ssu_liveness.proofs.Scoped.{in-itself}
 use Rattle.ucode_emit.specs.inner.Marks.{Mark, tree_marks, marks_from, marks}
 use Rattle.ucode_emit.specs.inner.Cursors.{place_operands, operands_from, marks_operands, step_access, place_access, marks_accesses, IsCut, AreServed, of_point, further}

@@ -9,13 +9,13 @@ use Rattle.nv_base.specs.declared.term.Mem.TheVariants.{Sram, Sdram, Scratch}
 use Rattle.nv_base.specs.Sets.{is_in}
 use Rattle.ssu_ir.specs.Tree.{Lit, Una, Bin, Clone, Read, Write, Jump, Halt, Label, Does, Forks, Ends}
 use Rattle.ssu_ir.specs.Points.{PointKind as PointPlace, Entry, At, Point, points}
-use Rattle.placement.specs.declared.place.Place.{Place}
-use Rattle.placement.specs.declared.place.Place.TheVariants.{A, B, L, LD, S, SD, Slot}
-use Rattle.placement.specs.Places.{same_place}
-use Rattle.placement.specs.Plan.{Plan, home, first, pass}
-use Rattle.placement.specs.Uses.{Access, place_accesses, accesses_from, accesses, Role, Operand, Address, Written, Argument, Ending, roles, place_roles, Use, uses, is_used}
-use Rattle.placement.specs.Fits.{write_place, IsGeneral, IsFirst, IsEighth, is_slot, is_write_register, role_register, word_register, is_early, has_place}
-use Rattle.placement.proofs.Places.{same_place-itself}
+use Rattle.place_plan.specs.declared.place.Place.{Place}
+use Rattle.place_plan.specs.declared.place.Place.TheVariants.{A, B, L, LD, S, SD, Slot}
+use Rattle.place_plan.specs.Places.{same_place}
+use Rattle.place_plan.specs.Plan.{Plan, home, first, pass}
+use Rattle.place_plan.specs.Uses.{Access, place_accesses, accesses_from, accesses, Role, Operand, Address, Written, Argument, Ending, roles, place_roles, Use, uses, is_used}
+use Rattle.place_plan.specs.Fits.{write_place, IsGeneral, IsFirst, IsEighth, is_slot, is_write_register, role_register, word_register, is_early, has_place}
+use Rattle.place_plan.proofs.Places.{same_place-itself}
 use Rattle.par_move.specs.Moves.{Move}
 use Rattle.ucode_emit.specs.Pieces.{named, copied, all_copied, copies, all_copies}
 use Rattle.ucode_emit.specs.inner.Machine.{IsReadable, IsWritable, IsDirect, write_slot, copied as in_one, AreDirect}

@@ -11,15 +11,15 @@ use Rattle.nv_base.specs.Sets.{is_in}
 use Rattle.nv_base.proofs.Sets.{same-number}
 use Rattle.ssu_ir.specs.Tree.{Label}
 use Rattle.ssu_ir.specs.Points.{Point, points, place_values}
-use Rattle.placement.specs.declared.place.Place.{Place}
-use Rattle.placement.specs.declared.place.Place.TheVariants.{A, B, L, LD, S, SD, Slot}
-use Rattle.placement.specs.declared.place.Serve.{Serve}
-use Rattle.placement.specs.Places.{same_place}
-use Rattle.placement.specs.Plan.{Home, Plan, home, home_in, first}
-use Rattle.placement.specs.Uses.{Value, ValueOrigin, Parameter, Result, Fetched, values, place_values as values_at, Role, Operand, Address, Written, Argument, Ending, Use, uses, uses_of, is_used}
-use Rattle.placement.specs.Fits.{read_place, write_place, IsGeneral, is_general, is_write_register, is_read_register, served, role_register, word_register, is_early, early_uses, AreCopies, IsPutEarly, IsHome, IsHoused, is_sort_homed, wants_home, is_home, IsServedAt, IsServed, stays, general_places, kept_register, read_places, has_place, none_shared}
-use Rattle.placement.proofs.Places.{same_place-true, same_place-from}
-use Rattle.placement.proofs.Fitting.{vars-of-place}
+use Rattle.place_plan.specs.declared.place.Place.{Place}
+use Rattle.place_plan.specs.declared.place.Place.TheVariants.{A, B, L, LD, S, SD, Slot}
+use Rattle.place_plan.specs.declared.place.Serve.{Serve}
+use Rattle.place_plan.specs.Places.{same_place}
+use Rattle.place_plan.specs.Plan.{Home, Plan, home, home_in, first}
+use Rattle.place_plan.specs.Uses.{Value, ValueOrigin, Parameter, Result, Fetched, values, place_values as values_at, Role, Operand, Address, Written, Argument, Ending, Use, uses, uses_of, is_used}
+use Rattle.place_plan.specs.Fits.{read_place, write_place, IsGeneral, is_general, is_write_register, is_read_register, served, role_register, word_register, is_early, early_uses, AreCopies, IsPutEarly, IsHome, IsHoused, is_sort_homed, wants_home, is_home, IsServedAt, IsServed, stays, general_places, kept_register, read_places, has_place, none_shared}
+use Rattle.place_plan.proofs.Places.{same_place-true, same_place-from}
+use Rattle.place_plan.proofs.Fitting.{vars-of-place}
 use Rattle.ucode_emit.specs.inner.Ready.{lasting}
 use Rattle.ucode_emit.specs.inner.Layers.{Placed}
 use Rattle.ucode_emit.proofs.PointsEach.{EachFrom, each_map, each_here, all_get, all_of}

@@ -10,13 +10,13 @@ use Rattle.nv_base.specs.Sets.{is_in}
 use Rattle.nv_base.specs.Words.{Env, assigned_all}
 use Rattle.ssu_ir.specs.Tree.{Read, Tree, Do, Label}
 use Rattle.ssu_ir.specs.Points.{Names, Point, points}
-use Rattle.placement.specs.declared.place.Place.{Place}
-use Rattle.placement.specs.declared.place.Place.TheVariants.{L, LD}
-use Rattle.placement.specs.Places.{same_place}
-use Rattle.placement.specs.Plan.{Plan, home, first}
-use Rattle.placement.specs.Uses.{Fetched, numbered, place_values as values_at, is_used, Access}
-use Rattle.placement.specs.Fits.{read_place, is_read_register, word_register, IsHoused, KeepsRead, run_of, read_places, has_place, none_shared}
-use Rattle.placement.proofs.Places.{same_place-from, same_place-true}
+use Rattle.place_plan.specs.declared.place.Place.{Place}
+use Rattle.place_plan.specs.declared.place.Place.TheVariants.{L, LD}
+use Rattle.place_plan.specs.Places.{same_place}
+use Rattle.place_plan.specs.Plan.{Plan, home, first}
+use Rattle.place_plan.specs.Uses.{Fetched, numbered, place_values as values_at, is_used, Access}
+use Rattle.place_plan.specs.Fits.{read_place, is_read_register, word_register, IsHoused, KeepsRead, run_of, read_places, has_place, none_shared}
+use Rattle.place_plan.proofs.Places.{same_place-from, same_place-true}
 use Rattle.par_move.specs.Moves.{Words, put}
 use Rattle.par_move.proofs.Steps.{put-other}
 use Rattle.ucode_emit.specs.Pieces.{all_copies}

@@ -9,14 +9,14 @@ use Rattle.nv_base.specs.Words.{Env}
 use Rattle.nv_base.proofs.Sets.{same-number, within-right}
 use Rattle.ssu_ir.specs.Tree.{Label}
 use Rattle.ssu_ir.specs.Points.{Point, points}
-use Rattle.placement.specs.declared.place.Place.{Place}
-use Rattle.placement.specs.declared.place.Place.TheVariants.{S}
-use Rattle.placement.specs.Places.{same_place}
-use Rattle.placement.specs.Plan.{Plan, home, pass}
-use Rattle.placement.specs.Uses.{Value, place_values as values_at, Use, uses, uses_of, is_used}
-use Rattle.placement.specs.Fits.{Waits, same_use, point_values, comes_to_slot, is_result, maybe, is_general, is_slot, is_write_register, is_read_register, word_register, is_early, IsPutEarly, general_places, has_place, none_shared}
-use Rattle.placement.proofs.Places.{same_place-from}
-use Rattle.placement.proofs.Fitting.{vars-of-place}
+use Rattle.place_plan.specs.declared.place.Place.{Place}
+use Rattle.place_plan.specs.declared.place.Place.TheVariants.{S}
+use Rattle.place_plan.specs.Places.{same_place}
+use Rattle.place_plan.specs.Plan.{Plan, home, pass}
+use Rattle.place_plan.specs.Uses.{Value, place_values as values_at, Use, uses, uses_of, is_used}
+use Rattle.place_plan.specs.Fits.{Waits, same_use, point_values, comes_to_slot, is_result, maybe, is_general, is_slot, is_write_register, is_read_register, word_register, is_early, IsPutEarly, general_places, has_place, none_shared}
+use Rattle.place_plan.proofs.Places.{same_place-from}
+use Rattle.place_plan.proofs.Fitting.{vars-of-place}
 use Rattle.par_move.specs.Moves.{Words, one_by_one}
 use Rattle.ucode_emit.specs.Pieces.{named, all_copies}
 use Rattle.ucode_emit.specs.inner.Ready.{Ready, WaitsAt, lasting}

@@ -10,11 +10,11 @@ use Rattle.nv_base.specs.Words.{Env, assigned}
 use Rattle.ssu_ir.specs.Tree.{Lit, Una, Bin, Tree, Do, Label}
 use Rattle.ssu_ir.specs.Points.{Names, Point, points}
 use Rattle.ssu_ir.proofs.Lists.{in-itself}
-use Rattle.placement.specs.declared.place.Place.{Place}
-use Rattle.placement.specs.declared.place.Place.TheVariants.{S}
-use Rattle.placement.specs.Plan.{Plan, home, pass}
-use Rattle.placement.specs.Uses.{result, place_values as values_at, Use, is_used}
-use Rattle.placement.specs.Fits.{IsGeneral, is_general, is_slot, is_write_register, is_read_register, word_register, AreCopies, IsPutEarly, IsHoused, general_places, has_place, comes_to_slot, Waits}
+use Rattle.place_plan.specs.declared.place.Place.{Place}
+use Rattle.place_plan.specs.declared.place.Place.TheVariants.{S}
+use Rattle.place_plan.specs.Plan.{Plan, home, pass}
+use Rattle.place_plan.specs.Uses.{result, place_values as values_at, Use, is_used}
+use Rattle.place_plan.specs.Fits.{IsGeneral, is_general, is_slot, is_write_register, is_read_register, word_register, AreCopies, IsPutEarly, IsHoused, general_places, has_place, comes_to_slot, Waits}
 use Rattle.ssu_liveness.proofs.Scoped.{in-either}
 use Rattle.par_move.specs.Moves.{Move, Words, put, one_by_one}
 use Rattle.par_move.proofs.Steps.{put-other}

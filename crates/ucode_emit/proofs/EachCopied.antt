@@ -1,8 +1,8 @@
 -- The copies of values, one value after the other.
 use Rattle.std.proofs.Common.{◌≡◌, ℕ, List, [], ◌∷◌, ◌++◌, Option, ap, sym, ◌∙◌, append_assoc}
 use Rattle.std.proofs.lemmas.List.{append-nil}
-use Rattle.placement.specs.declared.place.Place.{Place}
-use Rattle.placement.specs.Plan.{Plan, home}
+use Rattle.place_plan.specs.declared.place.Place.{Place}
+use Rattle.place_plan.specs.Plan.{Plan, home}
 use Rattle.ucode_emit.specs.Pieces.{all_copied}
 use Rattle.ucode_emit.specs.inner.Given.{each_copied}
 

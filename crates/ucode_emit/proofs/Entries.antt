@@ -9,13 +9,13 @@ use Rattle.nv_base.specs.Words.{Env}
 use Rattle.ssu_ir.specs.Tree.{Label}
 use Rattle.ssu_ir.specs.Single.{all_defined, is_entry, is_single}
 use Rattle.ssu_ir.specs.Points.{own, points}
-use Rattle.placement.specs.declared.place.Place.{Place}
-use Rattle.placement.specs.declared.place.Place.TheVariants.{A, B, L, LD, S, SD, Slot}
-use Rattle.placement.specs.Places.{same_place}
-use Rattle.placement.specs.Plan.{Plan, home}
-use Rattle.placement.specs.Uses.{Parameter, numbered, place_values as values_at}
-use Rattle.placement.specs.Fits.{IsGeneral, is_general, AreCopies, IsHoused, general_places, has_place}
-use Rattle.placement.proofs.Places.{same_place-from}
+use Rattle.place_plan.specs.declared.place.Place.{Place}
+use Rattle.place_plan.specs.declared.place.Place.TheVariants.{A, B, L, LD, S, SD, Slot}
+use Rattle.place_plan.specs.Places.{same_place}
+use Rattle.place_plan.specs.Plan.{Plan, home}
+use Rattle.place_plan.specs.Uses.{Parameter, numbered, place_values as values_at}
+use Rattle.place_plan.specs.Fits.{IsGeneral, is_general, AreCopies, IsHoused, general_places, has_place}
+use Rattle.place_plan.proofs.Places.{same_place-from}
 use Rattle.par_move.specs.Moves.{Move, Words, put, one_by_one, all_at_once, temporary, StandFor, none, once, around, at_rest}
 use Rattle.par_move.proofs.Steps.{put-other}
 use Rattle.ucode_emit.specs.Pieces.{entry_point, all_copies, entry_moves, single_move, single_moves}

@@ -11,13 +11,13 @@ use Rattle.ssu_ir.specs.Tree.{Last, Jump, Halt, Tree, Do, If, End, Label, Ends, 
 use Rattle.ssu_ir.specs.Single.{takes_as_many}
 use Rattle.ssu_ir.specs.Points.{Names, own, names_after, Point, points, points_from, point, live_of, nodes, tree_points}
 use Rattle.ssu_ir.proofs.Lists.{some-there}
-use Rattle.placement.specs.declared.place.Place.{Place}
-use Rattle.placement.specs.declared.place.Place.TheVariants.{A, L, LD}
-use Rattle.placement.specs.Places.{same_place}
-use Rattle.placement.specs.Plan.{Plan, home, serve}
-use Rattle.placement.specs.Uses.{Role, Argument, Ending, roles, place_roles, Use, uses_at, uses_from, uses}
-use Rattle.placement.specs.Fits.{read_place, is_write_register, word_register, is_home, label_param, param_at, parameter, IsServed}
-use Rattle.placement.proofs.Places.{same_place-true, same_place-from}
+use Rattle.place_plan.specs.declared.place.Place.{Place}
+use Rattle.place_plan.specs.declared.place.Place.TheVariants.{A, L, LD}
+use Rattle.place_plan.specs.Places.{same_place}
+use Rattle.place_plan.specs.Plan.{Plan, home, serve}
+use Rattle.place_plan.specs.Uses.{Role, Argument, Ending, roles, place_roles, Use, uses_at, uses_from, uses}
+use Rattle.place_plan.specs.Fits.{read_place, is_write_register, word_register, is_home, label_param, param_at, parameter, IsServed}
+use Rattle.place_plan.proofs.Places.{same_place-true, same_place-from}
 use Rattle.par_move.specs.Moves.{Move, temporary, HaveOwnTargets, SpareTemporary}
 use Rattle.ucode_emit.specs.Pieces.{served_moves, entry_moves, last_moves, tree_moves, moves_from, parallel_moves}
 use Rattle.ucode_emit.specs.inner.Layers.{Placed}

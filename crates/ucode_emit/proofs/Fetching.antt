@@ -1,7 +1,7 @@
 -- The operands of a point are fetched as its serves say.
 use Rattle.std.proofs.Common.{◌≡◌, ℕ, suc, ◌+◌, List, [], ◌∷◌, ◌++◌, length, Some, refl, ap, ◌∙◌, slice_get, arith}
-use Rattle.placement.specs.declared.place.Serve.{Serve}
-use Rattle.placement.specs.Plan.{Plan, serve, pass}
+use Rattle.place_plan.specs.declared.place.Serve.{Serve}
+use Rattle.place_plan.specs.Plan.{Plan, serve, pass}
 use Rattle.par_move.specs.Moves.{Move}
 use Rattle.ucode_emit.specs.Pieces.{to_read_register, each_operand, operands, words}
 use Rattle.ucode_emit.specs.inner.DraftItems.{own_fetch, slot_fetch, word_fetch, each_fetch, fetches}

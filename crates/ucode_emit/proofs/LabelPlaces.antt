@@ -8,11 +8,11 @@ use Rattle.std.proofs.lemmas.Option.{none-some, same_Some, get_or_from_slice_get
 use Rattle.uc_isa.specs.declared.instruction.Instr.{Instr}
 use Rattle.uc_isa.specs.declared.instruction.Instr.TheVariants as instr
 use Rattle.uc_isa.specs.Lawful.{IsLast}
-use Rattle.uc_executions.specs.Starts.{HasShape, AreInside, AreStarts}
+use Rattle.uc_isa_executions.specs.Starts.{HasShape, AreInside, AreStarts}
 use Rattle.ssu_ir.specs.Tree.{Label}
 use Rattle.ssu_ir.specs.Points.{nodes}
 use Rattle.ssu_ir.proofs.Lists.{get-left, some-there}
-use Rattle.placement.specs.Plan.{Plan}
+use Rattle.place_plan.specs.Plan.{Plan}
 use Rattle.ucode_emit.specs.inner.Layers.{Placed, ReadyLayer}
 use Rattle.ucode_emit.specs.Pieces.{Item, Moved, Plain, Branch, instr_of, single_moves, all_copies, entry_point, Sequences, sequence_at, label_items, items_from, items, tree_starts, starts_from, starts, parallel_moves}
 use Rattle.ucode_emit.specs.Emits.{label_starts, entries_from, AreSequences}

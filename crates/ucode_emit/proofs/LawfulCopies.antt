@@ -7,11 +7,11 @@ use Rattle.nv_base.proofs.Sets.{same-number}
 use Rattle.ssu_ir.specs.Tree.{Label}
 use Rattle.ssu_ir.specs.Points.{Point}
 use Rattle.ssu_ir.specs.Measures.{point_size, total}
-use Rattle.placement.specs.declared.place.Place.{Place}
-use Rattle.placement.specs.declared.place.Place.TheVariants.{A, B, Slot}
-use Rattle.placement.specs.Plan.{Plan, home}
-use Rattle.placement.specs.Uses.{Role, Use, uses_at, uses_from, uses, is_used, place_roles}
-use Rattle.placement.specs.Fits.{maybe, AreFills, AreCopies, word_register, is_early, early_uses}
+use Rattle.place_plan.specs.declared.place.Place.{Place}
+use Rattle.place_plan.specs.declared.place.Place.TheVariants.{A, B, Slot}
+use Rattle.place_plan.specs.Plan.{Plan, home}
+use Rattle.place_plan.specs.Uses.{Role, Use, uses_at, uses_from, uses, is_used, place_roles}
+use Rattle.place_plan.specs.Fits.{maybe, AreFills, AreCopies, word_register, is_early, early_uses}
 use Rattle.ucode_emit.specs.inner.Layers.{Placed}
 use Rattle.ucode_emit.proofs.PointsLabels.{formed_at}
 use Rattle.ucode_emit.proofs.PointsUses.{at_in, use_at, use_of}

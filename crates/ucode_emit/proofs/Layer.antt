@@ -1,6 +1,6 @@
 -- What has to stand where, from each point to the next.
 use Rattle.ssu_ir.specs.Tree.{Label}
-use Rattle.placement.specs.Plan.{Plan}
+use Rattle.place_plan.specs.Plan.{Plan}
 use Rattle.ucode_emit.specs.inner.Layers.{Placed, ReadyLayer}
 use Rattle.ucode_emit.proofs.Operands.{one_operand, two_operands, compared, read_address}
 use Rattle.ucode_emit.proofs.Words.{written}

@@ -9,9 +9,9 @@ use Rattle.ssu_ir.specs.Tree.{Tree, Do, If, End, Label, Does}
 use Rattle.ssu_ir.specs.Points.{Entry, At, place_values as place_variables}
 use Rattle.ssu_ir.specs.Measures.{tree_code, labels_code, code_bound}
 use Rattle.ssu_ir.specs.Single.{all_defined, is_entry, is_single}
-use Rattle.placement.specs.Plan.{Plan, serve}
-use Rattle.placement.specs.Uses.{Use, uses}
-use Rattle.placement.specs.Fits.{use_operand, is_early}
+use Rattle.place_plan.specs.Plan.{Plan, serve}
+use Rattle.place_plan.specs.Uses.{Use, uses}
+use Rattle.place_plan.specs.Fits.{use_operand, is_early}
 use Rattle.ucode_emit.specs.Pieces.{instr_of, items, starts, Sequences, sequence_at, parallel_moves}
 use Rattle.ucode_emit.specs.Emits.{AreSequences}
 use Rattle.ucode_emit.specs.inner.Layers.{Placed}

@@ -25,9 +25,9 @@ use Rattle.uc_isa.specs.Straight.{Stands as InCode}
 use Rattle.uc_isa.proofs.PieceSteps.{leads-read, ends-read, leads-write, ends-write}
 use Rattle.uc_isa.proofs.RegisterLemmas.{written-run}
 use Rattle.uc_isa.proofs.States.{other-state, written-fits}
-use Rattle.placement.specs.declared.place.Place.{Place}
-use Rattle.placement.specs.declared.place.Place.TheVariants.{A, B, L, LD, S, SD, Slot}
-use Rattle.placement.specs.Fits.{write_place}
+use Rattle.place_plan.specs.declared.place.Place.{Place}
+use Rattle.place_plan.specs.declared.place.Place.TheVariants.{A, B, L, LD, S, SD, Slot}
+use Rattle.place_plan.specs.Fits.{write_place}
 use Rattle.par_move.specs.Moves.{Words}
 use Rattle.ucode_emit.specs.Pieces.{address_of}
 use Rattle.ucode_emit.specs.inner.Machine.{Stands, Led, Over, filled}

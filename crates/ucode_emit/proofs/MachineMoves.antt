@@ -23,8 +23,8 @@ use Rattle.uc_isa.proofs.Listing.{stands-left, stands-right}
 use Rattle.uc_isa.proofs.OwnWrites.{own-write, own-seen}
 use Rattle.uc_isa.proofs.PieceSteps.{leads-un, leads-read, leads-write}
 use Rattle.uc_isa.proofs.States.{operand-fits, other-state}
-use Rattle.placement.specs.declared.place.Place.{Place}
-use Rattle.placement.specs.declared.place.Place.TheVariants.{A, B, L, LD, S, SD, Slot}
+use Rattle.place_plan.specs.declared.place.Place.{Place}
+use Rattle.place_plan.specs.declared.place.Place.TheVariants.{A, B, L, LD, S, SD, Slot}
 use Rattle.par_move.specs.Moves.{Move, Words, put, one_by_one}
 use Rattle.ucode_emit.specs.Pieces.{source, target, move_instr}
 use Rattle.ucode_emit.specs.inner.Machine.{IsReadable, IsWritable, IsDirect, read_slot, write_slot, copied, AreDirect, Stands, move_instrs, Led}

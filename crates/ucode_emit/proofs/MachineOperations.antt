@@ -31,8 +31,8 @@ use Rattle.uc_isa.proofs.Listing.{stands-right, stands-fetched}
 use Rattle.uc_isa.proofs.PieceSteps.{leads-alu, leads-un, leads-immed, leads-taken, leads-passed, ends-halt}
 use Rattle.uc_isa.proofs.RegisterLemmas.{halted-run, started-args}
 use Rattle.uc_isa.proofs.States.{operand-fits, start-state}
-use Rattle.placement.specs.declared.place.Place.{Place}
-use Rattle.placement.specs.declared.place.Place.TheVariants.{A}
+use Rattle.place_plan.specs.declared.place.Place.{Place}
+use Rattle.place_plan.specs.declared.place.Place.TheVariants.{A}
 use Rattle.par_move.specs.Moves.{Words, put}
 use Rattle.ucode_emit.specs.Pieces.{source, target, un_op}
 use Rattle.ucode_emit.specs.inner.Ready.{Begun}

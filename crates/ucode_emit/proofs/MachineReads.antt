@@ -15,10 +15,10 @@ use Rattle.uc_isa.specs.Step.{with_read, onward}
 use Rattle.uc_isa.proofs.Places.{place-with_read}
 use Rattle.uc_isa.proofs.RegisterLemmas.{fills-run}
 use Rattle.uc_isa.proofs.States.{other-state, read-state}
-use Rattle.placement.specs.declared.place.Place.{Place}
-use Rattle.placement.specs.declared.place.Place.TheVariants.{A, B, L, LD, S, SD, Slot}
-use Rattle.placement.specs.Places.{same_place}
-use Rattle.placement.specs.Fits.{read_place}
+use Rattle.place_plan.specs.declared.place.Place.{Place}
+use Rattle.place_plan.specs.declared.place.Place.TheVariants.{A, B, L, LD, S, SD, Slot}
+use Rattle.place_plan.specs.Places.{same_place}
+use Rattle.place_plan.specs.Fits.{read_place}
 use Rattle.par_move.specs.Moves.{Words}
 use Rattle.ucode_emit.specs.inner.Machine.{word_at, Stands, filled}
 use Rattle.ucode_emit.proofs.MachineResults.{HasWords}

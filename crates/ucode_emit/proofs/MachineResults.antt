@@ -10,8 +10,8 @@ use Rattle.uc_isa.specs.Pieces.{Moment}
 use Rattle.uc_isa.specs.Step.{operand, address, with_result}
 use Rattle.uc_isa.proofs.Places.{place-with_result}
 use Rattle.uc_isa.proofs.States.{bank-set, other-state}
-use Rattle.placement.specs.declared.place.Place.{Place}
-use Rattle.placement.specs.declared.place.Place.TheVariants.{A, B, L, LD, S, SD, Slot}
+use Rattle.place_plan.specs.declared.place.Place.{Place}
+use Rattle.place_plan.specs.declared.place.Place.TheVariants.{A, B, L, LD, S, SD, Slot}
 use Rattle.par_move.specs.Moves.{Words, put}
 use Rattle.ucode_emit.specs.Pieces.{source, target, address_of}
 use Rattle.ucode_emit.specs.inner.Machine.{word_at, IsPlace, IsReadable, IsWritable, Stands}

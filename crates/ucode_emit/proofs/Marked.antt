@@ -5,7 +5,7 @@ use Rattle.std.proofs.lemmas.List.{append-nil, length-append}
 use Rattle.uc_isa.specs.Registers.{failing}
 use Rattle.ssu_ir.specs.Tree.{Tree, Do, If, End, Label, Ends}
 use Rattle.ssu_ir.specs.Points.{At, nodes}
-use Rattle.placement.specs.Plan.{Plan}
+use Rattle.place_plan.specs.Plan.{Plan}
 use Rattle.ucode_emit.specs.Pieces.{Item, moved, all_copies, entry_point, entry_moves, step_items, fork_items, Sequences, sequence_at, tree_items, items_from, items, tree_starts, starts_from, starts, tree_moves, moves_from, parallel_moves}
 use Rattle.ucode_emit.specs.Emits.{entries_from}
 use Rattle.ucode_emit.specs.inner.Marks.{Mark, mark, tree_marks, marks_from, marks, pieces, point_piece, joined, begins, place_moves, marks_moves}

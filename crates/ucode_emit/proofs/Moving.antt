@@ -1,7 +1,7 @@
 -- A move that is one instruction has the ends that are asked of it.
 use Rattle.std.proofs.Common.{ℕ, ◌≤◌, arith}
-use Rattle.placement.specs.declared.place.Place.{Place}
-use Rattle.placement.specs.declared.place.Place.TheVariants.{A, B, L, LD, S, SD, Slot}
+use Rattle.place_plan.specs.declared.place.Place.{Place}
+use Rattle.place_plan.specs.declared.place.Place.TheVariants.{A, B, L, LD, S, SD, Slot}
 use Rattle.ucode_emit.specs.inner.Machine.{IsReadable, IsWritable, IsDirect, read_slot, write_slot, copied}
 use Rattle.ucode_emit.specs.inner.DraftItems.{CanMove}
 

@@ -8,13 +8,13 @@ use Rattle.nv_base.specs.Sets.{is_in}
 use Rattle.nv_base.specs.Words.{Env}
 use Rattle.ssu_ir.specs.Tree.{Label}
 use Rattle.ssu_ir.specs.Points.{Point}
-use Rattle.placement.specs.declared.place.Place.{Place}
-use Rattle.placement.specs.declared.place.Place.TheVariants.{A, B, L, LD, S, SD, Slot}
-use Rattle.placement.specs.Places.{same_place}
-use Rattle.placement.specs.Plan.{Plan, home, serve, pass}
-use Rattle.placement.specs.Uses.{Operand, Address}
-use Rattle.placement.specs.Fits.{is_general, is_slot, is_write_register, is_read_register, word_register, is_home, IsOperandAt, IsAddressAt, read_places, has_place, maybe, different_groups}
-use Rattle.placement.proofs.Places.{same_place-from, same_place-false}
+use Rattle.place_plan.specs.declared.place.Place.{Place}
+use Rattle.place_plan.specs.declared.place.Place.TheVariants.{A, B, L, LD, S, SD, Slot}
+use Rattle.place_plan.specs.Places.{same_place}
+use Rattle.place_plan.specs.Plan.{Plan, home, serve, pass}
+use Rattle.place_plan.specs.Uses.{Operand, Address}
+use Rattle.place_plan.specs.Fits.{is_general, is_slot, is_write_register, is_read_register, word_register, is_home, IsOperandAt, IsAddressAt, read_places, has_place, maybe, different_groups}
+use Rattle.place_plan.proofs.Places.{same_place-from, same_place-false}
 use Rattle.par_move.specs.Moves.{Move, Words, put, one_by_one, temporary}
 use Rattle.par_move.proofs.Steps.{put-other}
 use Rattle.ucode_emit.specs.Pieces.{named, brought, operands, operand_at}

@@ -13,14 +13,14 @@ use Rattle.nv_base.proofs.Sets.{within-left}
 use Rattle.ssu_ir.specs.Tree.{Lit, Una, Bin, Clone, Read, Write, Tree, Do, If, End, Label, Does, Forks, Ends, step_uses}
 use Rattle.ssu_ir.specs.Points.{Names, names_after, used, PointKind as PointPlace, Entry, At, Point, points, place_values}
 use Rattle.ssu_ir.proofs.Liveness.{filter_from, filter_in}
-use Rattle.placement.specs.declared.place.Place.{Place}
-use Rattle.placement.specs.declared.place.Place.TheVariants.{A, B, L, LD, S, SD, Slot}
-use Rattle.placement.specs.Places.{same_place}
-use Rattle.placement.specs.Plan.{Plan, home, first, pass}
-use Rattle.placement.specs.Uses.{place_accesses, Value, ValueOrigin, Parameter, Result, Fetched, numbered, place_values as values_at, place_roles, Use, uses_at, uses, uses_of, is_used}
-use Rattle.placement.specs.Fits.{read_place, IsGeneral, is_general, is_slot, is_write_register, is_read_register, served, AreCopies, IsPutEarly, IsHome, IsHoused, is_home, IsServed, stays, general_places, kept_register, read_places, has_place}
-use Rattle.placement.proofs.Places.{same_place-true, same_place-from}
-use Rattle.placement.proofs.Fitting.{vars-of-place}
+use Rattle.place_plan.specs.declared.place.Place.{Place}
+use Rattle.place_plan.specs.declared.place.Place.TheVariants.{A, B, L, LD, S, SD, Slot}
+use Rattle.place_plan.specs.Places.{same_place}
+use Rattle.place_plan.specs.Plan.{Plan, home, first, pass}
+use Rattle.place_plan.specs.Uses.{place_accesses, Value, ValueOrigin, Parameter, Result, Fetched, numbered, place_values as values_at, place_roles, Use, uses_at, uses, uses_of, is_used}
+use Rattle.place_plan.specs.Fits.{read_place, IsGeneral, is_general, is_slot, is_write_register, is_read_register, served, AreCopies, IsPutEarly, IsHome, IsHoused, is_home, IsServed, stays, general_places, kept_register, read_places, has_place}
+use Rattle.place_plan.proofs.Places.{same_place-true, same_place-from}
+use Rattle.place_plan.proofs.Fitting.{vars-of-place}
 use Rattle.par_move.specs.Moves.{Words, temporary}
 use Rattle.ucode_emit.specs.inner.Ready.{Ready, lasting}
 use Rattle.ucode_emit.specs.inner.Layers.{Placed, PointsAt, root_point}

@@ -6,9 +6,9 @@ use Rattle.nv_base.specs.declared.term.Bin.TheVariants.{Sub}
 use Rattle.nv_base.specs.declared.term.Cmp.{Cmp}
 use Rattle.ssu_ir.specs.Tree.{Step, Lit, Una, Bin, Clone, Read, Write, Last, Jump, Halt, Tree, Do, If, End, Label}
 use Rattle.ssu_ir.specs.Points.{nodes}
-use Rattle.placement.specs.declared.place.Place.{Place}
-use Rattle.placement.specs.declared.place.Place.TheVariants.{A, B, L, LD, S, SD, Slot}
-use Rattle.placement.specs.Plan.{Plan, pass}
+use Rattle.place_plan.specs.declared.place.Place.{Place}
+use Rattle.place_plan.specs.declared.place.Place.TheVariants.{A, B, L, LD, S, SD, Slot}
+use Rattle.place_plan.specs.Plan.{Plan, pass}
 use Rattle.par_move.specs.Moves.{Move}
 use Rattle.ucode_emit.specs.Operations.{Operation, Immediate, Unary, Binary, Reading, Branching, instr_operation, code_operations, step_operations, last_operations, tree_operations, form_operations}
 use Rattle.ucode_emit.specs.inner.Machine.{IsReadable, IsDirect, read_slot, write_slot, copied}

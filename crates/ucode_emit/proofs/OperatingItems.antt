@@ -6,8 +6,8 @@ use Rattle.nv_base.specs.declared.term.Una.{Una as Function}
 use Rattle.nv_base.specs.declared.term.Una.TheVariants as una
 use Rattle.uc_isa.specs.declared.instruction.Instr.{Instr}
 use Rattle.uc_isa.specs.declared.instruction.Instr.TheVariants as instr
-use Rattle.placement.specs.declared.place.Place.{Place}
-use Rattle.placement.specs.declared.place.Place.TheVariants.{A, B, L, LD, S, SD, Slot}
+use Rattle.place_plan.specs.declared.place.Place.{Place}
+use Rattle.place_plan.specs.declared.place.Place.TheVariants.{A, B, L, LD, S, SD, Slot}
 use Rattle.ucode_emit.specs.Operations.{Operation, Immediate, Unary, Binary, Reading, Writing, Branching, Ending, unary_operation, access_operation, instr_operation}
 use Rattle.ucode_emit.specs.inner.Layers.{IsAddress}
 use Rattle.ucode_emit.specs.Pieces.{un_op, address_of}

@@ -7,7 +7,7 @@ use Rattle.nv_base.proofs.Sets.{within-left, within-right}
 use Rattle.ssu_ir.specs.Tree.{Step, Lit, Una, Bin, Clone, Read, Write, Jump, Halt, Tree, Do, If, End, Label, Node, Does, Forks, Ends, step_values, step_uses, node_uses}
 use Rattle.ssu_ir.specs.Points.{Names, own, names_after, used, live_of, Point, place_values, nodes, tree_points, points_from, points}
 use Rattle.ssu_ir.proofs.Liveness.{filter_from, filter_in}
-use Rattle.placement.specs.Uses.{Role, Written, Argument, Ending, roles, node_roles, place_roles, Use, uses_at, uses_from, uses, is_used}
+use Rattle.place_plan.specs.Uses.{Role, Written, Argument, Ending, roles, node_roles, place_roles, Use, uses_at, uses_from, uses, is_used}
 use Rattle.ssu_liveness.proofs.Scoped.{in-either}
 use Rattle.ucode_emit.specs.Pieces.{entry_point}
 use Rattle.ucode_emit.specs.inner.Layers.{PointsAt, root_point}

@@ -7,7 +7,7 @@ use Rattle.nv_base.specs.Sets.{is_in}
 use Rattle.nv_base.proofs.Sets.{same-number}
 use Rattle.ssu_ir.specs.Tree.{Label}
 use Rattle.ssu_ir.specs.Points.{Point, points}
-use Rattle.placement.specs.Uses.{Value, ValueOrigin, numbered, place_values as values_at, values_from, Role, Use, uses_at, uses_from, uses, is_used, place_roles}
+use Rattle.place_plan.specs.Uses.{Value, ValueOrigin, numbered, place_values as values_at, values_from, Role, Use, uses_at, uses_from, uses, is_used, place_roles}
 use Rattle.ucode_emit.proofs.PointsEach.{EachFrom, each_of, all_left, all_right, all_both, all_get}
 
 -- ---- places in lists of names

@@ -25,8 +25,8 @@ use Rattle.ssu_ir.specs.Meaning.{assigned_each}
 use Rattle.ssu_ir.specs.Entered.{Exit, step_exit, exit_after_read, exit_after_write}
 use Rattle.ssu_ir.specs.Single.{Numbers, numbers_after, step_names, all_known, is_scoped, is_step, are_nodes, is_addressed, is_address, are_addressed, is_narrow, defined}
 use Rattle.ssu_ir.proofs.Lists.{in-itself}
-use Rattle.placement.specs.Plan.{Plan, first}
-use Rattle.placement.specs.Fits.{write_place}
+use Rattle.place_plan.specs.Plan.{Plan, first}
+use Rattle.place_plan.specs.Fits.{write_place}
 use Rattle.ssu_liveness.proofs.Scoped.{all-in, in-either}
 use Rattle.par_move.specs.Moves.{Move, Words, put, one_by_one}
 use Rattle.ucode_emit.specs.Pieces.{Plain, moved, operands, operand_at, words, result_place, to_slot, copies, all_copies, un_op, source, target, address_of, shift_of, step_items, tree_items}

@@ -24,9 +24,9 @@ use Rattle.ssu_ir.specs.Meaning.{blank}
 use Rattle.ssu_ir.specs.Entered.{Exit, JumpsTo, last_exit, tree_exit}
 use Rattle.ssu_ir.specs.Single.{Numbers, numbers_after, all_known, is_scoped, are_nodes, takes_as_many, are_addressed, defined}
 use Rattle.ssu_ir.proofs.Lists.{in-itself}
-use Rattle.placement.specs.declared.place.Place.{Place}
-use Rattle.placement.specs.declared.place.Place.TheVariants.{A}
-use Rattle.placement.specs.Plan.{Plan, pass}
+use Rattle.place_plan.specs.declared.place.Place.{Place}
+use Rattle.place_plan.specs.declared.place.Place.TheVariants.{A}
+use Rattle.place_plan.specs.Plan.{Plan, pass}
 use Rattle.ssu_liveness.proofs.Scoped.{all-in}
 use Rattle.par_move.specs.Moves.{Words, one_by_one}
 use Rattle.ucode_emit.specs.Pieces.{Plain, Branch, moved, operands, operand_at, source, single_moves, last_moves, step_items, fork_items, tree_items, entry_point, sequence_at, parallel_moves}

@@ -7,13 +7,13 @@ use Rattle.nv_base.specs.Memories.{Memories}
 use Rattle.nv_base.specs.World.{World, begun}
 use Rattle.uc_isa.specs.Agrees.{IsStart}
 use Rattle.uc_isa.specs.Pieces.{Moment}
-use Rattle.uc_executions.specs.Entries.{VisitedAsEntered, IsVisited}
-use Rattle.uc_executions.specs.Visits.{here, stood}
-use Rattle.uc_executions.proofs.Counting.{here-at, here-not}
+use Rattle.uc_isa_executions.specs.Entries.{VisitedAsEntered, IsVisited}
+use Rattle.uc_isa_executions.specs.Visits.{here, stood}
+use Rattle.uc_isa_executions.proofs.Counting.{here-at, here-not}
 use Rattle.ssu_ir.specs.Tree.{Label}
 use Rattle.ssu_ir.specs.Meaning.{ssu_params}
 use Rattle.ssu_ir.specs.Entered.{Exit, JumpsTo, EndsWith, label_exit, is_entered, entered_behind, entered}
-use Rattle.placement.specs.Plan.{Plan}
+use Rattle.place_plan.specs.Plan.{Plan}
 use Rattle.ucode_emit.specs.Pieces.{entry_point, Sequences, parallel_moves}
 use Rattle.ucode_emit.specs.Emits.{AreSequences, label_starts}
 use Rattle.ucode_emit.specs.inner.Layers.{Placed, at_start}

@@ -33,7 +33,7 @@ use Rattle.ssu_ir.specs.Single.{unknown, defined, all_defined, is_entry, is_sing
 use Rattle.ssu_ir.proofs.Exits.{enter_by_exit, meaning_by_exit}
 use Rattle.ssu_ir.proofs.Growth.{meaning-follows}
 use Rattle.ssu_ir.proofs.Rules.{single_label_parts}
-use Rattle.placement.specs.Plan.{Plan}
+use Rattle.place_plan.specs.Plan.{Plan}
 use Rattle.par_move.specs.Moves.{Move, Words, one_by_one, StandFor, none, once, around, at_rest}
 use Rattle.ucode_emit.specs.Pieces.{Sequences, moved, instr_of, items, starts, starts_from, single_moves, all_copies, entry_point, entry_moves, sequence_at, tree_items, label_items, tree_moves, label_moves, moves_from, parallel_moves}
 use Rattle.ucode_emit.specs.Emits.{IsSequence, AreSequences}

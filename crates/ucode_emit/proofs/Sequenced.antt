@@ -8,8 +8,8 @@ use Rattle.ssu_ir.specs.declared.ssu.Ssu.{Ssu}
 use Rattle.ssu_ir.specs.Tree.{Last, Jump, Halt, Label, Does, Forks, Ends, last_uses}
 use Rattle.ssu_ir.specs.Points.{PointKind, Entry, At}
 use Rattle.ssu_ir.specs.View.{labels_view}
-use Rattle.placement.specs.declared.place.Serve.{Serve}
-use Rattle.placement.specs.Plan.{Plan, serve}
+use Rattle.place_plan.specs.declared.place.Serve.{Serve}
+use Rattle.place_plan.specs.Plan.{Plan, serve}
 use Rattle.par_move.specs.Moves.{Move, HaveOwnTargets, SpareTemporary, none}
 use Rattle.ucode_emit.specs.declared.point_ids.EmittedPoint.{EmittedPoint}
 use Rattle.ucode_emit.specs.declared.point_ids.EmittedPoint.TheVariants.{Entry as EntrySpot}

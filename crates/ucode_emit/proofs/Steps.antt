@@ -9,7 +9,7 @@ use Rattle.nv_base.proofs.Sets.{within-left, within-right}
 use Rattle.ssu_ir.specs.Tree.{Clone, Write, Tree, Do, If, Label}
 use Rattle.ssu_ir.specs.Points.{Names, names_after, used, Point, nodes}
 use Rattle.ssu_ir.proofs.Liveness.{filter_from, filter_in}
-use Rattle.placement.specs.Plan.{Plan}
+use Rattle.place_plan.specs.Plan.{Plan}
 use Rattle.par_move.specs.Moves.{Words}
 use Rattle.ucode_emit.specs.inner.Ready.{Ready}
 use Rattle.ucode_emit.specs.inner.Layers.{Placed, PointsAt, root_point}

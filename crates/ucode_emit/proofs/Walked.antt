@@ -12,10 +12,10 @@ use Rattle.ssu_ir.specs.Tree.{Jump, Halt, Tree, Do, If, End, Label, Node, Does, 
 use Rattle.ssu_ir.specs.Points.{Names, PointKind, Entry, At, nodes}
 use Rattle.ssu_ir.specs.Single.{takes_as_many}
 use Rattle.ssu_ir.specs.View.{labels_view}
-use Rattle.placement.specs.declared.place.First.{First}
-use Rattle.placement.specs.declared.place.Serve.{Serve}
-use Rattle.placement.specs.declared.place.Pass.{Pass}
-use Rattle.placement.specs.Plan.{Plan, serve, first_in, pass_in}
+use Rattle.place_plan.specs.declared.place.First.{First}
+use Rattle.place_plan.specs.declared.place.Serve.{Serve}
+use Rattle.place_plan.specs.declared.place.Pass.{Pass}
+use Rattle.place_plan.specs.Plan.{Plan, serve, first_in, pass_in}
 use Rattle.par_move.specs.Moves.{Move}
 use Rattle.ucode_emit.specs.declared.point_ids.EmittedPoint.{EmittedPoint}
 use Rattle.ucode_emit.specs.declared.point_ids.EmittedPoint.TheVariants.{Entry as EntrySpot, Node as NodeSpot}

@@ -5,17 +5,17 @@ use Rattle.uc_isa.specs.Agrees.{Agrees}
 use Rattle.uc_isa.specs.Code.{CodeView}
 use Rattle.uc_isa.specs.Lawful.{IsLawful}
 use Rattle.uc_isa.specs.Moves.{moves}
-use Rattle.uc_executions.specs.Entries.{IsVisited}
-use Rattle.uc_executions.specs.Starts.{AreStarts}
+use Rattle.uc_isa_executions.specs.Entries.{IsVisited}
+use Rattle.uc_isa_executions.specs.Starts.{AreStarts}
 use Rattle.ssu_ir.specs.Tree.{Label}
 use Rattle.ssu_ir.specs.Entered.{entered}
 use Rattle.ssu_ir.specs.Measures.{size, code_bound}
 use Rattle.ssu_ir.specs.Meaning.{ssu_meaning, ssu_params}
 use Rattle.ssu_ir.specs.Single.{single}
-use Rattle.placement.specs.Weighted.{weighted_cost}
-use Rattle.placement.specs.Costs.{cost}
-use Rattle.placement.specs.Fits.{Fits}
-use Rattle.placement.specs.Plan.{Plan}
+use Rattle.place_plan.specs.Weighted.{weighted_cost}
+use Rattle.place_plan.specs.Costs.{cost}
+use Rattle.place_plan.specs.Fits.{Fits}
+use Rattle.place_plan.specs.Plan.{Plan}
 use Rattle.ucode_emit.specs.SpillBase.{SpillsByBase}
 use Rattle.ucode_emit.specs.Operations.{code_operations, form_operations}
 use Rattle.ucode_emit.specs.Pieces.{instr_of, items, starts}

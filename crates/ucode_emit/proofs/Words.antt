@@ -13,13 +13,13 @@ use Rattle.nv_base.proofs.Sets.{same-number, within-left}
 use Rattle.ssu_ir.specs.Tree.{Write, Tree, Do, Label}
 use Rattle.ssu_ir.specs.Points.{Names, Point, points}
 use Rattle.ssu_ir.proofs.Lists.{in-itself, some-there}
-use Rattle.placement.specs.declared.place.Place.{Place}
-use Rattle.placement.specs.declared.place.Place.TheVariants.{A, B, L, LD, S, SD, Slot}
-use Rattle.placement.specs.Places.{same_place}
-use Rattle.placement.specs.Plan.{Plan, first, serve, pass}
-use Rattle.placement.specs.Uses.{Access, Role, Address, Written, roles, place_roles, Use, uses_at}
-use Rattle.placement.specs.Fits.{write_place, is_slot, is_write_register, role_register, word_register, run_of, has_place, is_home, point_values}
-use Rattle.placement.proofs.Places.{same_place-true, same_place-from}
+use Rattle.place_plan.specs.declared.place.Place.{Place}
+use Rattle.place_plan.specs.declared.place.Place.TheVariants.{A, B, L, LD, S, SD, Slot}
+use Rattle.place_plan.specs.Places.{same_place}
+use Rattle.place_plan.specs.Plan.{Plan, first, serve, pass}
+use Rattle.place_plan.specs.Uses.{Access, Role, Address, Written, roles, place_roles, Use, uses_at}
+use Rattle.place_plan.specs.Fits.{write_place, is_slot, is_write_register, role_register, word_register, run_of, has_place, is_home, point_values}
+use Rattle.place_plan.proofs.Places.{same_place-true, same_place-from}
 use Rattle.par_move.specs.Moves.{Move, Words, one_by_one}
 use Rattle.ucode_emit.specs.Pieces.{named, bring, brought, operands, operand_at, words}
 use Rattle.ucode_emit.specs.inner.Ready.{Ready, WaitsAt, lasting}

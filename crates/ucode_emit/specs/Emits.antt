@@ -3,8 +3,8 @@ use Rattle.std.specs.Prelude.{◌≡◌, ◌≢◌, ℕ, suc, ◌+◌, ◌*◌, 
 use Rattle.uc_isa.specs.declared.instruction.Instr.{Instr}
 use Rattle.ssu_ir.specs.Tree.{Label}
 use Rattle.ssu_ir.specs.Points.{nodes}
-use Rattle.placement.specs.declared.place.Place.{Place}
-use Rattle.placement.specs.Plan.{Plan}
+use Rattle.place_plan.specs.declared.place.Place.{Place}
+use Rattle.place_plan.specs.Plan.{Plan}
 use Rattle.par_move.specs.Moves.{Move, Words, all_at_once, one_by_one, temporary, StandFor}
 use Rattle.ucode_emit.specs.Pieces.{Sequences, instr_of, items, starts, parallel_moves}
 

@@ -2,8 +2,8 @@
 
 ghost use Rattle.std.specs.Prelude.{◌≡◌, ◌++◌, ◌∷◌, [], ◌≤◌, length, map, OnOk};
 ghost use Rattle.uc_isa.specs.declared.instruction.Instr.TheVariants as instr;
-ghost use Rattle.placement.specs.Fits.{Rises};
-ghost use Rattle.placement.specs.Plan.{plan_view};
+ghost use Rattle.place_plan.specs.Fits.{Rises};
+ghost use Rattle.place_plan.specs.Plan.{plan_view};
 ghost use Rattle.ucode_emit.specs.inner.DraftItems as drafts;
 ghost use Rattle.ucode_emit.specs.inner.DraftItems.{draft};
 ghost use Rattle.ucode_emit.specs.inner.Layers.{IsAddress};
@@ -18,7 +18,7 @@ use crate::fetch::{fetches, push_fetches, served_at, words};
 use crate::moves::{Move, all_copied};
 use crate::registers::address;
 use nv_base::{Mem, NoMemory};
-use placement::{Placement, Serve};
+use place_plan::{Placement, Serve};
 use std::alloc::Global;
 use uc_isa::Instr;
 

@@ -1,10 +1,10 @@
 //! What a placement says of each point, taken from its lists in order.
 
 ghost use Rattle.std.specs.Prelude.{◌≡◌, ◌+◌, ◌≤◌, suc, length, take, drop, slice_get};
-ghost use Rattle.placement.specs.Plan.{first_in, pass_in};
+ghost use Rattle.place_plan.specs.Plan.{first_in, pass_in};
 ghost use Rattle.ucode_emit.specs.inner.Cursors.{IsCut, of_point};
 
-use placement::{First, Pass, Serve};
+use place_plan::{First, Pass, Serve};
 
 /// How far the lists of a placement are done.
 #[derive(Drop)]

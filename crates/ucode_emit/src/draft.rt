@@ -10,7 +10,7 @@ ghost use Rattle.ucode_emit.specs.inner.DraftItems.{draft, CanMove};
 use crate::moves::Move;
 use crate::registers::{source, target};
 use nv_base::{Mem, NoMemory};
-use placement::Place;
+use place_plan::Place;
 use std::alloc::Global;
 use std::marker::Model;
 use uc_isa::{Dst, Gpr, Instr, RegB, Src, UnOp};

@@ -2,7 +2,7 @@
 
 ghost use Rattle.std.specs.Prelude.{IfOk};
 ghost use Rattle.ssu_ir.specs.View.{labels_view};
-ghost use Rattle.placement.specs.Plan.{plan_view};
+ghost use Rattle.place_plan.specs.Plan.{plan_view};
 ghost use Rattle.ucode_emit.specs.inner.Drafted.{AreDrafted};
 ghost use Rattle.ucode_emit.specs.inner.Layers.{Placed};
 
@@ -10,7 +10,7 @@ use crate::draft::Draft;
 use crate::settle::places_of;
 use crate::walk::{points_of, push_points};
 use nv_base::NoMemory;
-use placement::Placement;
+use place_plan::Placement;
 use ssu_ir::Ssu;
 use std::alloc::Global;
 

@@ -1,7 +1,7 @@
 //! What the code of one point stands on.
 
 use crate::moves::Move;
-use placement::{Pass, Serve};
+use place_plan::{Pass, Serve};
 
 /// What the code of one point stands on, besides its node and the homes of values.
 #[derive(Clone, Copy)]

@@ -9,7 +9,7 @@ ghost use Rattle.ucode_emit.specs.Pieces.{moved};
 use crate::draft::{Draft, push_moves};
 use crate::moves::{Move, brought};
 use nv_base::NoMemory;
-use placement::{Place, Serve};
+use place_plan::{Place, Serve};
 use std::alloc::Global;
 
 // Fetches an operand that is wanted in the compiler's own register.

@@ -5,7 +5,7 @@ ghost use Rattle.uc_isa.specs.Agrees.{Agrees};
 ghost use Rattle.uc_isa.specs.Lawful.{IsLawful};
 ghost use Rattle.ssu_ir.specs.Tree.{Label};
 ghost use Rattle.ssu_ir.specs.Meaning.{ssu_meaning, ssu_params};
-ghost use Rattle.placement.specs.Plan.{Plan};
+ghost use Rattle.place_plan.specs.Plan.{Plan};
 ghost use Rattle.ucode_emit.specs.Pieces.{Sequences, instr_of, items, starts, parallel_moves};
 ghost use Rattle.ucode_emit.specs.Emits.{AreSequences};
 ghost use Rattle.ucode_emit.specs.inner.Layers.{Placed};

@@ -1,11 +1,11 @@
 //! The moves of pieces, one after the other.
 
 ghost use Rattle.std.specs.Prelude.{◌≡◌, ◌++◌, OnOk};
-ghost use Rattle.placement.specs.declared.place.Place.TheVariants.{Slot};
+ghost use Rattle.place_plan.specs.declared.place.Place.TheVariants.{Slot};
 ghost use Rattle.ucode_emit.specs.Pieces as pieces;
 
 use nv_base::NoMemory;
-use placement::Place;
+use place_plan::Place;
 
 /// A move of a word: from the first place to the second.
 pub type Move = (Place, Place);

@@ -2,8 +2,8 @@
 
 ghost use Rattle.std.specs.Prelude.{◌≡◌, ◌++◌, ◌<◌, ◌/◌, ◌^◌, map, OnOk};
 ghost use Rattle.uc_isa.specs.declared.instruction.Instr.TheVariants as instr;
-ghost use Rattle.placement.specs.Fits.{Rises};
-ghost use Rattle.placement.specs.Plan.{home, plan_view};
+ghost use Rattle.place_plan.specs.Fits.{Rises};
+ghost use Rattle.place_plan.specs.Plan.{home, plan_view};
 ghost use Rattle.ucode_emit.specs.inner.DraftItems as drafts;
 ghost use Rattle.ucode_emit.specs.inner.DraftItems.{draft};
 ghost use Rattle.ucode_emit.specs.inner.Machine.{IsReadable, IsWritable};
@@ -19,7 +19,7 @@ use crate::fetch::{push_fetches, served_at};
 use crate::moves::{Move, all_copied, named};
 use crate::registers::{source, target};
 use nv_base::{Bin, NoMemory, Una};
-use placement::{Place, Placement};
+use place_plan::{Place, Placement};
 use std::alloc::Global;
 use uc_isa::{Dst, Instr, UnOp};
 

@@ -3,8 +3,8 @@
 ghost use Rattle.std.specs.Prelude.{◌≡◌, ◌++◌, map, length, None, IfOk, OnOk};
 ghost use Rattle.ssu_ir.specs.Slots.{node_of};
 ghost use Rattle.ssu_ir.specs.Tree.{node_uses};
-ghost use Rattle.placement.specs.Fits.{Rises};
-ghost use Rattle.placement.specs.Plan.{plan_view};
+ghost use Rattle.place_plan.specs.Fits.{Rises};
+ghost use Rattle.place_plan.specs.Plan.{plan_view};
 ghost use Rattle.ucode_emit.specs.inner.DraftItems.{draft};
 ghost use Rattle.ucode_emit.specs.inner.Given as given;
 ghost use Rattle.ucode_emit.specs.inner.EmitContext.{IsEmitContext, CanAll, CanNode, node_items};
@@ -17,7 +17,7 @@ use crate::leave::{push_fork, push_halt, push_jump};
 use crate::moves::{Move, single_moves};
 use crate::operation::{push_bin, push_lit, push_una};
 use nv_base::NoMemory;
-use placement::Placement;
+use place_plan::Placement;
 use ssu_ir::SsuNode;
 use std::alloc::Global;
 

@@ -9,7 +9,7 @@ ghost use Rattle.ucode_emit.specs.inner.Marks.{marks, tree_marks};
 ghost use Rattle.ucode_emit.specs.inner.EmittedPoints.{point_mark, IsEmittedPoint, on_stack, Pops, Counts, entries_of_points};
 
 use nv_base::NoMemory;
-use placement::point_number;
+use place_plan::point_number;
 use ssu_ir::{NodeId, Ssu, SsuNode, walk};
 use std::alloc::Global;
 

@@ -5,7 +5,7 @@ ghost use Rattle.ucode_emit.specs.Pieces as pieces;
 ghost use Rattle.ucode_emit.specs.inner.Machine.{IsReadable, IsWritable};
 ghost use Rattle.ucode_emit.specs.inner.Layers.{IsAddress};
 
-use placement::Place;
+use place_plan::Place;
 use uc_isa::{Dst, Gpr, RegA, RegB, RegL, RegLD, RegS, RegSD, Src};
 
 /// A place as a source.

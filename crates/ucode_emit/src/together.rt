@@ -1,8 +1,8 @@
 //! The parallel moves of points as single moves.
 
 ghost use Rattle.std.specs.Prelude.{◌≡◌, ◌≤◌, map, length, IfOk};
-ghost use Rattle.placement.specs.Fits.{Rises};
-ghost use Rattle.placement.specs.Plan.{plan_view};
+ghost use Rattle.place_plan.specs.Fits.{Rises};
+ghost use Rattle.place_plan.specs.Plan.{plan_view};
 ghost use Rattle.par_move.specs.Moves.{HaveOwnTargets, SpareTemporary};
 ghost use Rattle.ucode_emit.specs.inner.EmitContext.{ends};
 ghost use Rattle.ucode_emit.specs.Pieces as pieces;
@@ -11,7 +11,7 @@ ghost use Rattle.ucode_emit.specs.Emits.{IsSequence};
 use crate::moves::Move;
 use nv_base::NoMemory;
 use par_move::sequence;
-use placement::{Place, Placement, Serve};
+use place_plan::{Place, Placement, Serve};
 use std::alloc::{AllocError, Global};
 
 // From where each operand is served to where it is wanted.

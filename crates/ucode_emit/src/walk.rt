@@ -3,8 +3,8 @@
 ghost use Rattle.std.specs.Prelude.{◌≡◌, ◌+◌, ◌<◌, [], ◌++◌, map, drop, length, IfOk, OnOk, slice_index_or};
 ghost use Rattle.ssu_ir.specs.Slots.{node_of};
 ghost use Rattle.ssu_ir.specs.View.{labels_view};
-ghost use Rattle.placement.specs.Fits.{Rises};
-ghost use Rattle.placement.specs.Plan.{plan_view};
+ghost use Rattle.place_plan.specs.Fits.{Rises};
+ghost use Rattle.place_plan.specs.Plan.{plan_view};
 ghost use Rattle.ucode_emit.specs.inner.Cursors.{place_operands};
 ghost use Rattle.ucode_emit.specs.inner.DraftItems.{draft};
 ghost use Rattle.ucode_emit.specs.inner.EmitContext.{IsEmitContext};
@@ -22,7 +22,7 @@ use crate::piece::{push_front, push_node};
 use crate::point_ids::{EmittedPoint, entries_of, plus, point_ids_of};
 use crate::sequences::{operands, sequences_of};
 use nv_base::NoMemory;
-use placement::{Placement, point_number};
+use place_plan::{Placement, point_number};
 use ssu_ir::{Ssu, SsuNode};
 use std::alloc::Global;
 

@@ -7,7 +7,7 @@
 use nv_outside::DiskFiles;
 use std::env;
 use std::process::ExitCode;
-use zo_files::{Failure, solve_file};
+use zo_bench_files::{Failure, solve_file};
 
 fn main(rt: HostRuntime) -> ExitCode {
     let words = match env::args(&rt) {

@@ -3,9 +3,9 @@ use Rattle.std.proofs.Common.{◌≡◌, ℕ, ◌+◌, ◌*◌, ◌^◌, ◌<◌
 use Rattle.std.specs.List.{All}
 use Rattle.std.proofs.lemmas.List.{length-append, map-append}
 use Rattle.std.proofs.lemmas.List.Elements.{All-push}
-use Rattle.line_text.specs.Line.{text_of}
-use Rattle.line_text.proofs.SplitLaws.{text_of-push}
-use Rattle.zo_proof.specs.Node.{Node, branch_on, bound_by, clash_of, left_open, node_line, IsNodeText}
+use Rattle.nv_lines.specs.Line.{text_of}
+use Rattle.nv_lines.proofs.SplitLaws.{text_of-push}
+use Rattle.zo_cert_tree.specs.Node.{Node, branch_on, bound_by, clash_of, left_open, node_line, IsNodeText}
 
 -- N nodes were read
 pub record HasNodes (bytes rest : List ℕ) (nodes : List Node) (first number : ℕ) : Type 0 where

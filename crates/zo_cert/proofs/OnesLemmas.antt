@@ -1,9 +1,9 @@
 -- lines that aren't those of the columns that are 1
 use Rattle.std.proofs.Common.{◌≡◌, ℕ, suc, ◌+◌, ◌^◌, ◌<◌, ◌≤◌, List, [], ◌∷◌, ◌++◌, length, map, refl, sym, ap, ◌∙◌, subst, arith, codes, decimal, lit≤, Bool, true, false}
-use Rattle.line_text.specs.Line.{AllLack, parts}
-use Rattle.line_text.proofs.SplitLaws.{parts-parted, Lacks-test}
-use Rattle.line_text.proofs.NumberLaws.{Lacks-decimal}
-use Rattle.line_text.proofs.NumberLemmas.{decimal_one}
+use Rattle.nv_lines.specs.Line.{AllLack, parts}
+use Rattle.nv_lines.proofs.SplitLaws.{parts-parted, Lacks-test}
+use Rattle.nv_lines.proofs.NumberLaws.{Lacks-decimal}
+use Rattle.nv_lines.proofs.NumberLemmas.{decimal_one}
 use Rattle.zo_cert.specs.ReportText.{ones_from}
 use Rattle.zo_cert.specs.inner.ReportLine.{IsOnesLine}
 use Rattle.zo_cert.proofs.ReadPieces.{Up, ReadsOnes}

@@ -1,8 +1,8 @@
 -- columns, read one by one
 use Rattle.std.proofs.Common.{◌≡◌, ℕ, zero, suc, ◌+◌, ◌<◌, ◌≤◌, List, [], ◌∷◌, ◌++◌, length, get_or, set, replicate, map, refl, sym, ap, ◌∙◌, subst, append_assoc, codes, decimal, Bool, true, false, arith, add-one}
 use Rattle.std.proofs.lemmas.List.{append-nil, map-append, length-set}
-use Rattle.line_text.specs.Line.{parts}
-use Rattle.zo_proof.proofs.ReadMultipliers.{line_of_parts}
+use Rattle.nv_lines.specs.Line.{parts}
+use Rattle.zo_cert_tree.proofs.ReadMultipliers.{line_of_parts}
 use Rattle.zo_cert.specs.ReportText.{ones_from, x_line}
 
 pub ones-none : (i : ℕ) (xs : List Bool) → ((k : ℕ) → get_or xs k false ≡ false) → ones_from i xs ≡ []

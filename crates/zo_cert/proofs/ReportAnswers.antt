@@ -3,10 +3,10 @@ use Rattle.std.proofs.Common.{◌≡◌, ℕ, zero, suc, ◌+◌, ◌*◌, ◌^�
 use Rattle.std.specs.List.{All}
 use Rattle.std.proofs.lemmas.List.{append-nil, length-map}
 use Rattle.std.proofs.lemmas.List.Elements.{All-head, All-tail, All-nil, All-cons}
-use Rattle.line_text.specs.Line.{text_of}
-use Rattle.line_text.specs.Format.{Begins}
-use Rattle.line_text.proofs.SplitLaws.{same, longer, shorter, lie, lines_one, AllLack-append}
-use Rattle.line_text.proofs.FormatLaws.{no_text, one_fault}
+use Rattle.nv_lines.specs.Line.{text_of}
+use Rattle.nv_lines.specs.Format.{Begins}
+use Rattle.nv_lines.proofs.SplitLaws.{same, longer, shorter, lie, lines_one, AllLack-append}
+use Rattle.nv_lines.proofs.FormatLaws.{no_text, one_fault}
 use Rattle.zo_model.specs.Contents.{Contents}
 use Rattle.zo_model.specs.Program.{vector, cost_below, cost_where, costs_of}
 use Rattle.zo_model.specs.ProgramText.{IsValidContents}
@@ -14,13 +14,13 @@ use Rattle.zo_model.specs.declared.error.ZoError.{ZoError}
 use Rattle.zo_model.specs.declared.error.ZoError.TheVariants.{NoMemory, Bad}
 use Rattle.zo_model.proofs.ExactLemmas.{valid_from_contents}
 use Rattle.zo_cert.specs.Contents.{ReportContents, report_contents}
-use Rattle.zo_proof.specs.Node.{node_contents, IsNode, IsNodeText}
+use Rattle.zo_cert_tree.specs.Node.{node_contents, IsNode, IsNodeText}
 use Rattle.zo_cert.specs.Report.{IsBlank, IsValidReport}
 use Rattle.zo_cert.specs.ReportText.{verdict_lines, report_lines, report_text}
 use Rattle.zo_cert.specs.ReportFault.{IsReport, HasCost, front_lines, stated_lines, tree_lines, AreStatedLines, IsMisstated, IsFirstReportFault, wrong_cost, wrong_line}
 use Rattle.zo_cert.specs.ReportAnswer.{IsTrueReportRefusal, AnswersReport, AnswersFault}
-use Rattle.zo_proof.specs.declared.cert.CertNode.{CertNode}
-use Rattle.zo_proof.specs.declared.cert.CertNode.TheVariants.{Branch, Bound, Clash, Left}
+use Rattle.zo_cert_tree.specs.declared.cert.CertNode.{CertNode}
+use Rattle.zo_cert_tree.specs.declared.cert.CertNode.TheVariants.{Branch, Bound, Clash, Left}
 use Rattle.zo_cert.specs.declared.report.Report.{Report}
 use Rattle.zo_cert.specs.declared.report.Verdict.{Verdict}
 use Rattle.zo_cert.specs.declared.report.Verdict.TheVariants as verdicts

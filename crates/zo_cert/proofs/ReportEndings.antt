@@ -1,15 +1,15 @@
 -- where the reader of a report stops at the verdict or in the tree
 use Rattle.std.proofs.Common.{◌≡◌, ℕ, ◌+◌, ◌^◌, ◌<◌, ◌≤◌, List, [], ◌∷◌, ◌++◌, length, get_or, refl, sym, ap, ◌∙◌, subst, arith, append_assoc, codes, decimal, Bool}
 use Rattle.std.proofs.lemmas.List.{append-nil, length-append}
-use Rattle.line_text.specs.Line.{text_of, parted}
-use Rattle.line_text.specs.Format.{Begins}
+use Rattle.nv_lines.specs.Line.{text_of, parted}
+use Rattle.nv_lines.specs.Format.{Begins}
 use Rattle.zo_model.specs.Contents.{Contents}
 use Rattle.zo_model.specs.Program.{vector, costs_of}
 use Rattle.zo_model.specs.declared.error.ZoError.{ZoError}
 use Rattle.zo_model.specs.declared.error.ZoError.TheVariants.{NoMemory, Bad}
 use Rattle.zo_model.proofs.FaultLemmas.{spelled_more}
 use Rattle.zo_model.proofs.LineLemmas.{no_line_weaker}
-use Rattle.zo_proof.specs.Node.{left_open}
+use Rattle.zo_cert_tree.specs.Node.{left_open}
 use Rattle.zo_cert.specs.Report.{IsBlank}
 use Rattle.zo_cert.specs.ReportFault.{AreInLimits, HasCost, front_lines, stated_lines, tree_lines, AreStatedLines, IsMisstated, IsFirstReportFault, wrong_cost}
 use Rattle.zo_cert.specs.ReportAnswer.{IsTrueReportRefusal}

@@ -3,15 +3,15 @@ use Rattle.std.proofs.Common.{◌≡◌, ℕ, suc, ◌^◌, ◌<◌, ◌≤◌, 
 use Rattle.std.specs.List.{All}
 use Rattle.std.proofs.lemmas.List.{append-nil}
 use Rattle.std.proofs.lemmas.List.Elements.{All-head, All-tail}
-use Rattle.line_text.specs.Line.{Lacks, AllLack}
-use Rattle.line_text.specs.Format.{Begins, IsFormat}
-use Rattle.line_text.proofs.SplitLaws.{Lacks-append, Lacks-parted, Lacks-test, AllLack-append}
-use Rattle.line_text.proofs.NumberLaws.{Lacks-decimal}
-use Rattle.line_text.proofs.FormatLaws.{begins_format}
+use Rattle.nv_lines.specs.Line.{Lacks, AllLack}
+use Rattle.nv_lines.specs.Format.{Begins, IsFormat}
+use Rattle.nv_lines.proofs.SplitLaws.{Lacks-append, Lacks-parted, Lacks-test, AllLack-append}
+use Rattle.nv_lines.proofs.NumberLaws.{Lacks-decimal}
+use Rattle.nv_lines.proofs.FormatLaws.{begins_format}
 use Rattle.zo_model.specs.Contents.{Contents}
 use Rattle.zo_model.specs.Program.{Rise}
 use Rattle.zo_model.proofs.ExactLemmas.{program_lack}
-use Rattle.zo_proof.specs.Node.{Node, branch_on, bound_by, clash_of, left_open, multiplier_text, node_line, IsNodeText}
+use Rattle.zo_cert_tree.specs.Node.{Node, branch_on, bound_by, clash_of, left_open, multiplier_text, node_line, IsNodeText}
 use Rattle.zo_cert.specs.Contents.{ReportContents}
 use Rattle.zo_cert.specs.ReportText.{counted_line, ones_from, x_line}
 use Rattle.zo_cert.specs.ReportFault.{AreInLimits, IsReport, HasCost, front_lines, stated_lines, tree_lines, AreStatedLines}

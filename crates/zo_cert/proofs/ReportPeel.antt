@@ -3,23 +3,23 @@ use Rattle.std.proofs.Common.{◌≡◌, ℕ, suc, ◌+◌, ◌^◌, ◌<◌, �
 use Rattle.std.specs.List.{All}
 use Rattle.std.proofs.lemmas.List.{append_cancel_left, length-append, length-map}
 use Rattle.std.proofs.lemmas.List.Elements.{All-head, All-tail}
-use Rattle.line_text.specs.Line.{parted}
-use Rattle.line_text.proofs.SplitLaws.{parted_one, Lacks-test}
-use Rattle.line_text.proofs.NumberLaws.{Lacks-decimal}
-use Rattle.line_text.proofs.NumberLemmas.{decimal_one}
+use Rattle.nv_lines.specs.Line.{parted}
+use Rattle.nv_lines.proofs.SplitLaws.{parted_one, Lacks-test}
+use Rattle.nv_lines.proofs.NumberLaws.{Lacks-decimal}
+use Rattle.nv_lines.proofs.NumberLemmas.{decimal_one}
 use Rattle.zo_model.specs.Contents.{Contents}
 use Rattle.zo_model.specs.Program.{Rise}
 use Rattle.zo_model.specs.ProgramText.{program_lines, columns_line, rows_line, cost_line, row_line, IsValidContents}
 use Rattle.zo_model.proofs.LineLemmas.{counted_one}
 use Rattle.zo_model.proofs.ExactLemmas.{program_one}
-use Rattle.zo_proof.specs.Node.{Node, branch_on, bound_by, clash_of, left_open, multiplier_text, node_line, IsNodeText}
+use Rattle.zo_cert_tree.specs.Node.{Node, branch_on, bound_by, clash_of, left_open, multiplier_text, node_line, IsNodeText}
 use Rattle.zo_cert.specs.ReportText.{counted_line, ones_from, x_line}
 use Rattle.zo_cert.specs.ReportFault.{AreInLimits, HasCost, front_lines, stated_lines, tree_lines}
 use Rattle.zo_cert.specs.declared.report.Verdict.{Verdict}
 use Rattle.zo_cert.specs.declared.report.Verdict.TheVariants as verdicts
 use Rattle.zo_cert.proofs.ReadPieces.{Up}
-use Rattle.zo_proof.proofs.MultiplierLemmas.{multiplier_one}
-use Rattle.zo_proof.proofs.NodeLineLemmas.{multipliers_lack}
+use Rattle.zo_cert_tree.proofs.MultiplierLemmas.{multiplier_one}
+use Rattle.zo_cert_tree.proofs.NodeLineLemmas.{multipliers_lack}
 use Rattle.zo_cert.proofs.OnesLemmas.{ones_up, ones_parts}
 
 -- lists whose fronts are as long are parted alike

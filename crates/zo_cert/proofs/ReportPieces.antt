@@ -3,8 +3,8 @@ use Rattle.std.proofs.Common.{◌≡◌, ℕ, suc, ◌+◌, ◌<◌, ◌≤◌, 
 use Rattle.std.proofs.lemmas.List.{append-nil, length-take-le, take_all}
 use Rattle.std.specs.List.{flat_map}
 use Rattle.std.proofs.lemmas.List.Concat.{flat_map-append}
-use Rattle.line_text.specs.Line.{text_of}
-use Rattle.line_text.proofs.SplitLaws.{text_of-append}
+use Rattle.nv_lines.specs.Line.{text_of}
+use Rattle.nv_lines.proofs.SplitLaws.{text_of-append}
 use Rattle.zo_model.proofs.Pieces.{listed_pieces, take_next, join2, join3}
 use Rattle.zo_cert.specs.ReportText.{ones_from, x_line}
 

@@ -3,9 +3,9 @@ use Rattle.std.proofs.Common.{◌≡◌, ℕ, ◌+◌, ◌^◌, ◌<◌, ◌≤�
 use Rattle.std.specs.List.{All}
 use Rattle.std.proofs.lemmas.List.{append-nil, length-append, length-replicate}
 use Rattle.std.proofs.lemmas.List.Elements.{All-replicate, All-nil, All-cons}
-use Rattle.line_text.specs.Line.{Lacks, AllLack, text_of}
-use Rattle.line_text.specs.Format.{Begins, IsFormat, FirstFault, wrong, short}
-use Rattle.line_text.proofs.SplitLaws.{same, longer, shorter, lie, after_longer, lacks_not, split_one, lines_one, AllLack-back}
+use Rattle.nv_lines.specs.Line.{Lacks, AllLack, text_of}
+use Rattle.nv_lines.specs.Format.{Begins, IsFormat, FirstFault, wrong, short}
+use Rattle.nv_lines.proofs.SplitLaws.{same, longer, shorter, lie, after_longer, lacks_not, split_one, lines_one, AllLack-back}
 use Rattle.zo_model.specs.Contents.{Contents}
 use Rattle.zo_model.specs.Program.{vector, costs_of}
 use Rattle.zo_model.specs.ProgramText.{program_lines, columns_line, rows_line, IsValidContents, IsRowText, AreProgramLines}
@@ -16,7 +16,7 @@ use Rattle.zo_model.specs.declared.error.ZoError.TheVariants.{NoMemory, Bad}
 use Rattle.zo_model.proofs.ExactLemmas.{Rest, last, line_first, rest_of}
 use Rattle.zo_model.proofs.FaultLemmas.{spelled_more}
 use Rattle.zo_model.proofs.LineLemmas.{counted_one, no_line_weaker}
-use Rattle.zo_proof.specs.Node.{left_open, IsNodeText}
+use Rattle.zo_cert_tree.specs.Node.{left_open, IsNodeText}
 use Rattle.zo_cert.specs.Contents.{ReportContents}
 use Rattle.zo_cert.specs.Report.{IsBlank}
 use Rattle.zo_cert.specs.ReportText.{counted_line}

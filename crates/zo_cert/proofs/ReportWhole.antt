@@ -2,14 +2,14 @@
 use Rattle.std.proofs.Common.{◌≡◌, ℕ, ◌+◌, ◌^◌, ◌<◌, ◌≤◌, List, [], ◌++◌, length, map, refl, ap, ◌∙◌, arith, Bool}
 use Rattle.std.specs.List.{All}
 use Rattle.std.proofs.lemmas.List.{length-append, length-map}
-use Rattle.line_text.specs.Line.{text_of}
+use Rattle.nv_lines.specs.Line.{text_of}
 use Rattle.zo_model.specs.Contents.{Contents, contents}
 use Rattle.zo_model.specs.Program.{vector, costs_of}
 use Rattle.zo_model.specs.ProgramText.{program_lines, IsValidContents}
 use Rattle.zo_model.specs.declared.error.ZoError.{ZoError}
 use Rattle.zo_model.proofs.ExactLemmas.{contents_fit}
 use Rattle.zo_model.proofs.FaultLemmas.{spelled_more}
-use Rattle.zo_proof.specs.Node.{node_contents, node_line, IsNodeText}
+use Rattle.zo_cert_tree.specs.Node.{node_contents, node_line, IsNodeText}
 use Rattle.zo_cert.specs.Contents.{report_contents}
 use Rattle.zo_cert.specs.Report.{IsBlank, IsValidReport}
 use Rattle.zo_cert.specs.ReportText.{verdict_lines}

@@ -7,16 +7,16 @@ use Rattle.zo_model.specs.Contents.{Contents, contents, RowContents, row_content
 use Rattle.zo_model.specs.Program.{total, sum_below, vector, costs_of, cost_of, terms_sum, Meets, Feasible, Rise}
 use Rattle.zo_model.specs.declared.program.Row.{Row}
 use Rattle.zo_model.specs.declared.program.ZeroOne.{ZeroOne}
-use Rattle.zo_proof.specs.Certificate.{Tree, leaf, branch, preorder, EachNode, OfLeaf, IsLeaf, ClosesLeaf, Proves, IsShaped, IsWellNamed, NamesItsRows, NamesRows, IsTreeWith, branches, HasLeft, unfixed, terms_of, least_of, coefficient, weight, least_sum, least_part, bound}
-use Rattle.zo_proof.specs.Node.{Node, branch_on, bound_by, clash_of, left_open, node_contents}
+use Rattle.zo_cert_tree.specs.Certificate.{Tree, leaf, branch, preorder, EachNode, OfLeaf, IsLeaf, ClosesLeaf, Proves, IsShaped, IsWellNamed, NamesItsRows, NamesRows, IsTreeWith, branches, HasLeft, unfixed, terms_of, least_of, coefficient, weight, least_sum, least_part, bound}
+use Rattle.zo_cert_tree.specs.Node.{Node, branch_on, bound_by, clash_of, left_open, node_contents}
 use Rattle.zo_cert.specs.Contents.{ReportContents, report_contents}
-use Rattle.zo_proof.specs.Spent.{IsSpent}
+use Rattle.zo_cert_tree.specs.Spent.{IsSpent}
 use Rattle.zo_cert.specs.Report.{VerdictHolds, IsTrueReport}
-use Rattle.zo_proof.specs.declared.cert.Cert.{Cert}
-use Rattle.zo_proof.specs.declared.cert.CertNode.{CertNode}
-use Rattle.zo_proof.specs.declared.cert.CertNode.TheVariants.{Branch, Bound, Clash, Left}
-use Rattle.zo_proof.specs.declared.cert.Claim.{Claim}
-use Rattle.zo_proof.specs.declared.cert.Claim.TheVariants.{Least, Nothing}
+use Rattle.zo_cert_tree.specs.declared.cert.Cert.{Cert}
+use Rattle.zo_cert_tree.specs.declared.cert.CertNode.{CertNode}
+use Rattle.zo_cert_tree.specs.declared.cert.CertNode.TheVariants.{Branch, Bound, Clash, Left}
+use Rattle.zo_cert_tree.specs.declared.cert.Claim.{Claim}
+use Rattle.zo_cert_tree.specs.declared.cert.Claim.TheVariants.{Least, Nothing}
 use Rattle.zo_cert.specs.declared.report.Report.{Report}
 use Rattle.zo_cert.specs.declared.report.Verdict.{Verdict}
 use Rattle.zo_cert.specs.declared.report.Verdict.TheVariants as verdicts

@@ -3,17 +3,17 @@ use Rattle.std.proofs.Common.{◌≡◌, ℕ, ◌+◌, ◌-◌, ◌^◌, ◌<◌
 use Rattle.std.specs.List.{All}
 use Rattle.std.proofs.lemmas.List.{append-nil, length-append, length-replicate, length-map, map-append}
 use Rattle.std.proofs.lemmas.List.Elements.{All-append, All-push, All-replicate}
-use Rattle.line_text.specs.Line.{Lacks, text_of}
-use Rattle.line_text.specs.Format.{Begins}
+use Rattle.nv_lines.specs.Line.{Lacks, text_of}
+use Rattle.nv_lines.specs.Format.{Begins}
 use Rattle.zo_model.specs.inner.LineFault.{IsCounted, NoLine, IsLineFault}
 use Rattle.zo_model.specs.declared.error.ZoError.{ZoError}
 use Rattle.zo_model.specs.declared.error.ZoError.TheVariants.{NoMemory, Bad}
 use Rattle.zo_model.proofs.LineLemmas.{counted_one, no_line_other, no_line_weaker}
 use Rattle.zo_model.proofs.FaultLemmas.{spelled_more, one_line_text}
 use Rattle.zo_model.proofs.TextLemmas.{at_map}
-use Rattle.zo_proof.specs.Node.{Node, left_open, node_line, IsNodeText}
+use Rattle.zo_cert_tree.specs.Node.{Node, left_open, node_line, IsNodeText}
 use Rattle.zo_cert.specs.ReportText.{counted_line}
-use Rattle.zo_proof.specs.inner.NodeLine.{IsNodeLine}
+use Rattle.zo_cert_tree.specs.inner.NodeLine.{IsNodeLine}
 use Rattle.zo_cert.specs.inner.ReportLine.{IsNodeFault}
 use Rattle.zo_cert.specs.inner.ReportPart.{AreFrontLines, AreTreeLines, IsStop}
 use Rattle.zo_cert.proofs.ReportFormat.{counted_lacks}

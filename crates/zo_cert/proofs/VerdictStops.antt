@@ -2,8 +2,8 @@
 use Rattle.std.proofs.Common.{◌≡◌, ℕ, ◌+◌, ◌^◌, ◌<◌, List, [], ◌∷◌, ◌++◌, length, get_or, replicate, refl, sym, ap, ◌∙◌, subst, arith, codes, decimal, Bool, false}
 use Rattle.std.proofs.lemmas.List.{append_cancel_left, length-replicate}
 use Rattle.std.proofs.lemmas.List.Elements.{All-replicate}
-use Rattle.line_text.specs.Line.{Lacks, text_of}
-use Rattle.line_text.specs.Format.{Begins}
+use Rattle.nv_lines.specs.Line.{Lacks, text_of}
+use Rattle.nv_lines.specs.Format.{Begins}
 use Rattle.zo_model.specs.inner.LineFault.{NoLine, cut, other, IsLineFault}
 use Rattle.zo_model.specs.declared.error.ZoError.{ZoError}
 use Rattle.zo_model.specs.declared.error.ZoError.TheVariants.{NoMemory, Bad}

@@ -4,7 +4,7 @@ use Rattle.zo_model.specs.Contents.{Contents, RowContents, contents, row_content
 use Rattle.zo_model.specs.Program.{total, sum_below}
 use Rattle.zo_model.specs.declared.program.Row.{Row}
 use Rattle.zo_model.specs.declared.program.ZeroOne.{ZeroOne}
-use Rattle.zo_proof.specs.Certificate.{bound, coefficient, least_of, least_part, least_sum, terms_of, weight}
+use Rattle.zo_cert_tree.specs.Certificate.{bound, coefficient, least_of, least_part, least_sum, terms_of, weight}
 use Rattle.zo_cert.specs.Laws.{ClashOfOneRow, CoverBound, CoverBoundBelowOne, CoverBoundBelowZero, ShortCoverBound, cover, free_columns, three_of_two}
 
 -- the terms and the least of a row that is there, by what the rows contain

@@ -1,7 +1,7 @@
 -- what a report contains: two reports are the same where their contents are equal
 use Rattle.std.specs.Prelude.{ℕ, List, map, Bool}
 use Rattle.zo_model.specs.Contents.{Contents, contents}
-use Rattle.zo_proof.specs.Node.{Node, node_contents}
+use Rattle.zo_cert_tree.specs.Node.{Node, node_contents}
 use Rattle.zo_cert.specs.declared.report.Report.{Report}
 use Rattle.zo_cert.specs.declared.report.Verdict.{Verdict}
 

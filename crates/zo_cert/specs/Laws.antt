@@ -2,7 +2,7 @@
 use Rattle.std.specs.Prelude.{◌≡◌, ℕ, List, [], ◌∷◌, Bool, true, false, ℤ, pos, Option, Some, None}
 use Rattle.zo_model.specs.Contents.{Contents, RowContents, contents}
 use Rattle.zo_model.specs.declared.program.ZeroOne.{ZeroOne}
-use Rattle.zo_proof.specs.Certificate.{bound}
+use Rattle.zo_cert_tree.specs.Certificate.{bound}
 
 -- of two columns at least `least` are 1
 abbrev pub at_least : ℤ → ℕ → ℕ → RowContents

@@ -1,5 +1,5 @@
-pub use Rattle.zo_proof.specs.Certificate
-pub use Rattle.zo_proof.specs.Searched
+pub use Rattle.zo_cert_tree.specs.Certificate
+pub use Rattle.zo_cert_tree.specs.Searched
 pub mod Contents
 pub mod Laws
 pub mod Report

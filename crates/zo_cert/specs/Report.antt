@@ -1,10 +1,10 @@
 -- reports: which are valid, and which are true
 use Rattle.std.specs.Prelude.{◌≡◌, ◌<◌, ◌≤◌, ◌^◌, List, length, Bool, false, All}
 use Rattle.zo_model.specs.Program.{columns, cost_of, vector, Feasible, IsValid}
-use Rattle.zo_proof.specs.Certificate.{IsTreeWith, IsShaped, Proves}
-use Rattle.zo_proof.specs.declared.cert.Claim.TheVariants.{Least, Nothing}
-use Rattle.zo_proof.specs.Node.{IsNode}
-use Rattle.zo_proof.specs.Spent.{IsSpent}
+use Rattle.zo_cert_tree.specs.Certificate.{IsTreeWith, IsShaped, Proves}
+use Rattle.zo_cert_tree.specs.declared.cert.Claim.TheVariants.{Least, Nothing}
+use Rattle.zo_cert_tree.specs.Node.{IsNode}
+use Rattle.zo_cert_tree.specs.Spent.{IsSpent}
 use Rattle.zo_cert.specs.declared.report.Report.{Report}
 use Rattle.zo_cert.specs.declared.report.Verdict.{Verdict}
 use Rattle.zo_cert.specs.declared.report.Verdict.TheVariants as verdicts

@@ -1,11 +1,11 @@
 -- the first line of a text that isn't a report's
 use Rattle.std.specs.Prelude.{◌≡◌, ◌≢◌, ℕ, ◌+◌, ◌<◌, ◌≤◌, ◌^◌, List, [], ◌∷◌, ◌++◌, length, map, Bool, All, codes, decimal}
-use Rattle.line_text.specs.Line.{text_of, parted}
-use Rattle.line_text.specs.Format.{Begins, FirstFault}
+use Rattle.nv_lines.specs.Line.{text_of, parted}
+use Rattle.nv_lines.specs.Format.{Begins, FirstFault}
 use Rattle.zo_model.specs.Contents.{Contents}
 use Rattle.zo_model.specs.Program.{vector, costs_of}
 use Rattle.zo_model.specs.ProgramText.{program_lines, IsValidContents}
-use Rattle.zo_proof.specs.Node.{Node, IsNodeText, node_line}
+use Rattle.zo_cert_tree.specs.Node.{Node, IsNodeText, node_line}
 use Rattle.zo_cert.specs.Contents.{ReportContents}
 use Rattle.zo_cert.specs.Report.{IsBlank}
 use Rattle.zo_cert.specs.ReportText.{counted_line, x_line}

@@ -1,10 +1,10 @@
 -- the text of a report
 use Rattle.std.specs.Prelude.{ℕ, suc, List, [], ◌∷◌, ◌++◌, length, map, Bool, true, false, codes, decimal}
-use Rattle.line_text.specs.Line.{text_of, parted}
+use Rattle.nv_lines.specs.Line.{text_of, parted}
 use Rattle.zo_model.specs.Program.{vector, costs_of}
 use Rattle.zo_model.specs.ProgramText.{program_lines}
 use Rattle.zo_cert.specs.Contents.{ReportContents}
-use Rattle.zo_proof.specs.Node.{node_line}
+use Rattle.zo_cert_tree.specs.Node.{node_line}
 use Rattle.zo_cert.specs.declared.report.Verdict.{Verdict}
 use Rattle.zo_cert.specs.declared.report.Verdict.TheVariants as verdicts
 

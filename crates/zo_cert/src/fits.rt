@@ -1,9 +1,9 @@
 //! The numbers of a valid report keep the limits of its text: those that no test of it asks for are limits of their types.
 
 ghost use Rattle.std.specs.Prelude.{◌<◌, ◌^◌, All, map};
-ghost use Rattle.zo_proof.specs.Node.{node_contents, IsNode, IsNodeText};
+ghost use Rattle.zo_cert_tree.specs.Node.{node_contents, IsNode, IsNodeText};
 
-use zo_proof::CertNode;
+use zo_cert_tree::CertNode;
 
 /// A number keeps the limit of its type.
 fn fits(number: u32)

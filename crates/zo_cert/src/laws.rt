@@ -4,12 +4,12 @@
 ghost use Rattle.std.specs.Prelude.{◌≡◌};
 ghost use Rattle.zo_model.specs.Program.{IsValid};
 ghost use Rattle.zo_model.specs.declared.program.ZeroOne.{ZeroOne};
-ghost use Rattle.zo_proof.specs.Certificate.{Holds, Proves, Tree};
+ghost use Rattle.zo_cert_tree.specs.Certificate.{Holds, Proves, Tree};
 ghost use Rattle.zo_cert.specs.Contents.{report_contents};
 ghost use Rattle.zo_cert.specs.Laws.{ClashOfOneRow, CoverBound, CoverBoundBelowOne, CoverBoundBelowZero, ShortCoverBound};
 ghost use Rattle.zo_cert.specs.Report.{IsTrueReport, IsValidReport};
 ghost use Rattle.zo_cert.specs.ReportAnswer.{AnswersReport};
-ghost use Rattle.zo_proof.specs.declared.cert.Claim.{Claim};
+ghost use Rattle.zo_cert_tree.specs.declared.cert.Claim.{Claim};
 ghost use Rattle.zo_cert.specs.declared.report.Report.{Report};
 
 use crate::report::Report;

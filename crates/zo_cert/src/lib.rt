@@ -10,5 +10,5 @@ pub mod report_text;
 pub use report::{Report, Verdict, check_report, is_valid_report};
 pub use report_reader::read_report;
 pub use report_text::print_report;
+pub use zo_cert_tree::{Cert, CertNode, Claim, Fixed, Work, check, shaped};
 pub use zo_model::{Assignment, NoMemory, Row, ZeroOne, ZoError};
-pub use zo_proof::{Cert, CertNode, Claim, Fixed, Work, check, shaped};

@@ -2,14 +2,14 @@
 
 ghost use Rattle.std.specs.Prelude.{◌≡◌, ◌<◌, ◌≤◌, ◌^◌, All, IsTrue, ◌↔◌, length};
 ghost use Rattle.zo_model.specs.Program.{cost_of, columns, vector, Feasible};
-ghost use Rattle.zo_proof.specs.Certificate.{Holds};
-ghost use Rattle.zo_proof.specs.Node.{IsNode};
+ghost use Rattle.zo_cert_tree.specs.Certificate.{Holds};
+ghost use Rattle.zo_cert_tree.specs.Node.{IsNode};
 ghost use Rattle.zo_cert.specs.Report.{IsBlank, IsTrueReport, IsValidReport};
-ghost use Rattle.zo_proof.specs.declared.cert.Claim.TheVariants.{Least, Nothing};
+ghost use Rattle.zo_cert_tree.specs.declared.cert.Claim.TheVariants.{Least, Nothing};
 ghost use Rattle.zo_cert.specs.declared.report.Verdict.TheVariants as verdicts;
 
+use zo_cert_tree::{Cert, CertNode, Claim, Work, check, is_node, is_spent};
 use zo_model::{Assignment, ZeroOne, cost, feasible, is_valid};
-use zo_proof::{Cert, CertNode, Claim, Work, check, is_node, is_spent};
 
 /// What a search found.
 #[derive(Clone, Copy, Debug, PartialEq, Eq, Drop)]

@@ -1,13 +1,13 @@
 //! The text of a report, read.
 
 ghost use Rattle.std.specs.Prelude.{◌≡◌, ◌≢◌, ◌+◌, ◌*◌, ◌<◌, ◌≤◌, ◌^◌, ◌++◌, ◌∷◌, [], ℕ, All, false, replicate, map, length, codes, decimal, IfSome, IfNone, IfOk, IfErr, OnOk};
-ghost use Rattle.line_text.specs.Line.{text_of, parts};
+ghost use Rattle.nv_lines.specs.Line.{text_of, parts};
 ghost use Rattle.zo_model.specs.Program.{IsValid, columns, cost_of, vector};
 ghost use Rattle.zo_model.specs.inner.LineFault.{IsLineFault};
 ghost use Rattle.zo_model.specs.declared.error.ZoError.{ZoError};
 ghost use Rattle.zo_model.specs.declared.error.ZoError.TheVariants.{Bad};
 ghost use Rattle.zo_cert.specs.Contents.{ReportContents, report_contents};
-ghost use Rattle.zo_proof.specs.Node.{node_contents, IsNodeText, node_line};
+ghost use Rattle.zo_cert_tree.specs.Node.{node_contents, IsNodeText, node_line};
 ghost use Rattle.zo_cert.specs.Report.{IsBlank, IsValidReport};
 ghost use Rattle.zo_cert.specs.ReportFault.{IsReport, IsFirstReportFault};
 ghost use Rattle.zo_cert.specs.inner.ReportPart.{AreFrontLines, AreTreeLines, IsStop, IsCostedFault, IsVerdictFault};
@@ -16,11 +16,11 @@ ghost use Rattle.zo_cert.specs.inner.ReportLine.{IsOnesLine, IsNodeFault};
 ghost use Rattle.zo_cert.specs.ReportText.{counted_line, x_line, verdict_lines, report_text};
 
 use crate::report::{Report, Verdict};
-use line_text::{Lines, Parts, read_decimal, strip};
+use nv_lines::{Lines, Parts, read_decimal, strip};
 use std::alloc::{AllocError, Global};
+use zo_cert_tree::node_reader::node_of;
+use zo_cert_tree::{Cert, CertNode};
 use zo_model::{Assignment, Reader, ZeroOne, ZoError, cost, read_counted, read_program_lines};
-use zo_proof::node_reader::node_of;
-use zo_proof::{Cert, CertNode};
 
 /// The columns that a report names are below this.
 const NAMES: u64 = 1 << 26;

@@ -2,9 +2,9 @@
 
 ghost use Rattle.std.specs.Prelude.{◌≡◌, ◌++◌, ◌∷◌, [], map, length, decimal, IfOk, OnOk};
 ghost use Rattle.std.specs.List.{flat_map};
-ghost use Rattle.line_text.specs.Line.{text_of};
+ghost use Rattle.nv_lines.specs.Line.{text_of};
 ghost use Rattle.zo_model.specs.Program.{IsValid, columns, cost_of, vector};
-ghost use Rattle.zo_proof.specs.Node.{node_contents, node_line};
+ghost use Rattle.zo_cert_tree.specs.Node.{node_contents, node_line};
 ghost use Rattle.zo_cert.specs.Contents.{report_contents};
 ghost use Rattle.zo_cert.specs.Report.{IsValidReport};
 ghost use Rattle.zo_cert.specs.ReportFault.{IsReport};
@@ -12,11 +12,11 @@ ghost use Rattle.zo_cert.specs.ReportText.{ones_from, x_line, verdict_lines, rep
 
 use crate::fits::nodes_fit;
 use crate::report::{Report, Verdict};
-use line_text::{push_counted, push_decimal};
+use nv_lines::{push_counted, push_decimal};
 use std::alloc::{AllocError, Global};
+use zo_cert_tree::CertNode;
+use zo_cert_tree::node_text::push_node;
 use zo_model::{NoMemory, cost, push_program};
-use zo_proof::CertNode;
-use zo_proof::node_text::push_node;
 
 /// Writes a line for each node.
 fn push_nodes(out: &mut Vec<u8>, nodes: &[CertNode]) -> Result<(), AllocError>

@@ -3,8 +3,8 @@ use Rattle.std.proofs.Common.{◌≡◌, ℕ, ◌+◌, ◌*◌, ◌^◌, ◌<◌
 use Rattle.std.specs.List.{All}
 use Rattle.std.proofs.lemmas.List.{length-append, map-append}
 use Rattle.std.proofs.lemmas.List.Elements.{All-push}
-use Rattle.line_text.specs.Line.{text_of}
-use Rattle.line_text.proofs.SplitLaws.{text_of-push}
+use Rattle.nv_lines.specs.Line.{text_of}
+use Rattle.nv_lines.proofs.SplitLaws.{text_of-push}
 use Rattle.zo_model.specs.Contents.{RowContents}
 use Rattle.zo_model.specs.ProgramText.{cost_line, row_line, IsRowText}
 

@@ -5,11 +5,11 @@ use Rattle.std.specs.List.{All}
 use Rattle.std.specs.Fmt.{signed_decimal}
 use Rattle.std.proofs.lemmas.List.{append-nil, length-append, length-map}
 use Rattle.std.proofs.lemmas.List.Elements.{All-nil, All-cons, All-head, All-tail}
-use Rattle.line_text.specs.Line.{Lacks, AllLack, text_of, parted}
-use Rattle.line_text.specs.Format.{Begins, IsText, FirstFault, wrong, short, IsFormat}
-use Rattle.line_text.proofs.SplitLaws.{lines_one, Lacks-parted, Lacks-test, AllLack-append}
-use Rattle.line_text.proofs.NumberLaws.{Lacks-decimal, Lacks-signed}
-use Rattle.line_text.proofs.FormatLaws.{no_text, one_fault, begins_format}
+use Rattle.nv_lines.specs.Line.{Lacks, AllLack, text_of, parted}
+use Rattle.nv_lines.specs.Format.{Begins, IsText, FirstFault, wrong, short, IsFormat}
+use Rattle.nv_lines.proofs.SplitLaws.{lines_one, Lacks-parted, Lacks-test, AllLack-append}
+use Rattle.nv_lines.proofs.NumberLaws.{Lacks-decimal, Lacks-signed}
+use Rattle.nv_lines.proofs.FormatLaws.{no_text, one_fault, begins_format}
 use Rattle.zo_model.specs.Contents.{Contents, RowContents, contents, row_contents}
 use Rattle.zo_model.specs.Program.{IsValid, IsRow}
 use Rattle.zo_model.specs.ProgramText.{columns_line, rows_line, cost_line, row_line, term_text, program_lines, program_text, IsRowText, IsValidContents, AreProgramLines, IsFirstFault}

@@ -3,9 +3,9 @@ use Rattle.std.proofs.Common.{◌≡◌, ℕ, ◌+◌, ◌^◌, ◌<◌, ◌≤�
 use Rattle.std.specs.List.{All}
 use Rattle.std.proofs.lemmas.List.{length-append, length-map, map-append}
 use Rattle.std.proofs.lemmas.List.Elements.{All-nil, All-push}
-use Rattle.line_text.specs.Line.{text_of}
-use Rattle.line_text.specs.Format.{Begins}
-use Rattle.line_text.proofs.SplitLaws.{text_of-append, text_of-cons}
+use Rattle.nv_lines.specs.Line.{text_of}
+use Rattle.nv_lines.specs.Format.{Begins}
+use Rattle.nv_lines.proofs.SplitLaws.{text_of-append, text_of-cons}
 use Rattle.zo_model.specs.Contents.{RowContents}
 use Rattle.zo_model.specs.ProgramText.{columns_line, rows_line, cost_line, row_line, program_lines, IsRowText, IsValidContents, AreProgramLines}
 use Rattle.zo_model.specs.inner.LineFault.{IsCounted, IsCost, IsRowLine, IsLineFault}

@@ -1,10 +1,10 @@
 -- lines of a name and a number
 use Rattle.std.proofs.Common.{◌≡◌, ℕ, ◌^◌, ◌<◌, List, [], ◌∷◌, ◌++◌, length, sym, ap, ◌∙◌, arith, decimal, lit≤}
 use Rattle.std.proofs.lemmas.List.{append_cancel_left, length-append}
-use Rattle.line_text.specs.Line.{Lacks, parts, parted}
-use Rattle.line_text.proofs.SplitLaws.{parts-parted, parted-parts}
-use Rattle.line_text.proofs.NumberLaws.{Lacks-decimal}
-use Rattle.line_text.proofs.NumberLemmas.{decimal_one}
+use Rattle.nv_lines.specs.Line.{Lacks, parts, parted}
+use Rattle.nv_lines.proofs.SplitLaws.{parts-parted, parted-parts}
+use Rattle.nv_lines.proofs.NumberLaws.{Lacks-decimal}
+use Rattle.nv_lines.proofs.NumberLemmas.{decimal_one}
 use Rattle.zo_model.specs.inner.LineFault.{IsCounted, NoLine, cut, other}
 
 pub counted_parts : (name line : List ℕ) (n : ℕ) → Lacks 32 name → n < 2 ^ 64 → line ≡ parted (name ∷ decimal n ∷ []) → parts line ≡ name ∷ decimal n ∷ []

@@ -6,8 +6,8 @@ use Rattle.std.specs.Fmt.{signed_decimal}
 use Rattle.std.specs.List.{flat_map}
 use Rattle.std.proofs.lemmas.List.Concat.{flat_map-append}
 use Rattle.std.proofs.lemmas.List.Folds.{flat_map-map}
-use Rattle.line_text.specs.Line.{text_of, parted}
-use Rattle.line_text.proofs.SplitLaws.{parted-cons, text_of-append}
+use Rattle.nv_lines.specs.Line.{text_of, parted}
+use Rattle.nv_lines.proofs.SplitLaws.{parted-cons, text_of-append}
 use Rattle.zo_model.specs.Contents.{RowContents}
 use Rattle.zo_model.specs.ProgramText.{term_text, row_line}
 

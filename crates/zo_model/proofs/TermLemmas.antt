@@ -7,10 +7,10 @@ use Rattle.std.specs.Int.Signed.{mag}
 use Rattle.std.proofs.lemmas.Int.{ints}
 use Rattle.std.proofs.lemmas.List.{append-nil, map-append}
 use Rattle.std.proofs.lemmas.List.Elements.{All-push, All-nil, All-head, All-tail}
-use Rattle.line_text.specs.Line.{Lacks, AllLack, parts, parted}
-use Rattle.line_text.proofs.SplitLaws.{split_one, parts-parted, parted-parts, Lacks-append, Lacks-test}
-use Rattle.line_text.proofs.NumberLaws.{Lacks-decimal, Lacks-signed}
-use Rattle.line_text.proofs.NumberLemmas.{decimal_one, signed_one, mag_small}
+use Rattle.nv_lines.specs.Line.{Lacks, AllLack, parts, parted}
+use Rattle.nv_lines.proofs.SplitLaws.{split_one, parts-parted, parted-parts, Lacks-append, Lacks-test}
+use Rattle.nv_lines.proofs.NumberLaws.{Lacks-decimal, Lacks-signed}
+use Rattle.nv_lines.proofs.NumberLemmas.{decimal_one, signed_one, mag_small}
 use Rattle.zo_model.specs.Contents.{RowContents}
 use Rattle.zo_model.specs.Program.{Rise, IsCoefficient, AtMost}
 use Rattle.zo_model.specs.ProgramText.{term_text, row_line, IsRowText}

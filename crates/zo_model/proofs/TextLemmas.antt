@@ -4,7 +4,7 @@ use Rattle.std.specs.List.{All}
 use Rattle.std.proofs.lemmas.List.{append-nil, length-append, length-replicate, length-map, map-append}
 use Rattle.std.proofs.lemmas.List.Elements.{All-append, All-replicate, All-nil, All-head, All-tail}
 use Rattle.std.proofs.lemmas.Int.{ints}
-use Rattle.line_text.specs.Format.{Begins}
+use Rattle.nv_lines.specs.Format.{Begins}
 use Rattle.zo_model.specs.Contents.{Contents, RowContents}
 use Rattle.zo_model.specs.Program.{IsCoefficient}
 use Rattle.zo_model.specs.ProgramText.{columns_line, rows_line, cost_line, row_line, program_lines, IsRowText, IsValidContents, AreProgramLines}

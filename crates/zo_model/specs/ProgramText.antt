@@ -1,8 +1,8 @@
 -- the text of a program
 use Rattle.std.specs.Prelude.{◌≡◌, ℕ, ◌<◌, ◌≤◌, ◌^◌, List, [], ◌∷◌, ◌++◌, length, map, All, ℤ, codes, decimal}
 use Rattle.std.specs.Fmt.{signed_decimal}
-use Rattle.line_text.specs.Line.{text_of, parted}
-use Rattle.line_text.specs.Format.{Begins, FirstFault}
+use Rattle.nv_lines.specs.Line.{text_of, parted}
+use Rattle.nv_lines.specs.Format.{Begins, FirstFault}
 use Rattle.zo_model.specs.Contents.{Contents, RowContents}
 use Rattle.zo_model.specs.Program.{AreTerms, AtMost}
 

@@ -2,8 +2,8 @@
 
 ghost use Rattle.std.specs.Prelude.{◌≡◌, ◌≢◌, ◌+◌, ◌*◌, ◌<◌, ◌≤◌, ◌^◌, ◌++◌, ◌∷◌, [], ◌≤ℤ◌, pos, neg_ℤ, ℕ, ℤ, List, All, map, length, codes, decimal, IfSome, IfNone, MatchOption, IfOk, IfErr, OnOk};
 ghost use Rattle.std.specs.Fmt.{signed_decimal};
-ghost use Rattle.line_text.specs.Line.{Lacks, text_of, parts, parted};
-ghost use Rattle.line_text.specs.Format.{IsText};
+ghost use Rattle.nv_lines.specs.Line.{Lacks, text_of, parts, parted};
+ghost use Rattle.nv_lines.specs.Format.{IsText};
 ghost use Rattle.zo_model.specs.Contents.{Contents, contents, row_contents};
 ghost use Rattle.zo_model.specs.Program.{IsCoefficient, IsValid};
 ghost use Rattle.zo_model.specs.ProgramAnswer.{IsTrueRefusal, AnswersProgram, AnswersBad};
@@ -16,7 +16,7 @@ ghost use Rattle.zo_model.specs.declared.error.ZoError.TheVariants.{Bad};
 
 use crate::error::ZoError;
 use crate::program::{COST_LIMIT, COUNT_LIMIT, LEAST_LIMIT, Row, ZeroOne};
-use line_text::{Lines, Parts, read_decimal, read_signed, split_once};
+use nv_lines::{Lines, Parts, read_decimal, read_signed, split_once};
 use std::alloc::{AllocError, Global};
 
 /// The lines of a text, read one by one, and how many were read.

@@ -3,14 +3,14 @@
 ghost use Rattle.std.specs.Prelude.{◌≡◌, ◌≢◌, ◌+◌, ◌<◌, ◌≤◌, ◌^◌, ◌++◌, ◌∷◌, [], ◌↔◌, ◌≤ℤ◌, pos, neg_ℤ, ℕ, ℤ, List, All, map, take, length, codes, decimal, IsTrue, IfSome, IfNone, MatchOption, IfOk, IfErr, OnOk};
 ghost use Rattle.std.specs.Fmt.{signed_decimal};
 ghost use Rattle.std.specs.List.{flat_map};
-ghost use Rattle.line_text.specs.Line.{text_of};
+ghost use Rattle.nv_lines.specs.Line.{text_of};
 ghost use Rattle.zo_model.specs.Contents.{contents, row_contents};
 ghost use Rattle.zo_model.specs.Program.{IsValid};
 ghost use Rattle.zo_model.specs.ProgramText.{columns_line, rows_line, cost_line, term_text, row_line, program_lines, program_text};
 
 use crate::error::{NoMemory, ZoError};
 use crate::program::{Row, ZeroOne};
-use line_text::{
+use nv_lines::{
     Lines, Parts, push_counted, push_decimal, push_signed, read_decimal, read_signed, split_once,
 };
 use std::alloc::{AllocError, Global};

@@ -5,21 +5,21 @@ use Rattle.std.proofs.lemmas.List.Elements.{All-nil, All-cons, All-append}
 use Rattle.zo_model.specs.Program.{columns}
 use Rattle.zo_model.specs.declared.program.Assignment.{Assignment}
 use Rattle.zo_model.specs.declared.program.ZeroOne.{ZeroOne}
-use Rattle.zo_proof.specs.Certificate.{ClosesLeaf, EachNode, HasLeft, IsShaped, IsTreeWith, IsWellNamed, OfLeaf, Proves, Tree, branch, branches, leaf, preorder, unfixed}
-use Rattle.zo_proof.specs.Node.{IsNode}
-use Rattle.zo_proof.specs.Searched.{IsClosed, IsNoBetter, IsOpenWhereOpen, IsSearched}
-use Rattle.zo_proof.specs.declared.cert.CertNode.{CertNode}
-use Rattle.zo_proof.specs.declared.cert.CertNode.TheVariants.{Branch, Bound, Clash, Left}
-use Rattle.zo_proof.specs.declared.cert.Claim.{Claim}
-use Rattle.zo_proof.specs.declared.cert.Claim.TheVariants as claims
-use Rattle.zo_proof.proofs.Walk.{each_weaker}
-use Rattle.zo_branch.specs.Nodes.{IsBelow, IsPicked}
-use Rattle.zo_state.specs.inner.Better.{IsAtMostStart, IsClaimOf}
-use Rattle.zo_branch.specs.inner.Node.{IsGood}
+use Rattle.zo_cert_tree.specs.Certificate.{ClosesLeaf, EachNode, HasLeft, IsShaped, IsTreeWith, IsWellNamed, OfLeaf, Proves, Tree, branch, branches, leaf, preorder, unfixed}
+use Rattle.zo_cert_tree.specs.Node.{IsNode}
+use Rattle.zo_cert_tree.specs.Searched.{IsClosed, IsNoBetter, IsOpenWhereOpen, IsSearched}
+use Rattle.zo_cert_tree.specs.declared.cert.CertNode.{CertNode}
+use Rattle.zo_cert_tree.specs.declared.cert.CertNode.TheVariants.{Branch, Bound, Clash, Left}
+use Rattle.zo_cert_tree.specs.declared.cert.Claim.{Claim}
+use Rattle.zo_cert_tree.specs.declared.cert.Claim.TheVariants as claims
+use Rattle.zo_cert_tree.proofs.Walk.{each_weaker}
+use Rattle.zo_solve_branch.specs.Nodes.{IsBelow, IsPicked}
+use Rattle.zo_solve_state.specs.inner.Better.{IsAtMostStart, IsClaimOf}
+use Rattle.zo_solve_branch.specs.inner.Node.{IsGood}
 use Rattle.zo_solve.specs.inner.Search.{IsAnswerOf, IsFound, LeftsLast}
 use Rattle.zo_solve.specs.Solved.{CostsAtMost, EachIn, HadNoStart, IsCutOff, IsDecided, IsProved, OfVector, claim_of, tree_of}
-use Rattle.zo_state.specs.Vector.{IsVector, cost_at, start_cost}
-use Rattle.zo_state.specs.declared.best.Best.{Best}
+use Rattle.zo_solve_state.specs.Vector.{IsVector, cost_at, start_cost}
+use Rattle.zo_solve_state.specs.declared.best.Best.{Best}
 use Rattle.zo_solve.specs.declared.search.Solved.{Solved}
 use Rattle.zo_solve.specs.declared.search.Solved.TheVariants as answers
 use Rattle.zo_solve.proofs.FewBranches.{below_budget}

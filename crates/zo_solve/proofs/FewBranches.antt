@@ -4,9 +4,9 @@ use Rattle.std.proofs.Math.Nat.{pow-suc}
 use Rattle.std.proofs.lemmas.Grind.{pow_more}
 use Rattle.zo_model.specs.Program.{columns}
 use Rattle.zo_model.specs.declared.program.ZeroOne.{ZeroOne}
-use Rattle.zo_proof.specs.Certificate.{Tree, leaf, branch, preorder, EachNode, unfixed, branches}
-use Rattle.zo_proof.specs.declared.cert.CertNode.{CertNode}
-use Rattle.zo_proof.specs.declared.cert.CertNode.TheVariants.{Branch, Bound, Clash, Left}
+use Rattle.zo_cert_tree.specs.Certificate.{Tree, leaf, branch, preorder, EachNode, unfixed, branches}
+use Rattle.zo_cert_tree.specs.declared.cert.CertNode.{CertNode}
+use Rattle.zo_cert_tree.specs.declared.cert.CertNode.TheVariants.{Branch, Bound, Clash, Left}
 use Rattle.zo_solve.proofs.Grow.{branches_append}
 
 abbrev pub free : List (Option Bool) → ℕ

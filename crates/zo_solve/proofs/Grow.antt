@@ -1,14 +1,14 @@
 -- a list of nodes that grows, a node at a time
 use Rattle.std.proofs.Common.{◌≡◌, ◌≢◌, ℕ, ◌+◌, ◌*◌, ◌<◌, List, [], ◌∷◌, ◌++◌, length, Bool, true, false, inl, inr, ◌⊎◌, Option, Some, slice_set, refl, sym, ◌∙◌, ap, subst, arith, append_assoc, length-append}
 use Rattle.std.proofs.lemmas.List.{append-nil}
-use Rattle.zo_proof.specs.Certificate.{Tree, leaf, branch, preorder, EachNode, branches, HasLeft}
-use Rattle.zo_proof.specs.Searched.{GoesDepthFirst, IsLeftOrDone}
-use Rattle.zo_proof.specs.inner.Walk.{MayCome, Walks, after}
-use Rattle.zo_proof.specs.declared.cert.CertNode.{CertNode}
-use Rattle.zo_proof.specs.declared.cert.CertNode.TheVariants.{Branch, Bound, Clash, Left}
-use Rattle.zo_proof.proofs.Walk.{walks_tree}
-use Rattle.zo_proof.proofs.Nodes.{branches_cons}
-use Rattle.zo_branch.specs.inner.Node.{Leaves}
+use Rattle.zo_cert_tree.specs.Certificate.{Tree, leaf, branch, preorder, EachNode, branches, HasLeft}
+use Rattle.zo_cert_tree.specs.Searched.{GoesDepthFirst, IsLeftOrDone}
+use Rattle.zo_cert_tree.specs.inner.Walk.{MayCome, Walks, after}
+use Rattle.zo_cert_tree.specs.declared.cert.CertNode.{CertNode}
+use Rattle.zo_cert_tree.specs.declared.cert.CertNode.TheVariants.{Branch, Bound, Clash, Left}
+use Rattle.zo_cert_tree.proofs.Walk.{walks_tree}
+use Rattle.zo_cert_tree.proofs.Nodes.{branches_cons}
+use Rattle.zo_solve_branch.specs.inner.Node.{Leaves}
 use Rattle.zo_solve.specs.inner.Search.{LeftsLast}
 
 -- ---- what walks the rest ends a walk of the whole

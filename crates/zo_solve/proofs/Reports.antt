@@ -6,16 +6,16 @@ use Rattle.std.proofs.lemmas.List.Elements.{All-replicate}
 use Rattle.zo_model.specs.Program.{IsValid, columns}
 use Rattle.zo_model.specs.declared.program.Assignment.{Assignment}
 use Rattle.zo_model.specs.declared.program.ZeroOne.{ZeroOne}
-use Rattle.zo_proof.specs.Certificate.{IsShaped, IsTreeWith, Tree, branch, leaf, preorder}
+use Rattle.zo_cert_tree.specs.Certificate.{IsShaped, IsTreeWith, Tree, branch, leaf, preorder}
 use Rattle.zo_cert.specs.Report.{IsBlank, IsTrueReport, IsValidReport}
-use Rattle.zo_proof.specs.Node.{IsNode}
-use Rattle.zo_proof.specs.declared.cert.Cert.{Cert}
+use Rattle.zo_cert_tree.specs.Node.{IsNode}
+use Rattle.zo_cert_tree.specs.declared.cert.Cert.{Cert}
 use Rattle.zo_cert.specs.declared.report.Report.{Report}
 use Rattle.zo_cert.specs.declared.report.Verdict.{Verdict}
 use Rattle.zo_cert.specs.declared.report.Verdict.TheVariants as verdicts
 use Rattle.zo_solve.specs.Reported.{IsReportOf}
 use Rattle.zo_solve.specs.Solved.{IsCutOff, IsProved, OfVector, tree_of}
-use Rattle.zo_state.specs.Vector.{IsVector}
+use Rattle.zo_solve_state.specs.Vector.{IsVector}
 use Rattle.zo_solve.specs.declared.search.Solved.{Solved}
 use Rattle.zo_solve.specs.declared.search.Solved.TheVariants as answers
 

@@ -3,16 +3,16 @@ use Rattle.std.proofs.Common.{◌≡◌, ℕ, ◌+◌, List, [], ◌∷◌, ◌+
 use Rattle.std.proofs.lemmas.Int.{ints}
 use Rattle.zo_model.specs.declared.program.ZeroOne.{ZeroOne}
 use Rattle.zo_model.proofs.Scale.{scale-le}
-use Rattle.zo_proof.specs.Certificate.{ClosesLeaf, branches, HasLeft, unfixed}
-use Rattle.zo_proof.specs.Searched.{IsClosed, IsNoBetter}
-use Rattle.zo_proof.specs.inner.Walk.{MayCome, Walks}
-use Rattle.zo_proof.specs.declared.cert.CertNode.{CertNode}
-use Rattle.zo_proof.specs.declared.cert.CertNode.TheVariants.{Branch, Bound, Clash, Left}
-use Rattle.zo_proof.specs.declared.cert.Claim.{Claim}
-use Rattle.zo_proof.specs.declared.cert.Claim.TheVariants.{Least, Nothing}
-use Rattle.zo_state.specs.declared.best.Best.{Best}
-use Rattle.zo_state.specs.inner.Better.{IsBest, IsWeaker}
-use Rattle.zo_branch.specs.inner.Node.{IsGood, Steps}
+use Rattle.zo_cert_tree.specs.Certificate.{ClosesLeaf, branches, HasLeft, unfixed}
+use Rattle.zo_cert_tree.specs.Searched.{IsClosed, IsNoBetter}
+use Rattle.zo_cert_tree.specs.inner.Walk.{MayCome, Walks}
+use Rattle.zo_cert_tree.specs.declared.cert.CertNode.{CertNode}
+use Rattle.zo_cert_tree.specs.declared.cert.CertNode.TheVariants.{Branch, Bound, Clash, Left}
+use Rattle.zo_cert_tree.specs.declared.cert.Claim.{Claim}
+use Rattle.zo_cert_tree.specs.declared.cert.Claim.TheVariants.{Least, Nothing}
+use Rattle.zo_solve_state.specs.declared.best.Best.{Best}
+use Rattle.zo_solve_state.specs.inner.Better.{IsBest, IsWeaker}
+use Rattle.zo_solve_branch.specs.inner.Node.{IsGood, Steps}
 use Rattle.zo_solve.specs.inner.Search.{IsFound, LeftsLast}
 use Rattle.zo_solve.proofs.Grow.{Begun, begun_done, begun_more, may_weaker}
 

@@ -2,12 +2,12 @@
 use Rattle.std.specs.Prelude.{◌≡◌, ℕ, ◌≤◌, List, Bool, Option, Some, None}
 use Rattle.zo_model.specs.declared.program.Assignment.{Assignment}
 use Rattle.zo_model.specs.declared.program.ZeroOne.{ZeroOne}
-use Rattle.zo_proof.specs.Certificate.{IsTreeWith, Proves, EachNode, unfixed}
-use Rattle.zo_proof.specs.Spent.{IsSpent}
-use Rattle.zo_proof.specs.declared.cert.Cert.{Cert}
-use Rattle.zo_proof.specs.declared.cert.Claim.{Claim}
-use Rattle.zo_proof.specs.declared.cert.Claim.TheVariants as claims
-use Rattle.zo_state.specs.Vector.{cost_at}
+use Rattle.zo_cert_tree.specs.Certificate.{IsTreeWith, Proves, EachNode, unfixed}
+use Rattle.zo_cert_tree.specs.Spent.{IsSpent}
+use Rattle.zo_cert_tree.specs.declared.cert.Cert.{Cert}
+use Rattle.zo_cert_tree.specs.declared.cert.Claim.{Claim}
+use Rattle.zo_cert_tree.specs.declared.cert.Claim.TheVariants as claims
+use Rattle.zo_solve_state.specs.Vector.{cost_at}
 use Rattle.zo_solve.specs.declared.search.Solved.{Solved}
 use Rattle.zo_solve.specs.declared.search.Solved.TheVariants as answers
 
@@ -66,5 +66,5 @@ CostsAtMost n None = Unit {0}
 CostsAtMost n (Some t) = n ≤ t
 
 -- P of each node of the answer's tree, with the columns fixed above it
-abbrev pub EachIn : ZeroOne → (List (Option Bool) → Rattle.zo_proof.specs.declared.cert.CertNode.CertNode → Type 0) → Solved → Type 0
+abbrev pub EachIn : ZeroOne → (List (Option Bool) → Rattle.zo_cert_tree.specs.declared.cert.CertNode.CertNode → Type 0) → Solved → Type 0
 EachIn z P s = IsTreeWith (EachNode P (unfixed z)) (tree_of s)

@@ -2,18 +2,18 @@
 
 ghost use Rattle.std.specs.Prelude.{◌≡◌, ◌≢◌, [], IfOk, IfSome};
 ghost use Rattle.zo_model.specs.Program.{IsValid, columns};
-ghost use Rattle.zo_proof.specs.Certificate.{ClosesLeaf, IsTreeWith, Proves, unfixed};
-ghost use Rattle.zo_proof.specs.declared.cert.Claim.TheVariants.{Least};
-ghost use Rattle.zo_proof.specs.inner.Leaf.{IsClear};
-ghost use Rattle.zo_proof.specs.inner.Path.{begun, current};
+ghost use Rattle.zo_cert_tree.specs.Certificate.{ClosesLeaf, IsTreeWith, Proves, unfixed};
+ghost use Rattle.zo_cert_tree.specs.declared.cert.Claim.TheVariants.{Least};
+ghost use Rattle.zo_cert_tree.specs.inner.Leaf.{IsClear};
+ghost use Rattle.zo_cert_tree.specs.inner.Path.{begun, current};
 
 use std::alloc::Global;
-use zo_branch::Order;
-use zo_branch::node::met_leaf;
+use zo_cert_tree::leaf::{leaf_bound, names_rows};
+use zo_cert_tree::path::Path;
+use zo_cert_tree::{Cert, CertNode, Claim, closes};
 use zo_model::{NoMemory, ZeroOne};
-use zo_proof::leaf::{leaf_bound, names_rows};
-use zo_proof::path::Path;
-use zo_proof::{Cert, CertNode, Claim, closes};
+use zo_solve_branch::Order;
+use zo_solve_branch::node::met_leaf;
 
 /// A cost that no vector is below, and the proof of that: a leaf at the root.
 #[derive(Drop)]

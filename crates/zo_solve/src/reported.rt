@@ -2,12 +2,12 @@
 
 ghost use Rattle.std.specs.Prelude.{◌≡◌, ◌<◌, ◌≤◌, ◌^◌, All, IfOk, false, length, replicate};
 ghost use Rattle.zo_model.specs.Program.{IsValid};
-ghost use Rattle.zo_proof.specs.Certificate.{IsShaped, IsTreeWith};
-ghost use Rattle.zo_proof.specs.Node.{IsNode};
+ghost use Rattle.zo_cert_tree.specs.Certificate.{IsShaped, IsTreeWith};
+ghost use Rattle.zo_cert_tree.specs.Node.{IsNode};
 ghost use Rattle.zo_cert.specs.Report.{IsTrueReport, IsValidReport};
 ghost use Rattle.zo_solve.specs.Reported.{IsReportOf};
 ghost use Rattle.zo_solve.specs.Solved.{IsCutOff, IsProved, OfVector, tree_of};
-ghost use Rattle.zo_state.specs.Vector.{IsVector};
+ghost use Rattle.zo_solve_state.specs.Vector.{IsVector};
 
 use crate::search::Solved;
 use std::alloc::{AllocError, Global};

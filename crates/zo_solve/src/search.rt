@@ -2,25 +2,25 @@
 
 ghost use Rattle.std.specs.Prelude.{◌≡◌, ◌+◌, ◌-◌, ◌*◌, ◌≤◌, ◌^◌, [], IfOk, IfSome, length, All};
 ghost use Rattle.zo_model.specs.Program.{IsValid, columns};
-ghost use Rattle.zo_proof.specs.Certificate.{IsShaped, IsTreeWith, branches};
-ghost use Rattle.zo_proof.specs.Node.{IsNode};
-ghost use Rattle.zo_proof.specs.inner.Leaf.{IsClear};
-ghost use Rattle.zo_proof.specs.inner.Path.{begun};
-ghost use Rattle.zo_proof.specs.Searched.{IsSearched};
-ghost use Rattle.zo_state.specs.Pick.{Answers, CanPick};
-ghost use Rattle.zo_branch.specs.Nodes.{IsBelow, IsPicked};
-ghost use Rattle.zo_state.specs.inner.Better.{IsBest};
+ghost use Rattle.zo_cert_tree.specs.Certificate.{IsShaped, IsTreeWith, branches};
+ghost use Rattle.zo_cert_tree.specs.Node.{IsNode};
+ghost use Rattle.zo_cert_tree.specs.inner.Leaf.{IsClear};
+ghost use Rattle.zo_cert_tree.specs.inner.Path.{begun};
+ghost use Rattle.zo_cert_tree.specs.Searched.{IsSearched};
+ghost use Rattle.zo_solve_state.specs.Pick.{Answers, CanPick};
+ghost use Rattle.zo_solve_branch.specs.Nodes.{IsBelow, IsPicked};
+ghost use Rattle.zo_solve_state.specs.inner.Better.{IsBest};
 ghost use Rattle.zo_solve.specs.inner.Search.{IsAnswerOf, IsFound};
 ghost use Rattle.zo_solve.specs.Solved.{CostsAtMost, EachIn, HadNoStart, IsCutOff, IsDecided, IsProved, OfVector, claim_of, tree_of};
-ghost use Rattle.zo_state.specs.Vector.{IsVector, cost_at, start_cost};
+ghost use Rattle.zo_solve_state.specs.Vector.{IsVector, cost_at, start_cost};
 
 use std::alloc::{AllocError, Global};
-use zo_branch::Order;
-use zo_branch::node::step;
+use zo_cert_tree::path::Path;
+use zo_cert_tree::{Cert, CertNode, Fixed, has_left};
 use zo_model::{Assignment, NoMemory, ZeroOne};
-use zo_proof::path::Path;
-use zo_proof::{Cert, CertNode, Fixed, has_left};
-use zo_state::{Best, Pick, Sums};
+use zo_solve_branch::Order;
+use zo_solve_branch::node::step;
+use zo_solve_state::{Best, Pick, Sums};
 
 /// What a search found, with its tree.
 #[derive(Drop)]

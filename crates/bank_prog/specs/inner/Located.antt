@@ -3,8 +3,8 @@ use Rattle.std.specs.Prelude.{◌≡◌, ℕ, nat_eq, List, [], ◌∷◌, Optio
 use Rattle.std.specs.HashMap.{get}
 use Rattle.ssu_ir.specs.Tree.{Label}
 use Rattle.ssu_ir.specs.Points.{PointKind, Entry, At}
-use Rattle.placement.specs.Uses.{values}
-use Rattle.placement.specs.Weighted.{point_weight}
+use Rattle.place_plan.specs.Uses.{values}
+use Rattle.place_plan.specs.Weighted.{point_weight}
 use Rattle.bank_prog.specs.Weighted.{point_in}
 use Rattle.bank_prog.specs.declared.weighing.Located.{Located}
 

@@ -1,7 +1,7 @@
 -- Labels that nothing leads to are left out, and the others are numbered anew, in their order.
 use Rattle.std.specs.Prelude.{◌≡◌, ◌<◌, ℕ, zero, suc, Bool, true, false, not, ◌&&◌, ◌||◌, ◌⊎◌, ◌++◌, if◌then◌else◌, List, [], ◌∷◌, All, length, slice_index_or}
 use Rattle.flow_ir.specs.Tree.{Tree, Let, Read, Write, If, Jump, Halt, Label}
-use Rattle.flow_ir.specs.Led.{IsLedTo}
+use Rattle.flow_ir.specs.Reachable.{IsReachable}
 
 -- a label is left out
 abbrev pub is_out : List Bool → ℕ → Bool
@@ -54,7 +54,7 @@ pub record Noted (P : ℕ → Type 0) (old new : List Bool) (before after : List
 -- what isn't left out is led to
 pub record AreLed (ls : List Label) (out : List Bool) : Type 0 where
   pub all : length out ≡ length ls
-  pub led : (i : ℕ) → i < length ls → is_out out i ≡ false → IsLedTo ls i
+  pub led : (i : ℕ) → i < length ls → is_out out i ≡ false → IsReachable ls i
 
 -- the second labels are what is left of the first, where the first label is and where those that are there lead
 pub record IsPruned (ls ms : List Label) : Type 0 where

@@ -1,17 +1,17 @@
 -- The paired choice of banks: each value in A and in B.
 use Rattle.std.specs.Prelude.{ℕ, nat_eq, is_some, Bool, true, false, not, ◌&&◌}
-use Rattle.bank_form.specs.declared.column.Bank.{Bank}
-use Rattle.bank_form.specs.declared.column.Bank.TheVariants.{A, B, M, L, W}
-use Rattle.bank_form.specs.declared.column.Column.TheVariants.{Def, Dir, Fill, Stay, Ear, First, Srv, PasL, PasS}
+use Rattle.bank_prog_form.specs.declared.column.Bank.{Bank}
+use Rattle.bank_prog_form.specs.declared.column.Bank.TheVariants.{A, B, M, L, W}
+use Rattle.bank_prog_form.specs.declared.column.Column.TheVariants.{Def, DirectWrite, Fill, Stay, EarlyWrite, First, Serve, ReadVia, WriteVia}
 use Rattle.bank_prog.specs.Meaning.{Chosen}
-use Rattle.bank_form.specs.Program.{Numbers}
+use Rattle.bank_prog_form.specs.Program.{Numbers}
 
 abbrev pub is_there : Numbers → Chosen
 is_there number c = is_some (number c)
 
 -- the second operand of an instruction: only operands can be served at the register through which a slot is read
 abbrev pub is_second : Numbers → ℕ → ℕ → Bool
-is_second number k i = nat_eq i 1 && is_there number (Srv k i M L)
+is_second number k i = nat_eq i 1 && is_there number (Serve k i M L)
 
 abbrev pub is_a : Bank → Bool
 is_a A = true
@@ -41,11 +41,11 @@ serves second _ p = false
 -- the columns of the choice, where these have numbers. Every access begins at the first register
 abbrev pub paired : Numbers → Chosen
 paired number (Def x h) = is_a h
-paired number (Dir k i f) = false
+paired number (DirectWrite k i f) = false
 paired number (Fill x h) = fills number x h
 paired number (Stay x f) = false
-paired number (Ear k i f) = false
+paired number (EarlyWrite k i f) = false
 paired number (First k f) = nat_eq f 0
-paired number (Srv k i h p) = serves (is_second number k i) h p
-paired number (PasL k r) = false
-paired number (PasS k r) = false
+paired number (Serve k i h p) = serves (is_second number k i) h p
+paired number (ReadVia k r) = false
+paired number (WriteVia k r) = false

@@ -13,8 +13,8 @@ use Rattle.zo_cert.specs.declared.report.Report.{Report}
 use Rattle.zo_cert.specs.declared.report.Verdict.{Verdict}
 use Rattle.zo_cert.specs.declared.report.Verdict.TheVariants.{Optimal, Feasible, Infeasible, Spent}
 use Rattle.zo_solve.specs.Solved.{CostsAtMost}
-use Rattle.zo_state.specs.Vector.{IsVector, cost_at, start_cost}
-use Rattle.bank_form.specs.Columns.{columns}
+use Rattle.zo_solve_state.specs.Vector.{IsVector, cost_at, start_cost}
+use Rattle.bank_prog_form.specs.Columns.{columns}
 use Rattle.bank_prog.specs.Weighted.{weighted_costs}
 use Rattle.bank_prog.specs.Meaning.{IsFeasible}
 use Rattle.nova_back.specs.Causes.{IsReportOn, IsWithout, HasLargeProgram, HasVector, IsEnded, IsCheapFor, claim_of, report_cost}

@@ -5,16 +5,16 @@ use Rattle.nv_ast.specs.ExprView.{tree_of, list_trees, list_named_trees, list_st
 use Rattle.nv_ast.specs.PatternView.{pattern_tree, list_patterns}
 use Rattle.nv_meaning.specs.inner.Weight.{weight, weight_statement, weight_all, weight_named, weight_statements}
 use Rattle.nv_meaning.proofs.Falls.{item-weight, item-weight_named, item-weight_statement}
-use Rattle.flat_values.specs.inner.Symbols.{bound, all_fresh, all_bound, symbol_in}
-use Rattle.flat_values.specs.inner.Simulation.{Extends}
-use Rattle.flat_values.specs.inner.View.{view, scope_of}
-use Rattle.flat_values.specs.inner.Whole.{raised_or_none}
-use Rattle.flat_declarations.specs.inner.WholeView.{whole_in}
-use Rattle.flat_values.proofs.Keeping.{extends-itself, extends-then}
-use Rattle.flat_values.proofs.Rows.{tuple_view, record_view}
+use Rattle.nv_flatten_values.specs.inner.Symbols.{bound, all_fresh, all_bound, symbol_in}
+use Rattle.nv_flatten_values.specs.inner.Simulation.{Extends}
+use Rattle.nv_flatten_values.specs.inner.View.{view, scope_of}
+use Rattle.nv_flatten_values.specs.inner.Whole.{raised_or_none}
+use Rattle.nv_flatten_declarations.specs.inner.WholeView.{whole_in}
+use Rattle.nv_flatten_values.proofs.Keeping.{extends-itself, extends-then}
+use Rattle.nv_flatten_values.proofs.Rows.{tuple_view, record_view}
 use Rattle.nv_flatten.proofs.Ranks.{value_rank, value_rank-small, ending_rank, ending_rank-small, condition_rank, condition_rank-small, named-below, truth-below, given-below, decided-below}
 use Rattle.nv_flatten.proofs.WalkArms.{cut-back, extends-same}
-use Rattle.flat_values.proofs.CallArms.{restored}
+use Rattle.nv_flatten_values.proofs.CallArms.{restored}
 use Rattle.nv_flatten.proofs.FlatViews.{mapped, held, value-tree, value-in, value-as, statement-as, test-tree, test-as, end-tree, end-in, end-as}
 use Rattle.nv_flatten.proofs.FlatValues.{number-flat, truth-flat, variable-flat, paren-flat, tuple-flat, record-flat, dot-flat, block-flat}
 use Rattle.nv_flatten.proofs.FlatLists.{let-flat, front-start, front-step, front-end, fields-start, fields-step, fields-last, led-start, led-step, led-end}

@@ -5,12 +5,12 @@ use Rattle.nv_base.specs.declared.term.Cmp.{Cmp}
 use Rattle.nv_ast.specs.Tree.{Tree, Trees, NamedTrees, StatementTree, StatementTrees, no_statements, statement_and}
 use Rattle.flat_ir.specs.declared.flat.Flat.{Flat}
 use Rattle.flat_ir.specs.declared.spine.Step.{Step}
-use Rattle.flat_values.specs.inner.Symbols.{Symbol, Symbols, NamedSymbols, SymbolScope}
-use Rattle.flat_values.specs.inner.Whole.{Whole}
-use Rattle.flat_values.specs.inner.Simulation.{Names, IsValue, AreValues, AreFields, IsStated, IsTest, IsEnd}
-use Rattle.flat_values.specs.inner.Well.{IsWellValue, AreWellValues, AreWellFields, IsWellStated, IsWellTest, IsWellEnd}
-use Rattle.flat_values.specs.inner.Narrow.{IsNarrowValue, AreNarrowValues, AreNarrowFields, IsNarrowStatement, IsNarrowStated, IsNarrowTest, IsNarrowEnd}
-use Rattle.flat_values.specs.inner.Small.{IsSmallValue, AreSmallValues, AreSmallFields, IsSmallStated, IsSmallTest, IsSmallEnd}
+use Rattle.nv_flatten_values.specs.inner.Symbols.{Symbol, Symbols, NamedSymbols, SymbolScope}
+use Rattle.nv_flatten_values.specs.inner.Whole.{Whole}
+use Rattle.nv_flatten_values.specs.inner.Simulation.{Names, IsValue, AreValues, AreFields, IsStated, IsTest, IsEnd}
+use Rattle.nv_flatten_values.specs.inner.Well.{IsWellValue, AreWellValues, AreWellFields, IsWellStated, IsWellTest, IsWellEnd}
+use Rattle.nv_flatten_values.specs.inner.Narrow.{IsNarrowValue, AreNarrowValues, AreNarrowFields, IsNarrowStatement, IsNarrowStated, IsNarrowTest, IsNarrowEnd}
+use Rattle.nv_flatten_values.specs.inner.Small.{IsSmallValue, AreSmallValues, AreSmallFields, IsSmallStated, IsSmallTest, IsSmallEnd}
 
 -- what it does, that it is well formed, and how wide and how large it is; names are added to the old ones, and variables are new from `low` on and come before `high`
 pub record IsFlatValue (w : Whole) (old names : Names) (low high : ℕ) (scope : SymbolScope) (e : Tree) (steps : List Step) (s : Symbol) : Type 0 where

@@ -1,7 +1,7 @@
 -- What is blank: the value of a type whose words are 0, the same with other words, and bits of 0 after a place.
 use Rattle.std.specs.Prelude.{◌≡◌, ℕ, ◌-◌, ◌==◌, false, not, List, drop, length, replicate, slice_index}
 use Rattle.nv_ast.specs.Types.{Ty, WordTy, BoolTy, TupleTy, RecordTy, Tys, no_tys, ty_and, NamedTys, no_named_tys, named_ty_and}
-use Rattle.nv_values.specs.Values.{Value, Word, Truth, Tuple, Record, Values, no_values, value_and, NamedValues, no_named_values, named_value_and, words_of}
+use Rattle.nv_meaning_values.specs.Values.{Value, Word, Truth, Tuple, Record, Values, no_values, value_and, NamedValues, no_named_values, named_value_and, words_of}
 
 abbrev mutual
   pub blank : Ty → Value

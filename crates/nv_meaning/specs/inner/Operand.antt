@@ -5,9 +5,9 @@ use Rattle.nv_ast.specs.declared.tree.Op.TheVariants.{Both, Either}
 use Rattle.nv_base.specs.Words.{word_not}
 use Rattle.nv_ast.specs.Tree.{Tree, DotTree, InvertTree, NegateTree, ShiftTree, UnpackTree, PackTree, FetchTree, NamedLayout}
 use Rattle.nv_ast.specs.Outline.{outline}
-use Rattle.nv_values.specs.Values.{Value, Word, Truth, word_of, truth_of, fields_of, field_named}
-use Rattle.nv_values.specs.Packing.{unpacked_value, packed_value}
-use Rattle.nv_values.specs.Running.{Running, Result, Gives, fetch}
+use Rattle.nv_meaning_values.specs.Values.{Value, Word, Truth, word_of, truth_of, fields_of, field_named}
+use Rattle.nv_meaning_values.specs.Packing.{unpacked_value, packed_value}
+use Rattle.nv_meaning_values.specs.Running.{Running, Result, Gives, fetch}
 use Rattle.nv_meaning.specs.Meaning.{Declared, combined, shifted}
 
 -- what an expression of one operand makes of its value

@@ -7,18 +7,18 @@ use Rattle.nv_base.specs.declared.error.NoMemory as base
 use Rattle.nv_base.specs.Memories.{Memories}
 use Rattle.nv_base.specs.Log.{Log, noted_all}
 use Rattle.nv_base.specs.Meanings.{source_writes, left_by}
-use Rattle.nv_values.specs.Notes.{Notes, Knows, traced_all, source_made}
-use Rattle.nv_values.specs.Callers.{IsAbove}
-use Rattle.nv_values.specs.Chains.{Kept, trail_of}
-use Rattle.nv_values.specs.Values.{Values, Word, Tuple, Record, Scope}
-use Rattle.nv_values.specs.Running.{Chain, Made, plain, Running, TracedOutcome, Result, Gives, Results, GiveAll, Breaks, NamedResults, GiveNamed, BreaksNamed, Stated, GoesOn, StopsAt}
+use Rattle.nv_meaning_values.specs.Notes.{Notes, Knows, traced_all, source_made}
+use Rattle.nv_meaning_values.specs.Callers.{IsAbove}
+use Rattle.nv_meaning_values.specs.Chains.{Kept, trail_of}
+use Rattle.nv_meaning_values.specs.Values.{Values, Word, Tuple, Record, Scope}
+use Rattle.nv_meaning_values.specs.Running.{Chain, Made, plain, Running, TracedOutcome, Result, Gives, Results, GiveAll, Breaks, NamedResults, GiveNamed, BreaksNamed, Stated, GoesOn, StopsAt}
 use Rattle.nv_meaning.specs.Meaning.{Declared, Calls, calls_within}
-pub use Rattle.nv_values.specs.inner.Interrupting.{now_of, Grown, Interrupted, IsValue}
-use Rattle.nv_values.specs.inner.View.{view, list_values, list_named_values}
-use Rattle.nv_values.specs.declared.value.Value.{Value}
+pub use Rattle.nv_meaning_values.specs.inner.Interrupting.{now_of, Grown, Interrupted, IsValue}
+use Rattle.nv_meaning_values.specs.inner.View.{view, list_values, list_named_values}
+use Rattle.nv_meaning_values.specs.declared.value.Value.{Value}
 use Rattle.nv_meaning.specs.declared.step.Step.{Step}
 use Rattle.nv_meaning.specs.declared.step.Step.TheVariants.{Done, Again}
-use Rattle.nv_values.specs.declared.stop.Interruption.{Interruption}
+use Rattle.nv_meaning_values.specs.declared.stop.Interruption.{Interruption}
 
 -- ---- moments of the interpreter's work: the calls that are left, the memories and the notes
 pub record At : Type 0 where

@@ -1,6 +1,6 @@
 -- What a reader of a memory text has read, and what is left.
 use Rattle.std.specs.Prelude.{◌≡◌, ℕ, ◌+◌, ◌*◌, List, ◌∷◌, ◌++◌, None, length}
-use Rattle.line_text.specs.Line.{Lacks, text_of}
+use Rattle.nv_lines.specs.Line.{Lacks, text_of}
 use Rattle.nv_base.specs.Memories.{Memories, blank, first_too_large}
 use Rattle.nv_memtext.specs.declared.line.Stretch.{Stretch}
 use Rattle.nv_memtext.specs.MemoryText.{SpellsSizes, SpellsArgs, SpellStretches, stretched}

@@ -1,8 +1,8 @@
 -- What a failure of the parser is in bytes of the text.
 use Rattle.std.specs.Prelude.{◌≡◌, ℕ}
 use Rattle.nv_ast.specs.Positions.{place_of}
-use Rattle.nv_parser.specs.declared.cursor.Failure.{Failure}
-use Rattle.nv_parser.specs.declared.cursor.Failure.TheVariants.{NoMemory as NoRoom, Syntax as Stuck, Deep as High}
+use Rattle.nv_text_parser.specs.declared.cursor.Failure.{Failure}
+use Rattle.nv_text_parser.specs.declared.cursor.Failure.TheVariants.{NoMemory as NoRoom, Syntax as Stuck, Deep as High}
 use Rattle.nv_text.specs.declared.error.TextError.{TextError}
 use Rattle.nv_text.specs.declared.error.TextError.TheVariants.{NoMemory, Syntax, Deep}
 

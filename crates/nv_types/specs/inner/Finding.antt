@@ -5,10 +5,10 @@ use Rattle.nv_ast.specs.Scope.{Known}
 use Rattle.nv_ast.specs.Faults.{main_name}
 use Rattle.nv_ast.specs.Sizes.{GroupNumbers, signature_words}
 use Rattle.nv_types.specs.declared.main_sizes.Sizes.{Sizes}
-use Rattle.type_scopes.specs.declared.functions.Checker.{Checker}
-use Rattle.type_table.specs.inner.Cells.{still}
-use Rattle.type_scopes.specs.inner.Standing.{Counts}
-use Rattle.type_scopes.specs.inner.Declarations.{Between}
+use Rattle.nv_types_scopes.specs.declared.functions.Checker.{Checker}
+use Rattle.nv_types_table.specs.inner.Cells.{still}
+use Rattle.nv_types_scopes.specs.inner.Standing.{Counts}
+use Rattle.nv_types_scopes.specs.inner.Declarations.{Between}
 
 -- the sizes of main after all declarations, if there is one
 pub record FindsMain (c : Checker) (r : Option Sizes) : Type 0 where

@@ -6,11 +6,11 @@ use Rattle.nv_ast.specs.Scope.{nothing_known}
 use Rattle.nv_ast.specs.Faults.{main_name, program_faults}
 use Rattle.nv_ast.specs.Sizes.{needs_behind, expanded_size, main_words}
 use Rattle.nv_types.specs.declared.main_sizes.Sizes.{Sizes}
-use Rattle.type_scopes.specs.declared.functions.Checker.{Checker}
-use Rattle.type_costs.specs.declared.error.TypeError.{TypeError}
-use Rattle.type_table.specs.inner.Cells.{still}
-use Rattle.type_costs.specs.inner.Faulty.{Judges}
-use Rattle.type_scopes.specs.inner.Declarations.{Started}
+use Rattle.nv_types_scopes.specs.declared.functions.Checker.{Checker}
+use Rattle.nv_types_table.specs.declared.error.TypeError.{TypeError}
+use Rattle.nv_types_table.specs.inner.Cells.{still}
+use Rattle.nv_types_table.specs.inner.Faulty.{Judges}
+use Rattle.nv_types_scopes.specs.inner.Declarations.{Started}
 
 -- the need of main's group
 abbrev pub main_need : ProgramTree → ℕ

@@ -3,8 +3,8 @@ use Rattle.std.specs.Prelude.{List}
 use Rattle.ssu_ir.specs.Tree.{Label}
 use Rattle.bank_prog.specs.Meaning.{Chosen}
 use Rattle.reg_assign.specs.declared.given.AssignmentInputs.{AssignmentInputs}
-use Rattle.bank_assignment.specs.inner.ReadOff.{Numbers}
-use Rattle.bank_assignment.specs.inner.Reading.{labels_of, says, numbers_of}
+use Rattle.reg_assign_reading.specs.inner.ReadOff.{Numbers}
+use Rattle.reg_assign_reading.specs.inner.Reading.{labels_of, says, numbers_of}
 
 abbrev pub labels_in : AssignmentInputs → List Label
 labels_in g = labels_of g.reading

@@ -1,6 +1,6 @@
 -- What the reader of a text has read, and what is left.
 use Rattle.std.specs.Prelude.{◌≡◌, ℕ, ◌+◌, ◌*◌, ◌≤◌, List, ◌∷◌, ◌++◌, length, map}
-use Rattle.line_text.specs.Line.{text_of}
+use Rattle.nv_lines.specs.Line.{text_of}
 use Rattle.uc_asm.specs.Items.{Item, item_line, params_line}
 use Rattle.uc_asm.specs.Text.{AreItems}
 

@@ -3,8 +3,8 @@ use Rattle.std.specs.Prelude.{◌≡◌, ℕ, zero, suc, ◌<◌, ◌≤◌, nat
 use Rattle.std.specs.List.{AllByRecursion}
 use Rattle.ssu_ir.specs.Tree.{Step, Lit, Una, Bin, Clone, Read, Write, Does, Forks, Ends, node_uses}
 use Rattle.ssu_ir.specs.Points.{PointKind, Entry, At}
-use Rattle.placement.specs.declared.place.Serve.{Serve}
-use Rattle.placement.specs.Fits.{Rises, at_operand}
+use Rattle.place_plan.specs.declared.place.Serve.{Serve}
+use Rattle.place_plan.specs.Fits.{Rises, at_operand}
 use Rattle.ucode_emit.specs.inner.Marks.{Mark}
 
 -- ---- what the points want of the lists

@@ -2,11 +2,11 @@
 use Rattle.std.specs.Prelude.{ℕ, ◌<◌, ◌&&◌, slice_index_or, List, [], ◌∷◌, ◌++◌, Option, if◌then◌else◌}
 use Rattle.uc_isa.specs.declared.instruction.Instr.{Instr}
 use Rattle.uc_isa.specs.declared.instruction.Instr.TheVariants as instr
-use Rattle.placement.specs.declared.place.Place.{Place}
-use Rattle.placement.specs.declared.place.Place.TheVariants.{L, S, Slot}
-use Rattle.placement.specs.declared.place.Serve.{Serve}
-use Rattle.placement.specs.Places.{same_place}
-use Rattle.placement.specs.Fits.{is_slot, is_read_register}
+use Rattle.place_plan.specs.declared.place.Place.{Place}
+use Rattle.place_plan.specs.declared.place.Place.TheVariants.{L, S, Slot}
+use Rattle.place_plan.specs.declared.place.Serve.{Serve}
+use Rattle.place_plan.specs.Places.{same_place}
+use Rattle.place_plan.specs.Fits.{is_slot, is_read_register}
 use Rattle.par_move.specs.Moves.{Move, temporary}
 use Rattle.ucode_emit.specs.inner.Machine.{IsReadable, IsWritable}
 use Rattle.ucode_emit.specs.Pieces.{Item, Moved, Plain, Branch, move_instr, brought}

@@ -2,7 +2,7 @@
 use Rattle.std.specs.Prelude.{◌≡◌, ℕ, List, map}
 use Rattle.uc_isa.specs.declared.instruction.Instr.{Instr}
 use Rattle.ssu_ir.specs.Tree.{Label}
-use Rattle.placement.specs.Plan.{Plan}
+use Rattle.place_plan.specs.Plan.{Plan}
 use Rattle.ucode_emit.specs.Pieces.{Sequences, items, starts, parallel_moves}
 use Rattle.ucode_emit.specs.Emits.{AreSequences, label_starts}
 use Rattle.ucode_emit.specs.inner.DraftItems.{draft}

@@ -4,9 +4,9 @@ use Rattle.uc_isa.specs.declared.instruction.Instr.TheVariants as instr
 use Rattle.uc_isa.specs.declared.instruction.Cond.TheVariants.{Always}
 use Rattle.uc_isa.specs.Registers.{failing}
 use Rattle.ssu_ir.specs.Tree.{Step, Lit, Una, Bin, Clone, Read, Write, Last, Jump, Halt, Node, Does, Forks, Ends}
-use Rattle.placement.specs.declared.place.Serve.{Serve}
-use Rattle.placement.specs.Plan as plan
-use Rattle.placement.specs.Plan.{Plan, pass}
+use Rattle.place_plan.specs.declared.place.Serve.{Serve}
+use Rattle.place_plan.specs.Plan as plan
+use Rattle.place_plan.specs.Plan.{Plan, pass}
 use Rattle.par_move.specs.Moves.{Move}
 use Rattle.ucode_emit.specs.declared.emit_context.EmitContext.{EmitContext}
 use Rattle.ucode_emit.specs.inner.Machine.{IsReadable, IsWritable}

@@ -8,9 +8,9 @@ use Rattle.nv_base.specs.World.{World}
 use Rattle.uc_isa.specs.Engine.{IsEngine}
 use Rattle.uc_isa.specs.Pieces.{Moment, Leads, EndsIn}
 use Rattle.uc_isa.specs.declared.instruction.Instr.{Instr}
-use Rattle.placement.specs.declared.place.Place.{Place}
-use Rattle.placement.specs.declared.place.Place.TheVariants.{A, B, L, LD, S, SD, Slot}
-use Rattle.placement.specs.Fits.{read_place}
+use Rattle.place_plan.specs.declared.place.Place.{Place}
+use Rattle.place_plan.specs.declared.place.Place.TheVariants.{A, B, L, LD, S, SD, Slot}
+use Rattle.place_plan.specs.Fits.{read_place}
 use Rattle.par_move.specs.Moves.{Move, Words, put}
 use Rattle.ucode_emit.specs.Pieces.{move_instr}
 

@@ -3,7 +3,7 @@ use Rattle.std.specs.Prelude.{ℕ, zero, suc, ◌+◌, List, [], ◌∷◌, ◌+
 use Rattle.uc_isa.specs.Registers.{failing}
 use Rattle.ssu_ir.specs.Tree.{Tree, Do, If, End, Label, Node, Does, Forks, Ends}
 use Rattle.ssu_ir.specs.Points.{PointKind, Entry, At, nodes}
-use Rattle.placement.specs.Plan.{Plan}
+use Rattle.place_plan.specs.Plan.{Plan}
 use Rattle.par_move.specs.Moves.{Move}
 use Rattle.ucode_emit.specs.Pieces.{Item, moved, single_moves, all_copies, step_items, fork_items, last_items, Sequences, sequence_at, entry_moves, last_moves}
 

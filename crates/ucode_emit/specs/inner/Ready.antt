@@ -4,11 +4,11 @@ use Rattle.nv_base.specs.Sets.{is_in}
 use Rattle.nv_base.specs.Words.{Env}
 use Rattle.ssu_ir.specs.Tree.{Label}
 use Rattle.ssu_ir.specs.Points.{Point}
-use Rattle.placement.specs.declared.place.Place.{Place}
-use Rattle.placement.specs.declared.place.Place.TheVariants.{A}
-use Rattle.placement.specs.Plan.{Plan, home}
-use Rattle.placement.specs.Uses.{Use, uses}
-use Rattle.placement.specs.Fits.{general_places, read_places, has_place, is_early, word_register}
+use Rattle.place_plan.specs.declared.place.Place.{Place}
+use Rattle.place_plan.specs.declared.place.Place.TheVariants.{A}
+use Rattle.place_plan.specs.Plan.{Plan, home}
+use Rattle.place_plan.specs.Uses.{Use, uses}
+use Rattle.place_plan.specs.Fits.{general_places, read_places, has_place, is_early, word_register}
 use Rattle.par_move.specs.Moves.{Words}
 
 -- the places in which a value lasts while it is held

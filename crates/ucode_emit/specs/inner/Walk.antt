@@ -7,8 +7,8 @@ use Rattle.ssu_ir.specs.declared.ssu.Ssu.{Ssu}
 use Rattle.ssu_ir.specs.Tree.{Label, Jump, Halt, Node, Does, Forks, Ends}
 use Rattle.ssu_ir.specs.Points.{PointKind, Entry, At}
 use Rattle.ssu_ir.specs.View.{labels_view}
-use Rattle.placement.specs.declared.place.Serve.{Serve}
-use Rattle.placement.specs.Plan.{Plan}
+use Rattle.place_plan.specs.declared.place.Serve.{Serve}
+use Rattle.place_plan.specs.Plan.{Plan}
 use Rattle.par_move.specs.Moves.{Move}
 use Rattle.ucode_emit.specs.declared.cursor.Cursor.{Cursor}
 use Rattle.ucode_emit.specs.declared.walk.Points.{Points}

@@ -1,11 +1,11 @@
 -- a line that has to come next in a report's text
 use Rattle.std.specs.Prelude.{◌≡◌, ℕ, ◌+◌, ◌<◌, List, ◌++◌, length, map, Bool, All}
-use Rattle.line_text.specs.Line.{text_of}
+use Rattle.nv_lines.specs.Line.{text_of}
 use Rattle.zo_model.specs.inner.LineFault.{NoLine}
 use Rattle.zo_model.specs.declared.error.ZoError.{ZoError}
 use Rattle.zo_model.specs.declared.error.ZoError.TheVariants.{NoMemory, Bad}
-use Rattle.zo_proof.specs.Node.{Node, IsNodeText, node_line}
-use Rattle.zo_proof.specs.inner.NodeLine.{IsNodeLine}
+use Rattle.zo_cert_tree.specs.Node.{Node, IsNodeText, node_line}
+use Rattle.zo_cert_tree.specs.inner.NodeLine.{IsNodeLine}
 use Rattle.zo_cert.specs.ReportText.{x_line}
 
 -- the columns of n that are 1

@@ -1,12 +1,12 @@
 -- the parts of a report's text, and where bytes stop to begin one
 use Rattle.std.specs.Prelude.{◌≡◌, ◌≢◌, ℕ, ◌+◌, ◌<◌, ◌≤◌, ◌^◌, List, [], ◌∷◌, ◌++◌, length, Bool, All, codes, decimal}
-use Rattle.line_text.specs.Line.{text_of}
-use Rattle.line_text.specs.Format.{Begins}
+use Rattle.nv_lines.specs.Line.{text_of}
+use Rattle.nv_lines.specs.Format.{Begins}
 use Rattle.zo_model.specs.inner.LineFault.{NoLine}
 use Rattle.zo_model.specs.Program.{vector, costs_of}
 use Rattle.zo_model.specs.declared.error.ZoError.{ZoError}
 use Rattle.zo_model.specs.declared.error.ZoError.TheVariants.{NoMemory, Bad}
-use Rattle.zo_proof.specs.Node.{Node, IsNodeText}
+use Rattle.zo_cert_tree.specs.Node.{Node, IsNodeText}
 use Rattle.zo_cert.specs.Report.{IsBlank}
 use Rattle.zo_cert.specs.ReportText.{counted_line, x_line}
 use Rattle.zo_cert.specs.ReportFault.{HasCost, stated_lines, tree_lines}

@@ -1,6 +1,6 @@
 -- a line that has to come next in a text
 use Rattle.std.specs.Prelude.{◌≡◌, ℕ, ◌+◌, ◌<◌, ◌≤◌, ◌^◌, List, [], ◌∷◌, ◌++◌, decimal}
-use Rattle.line_text.specs.Line.{Lacks, parted}
+use Rattle.nv_lines.specs.Line.{Lacks, parted}
 use Rattle.zo_model.specs.Contents.{RowContents}
 use Rattle.zo_model.specs.ProgramText.{cost_line, row_line, IsRowText}
 use Rattle.zo_model.specs.declared.error.ZoError.{ZoError}

@@ -1,7 +1,7 @@
 -- where bytes stop to begin a program's text
 use Rattle.std.specs.Prelude.{◌≡◌, ℕ, ◌+◌, ◌<◌, ◌^◌, List, [], ◌∷◌, ◌++◌, All, length, map}
-use Rattle.line_text.specs.Line.{text_of}
-use Rattle.line_text.specs.Format.{Begins}
+use Rattle.nv_lines.specs.Line.{text_of}
+use Rattle.nv_lines.specs.Format.{Begins}
 use Rattle.zo_model.specs.Contents.{RowContents}
 use Rattle.zo_model.specs.ProgramText.{AreProgramLines, cost_line, row_line, IsRowText}
 use Rattle.zo_model.specs.inner.LineFault.{NoLine, IsCost, IsRowLine}

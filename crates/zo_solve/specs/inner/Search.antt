@@ -2,12 +2,12 @@
 use Rattle.std.specs.Prelude.{◌≡◌, ℕ, ◌≤◌, List, [], ◌∷◌, Bool, Option, Some, None}
 use Rattle.zo_model.specs.declared.program.Assignment.{Assignment}
 use Rattle.zo_model.specs.declared.program.ZeroOne.{ZeroOne}
-use Rattle.zo_proof.specs.Certificate.{Tree, preorder, EachNode, branches, HasLeft, unfixed}
-use Rattle.zo_proof.specs.declared.cert.CertNode.{CertNode}
-use Rattle.zo_proof.specs.declared.cert.CertNode.TheVariants.{Branch, Bound, Clash, Left}
-use Rattle.zo_state.specs.declared.best.Best.{Best}
-use Rattle.zo_state.specs.inner.Better.{IsBest}
-use Rattle.zo_branch.specs.inner.Node.{IsGood}
+use Rattle.zo_cert_tree.specs.Certificate.{Tree, preorder, EachNode, branches, HasLeft, unfixed}
+use Rattle.zo_cert_tree.specs.declared.cert.CertNode.{CertNode}
+use Rattle.zo_cert_tree.specs.declared.cert.CertNode.TheVariants.{Branch, Bound, Clash, Left}
+use Rattle.zo_solve_state.specs.declared.best.Best.{Best}
+use Rattle.zo_solve_state.specs.inner.Better.{IsBest}
+use Rattle.zo_solve_branch.specs.inner.Node.{IsGood}
 use Rattle.zo_solve.specs.declared.search.Solved.{Solved}
 use Rattle.zo_solve.specs.declared.search.Solved.TheVariants as answers
 

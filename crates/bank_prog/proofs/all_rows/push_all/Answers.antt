@@ -2,9 +2,9 @@ use Rattle.std.proofs.Common.{◌++◌}
 use Rattle.std.specs.HashMap.{get}
 use Rattle.ssu_ir.specs.View.{labels_view}
 use Rattle.ssu_liveness.proofs.RowSteps.{on-ok}
-use Rattle.bank_form.specs.Program.{same_column}
-use Rattle.bank_form.specs.Rows.{one_choice, homes_cover, operand_banks, capacity, owners, adjacency, passes}
-use Rattle.bank_form.proofs.Loops.{adds-both}
+use Rattle.bank_prog_form.specs.Program.{same_column}
+use Rattle.bank_prog_form.specs.Rows.{one_choice, homes_cover, operand_banks, capacity, owners, adjacency, passes}
+use Rattle.bank_prog_form.proofs.Loops.{adds-both}
 use Rattle.bank_prog.proofs.all_rows.push_all.Goals as goal
 
 pub returns : goal.returns

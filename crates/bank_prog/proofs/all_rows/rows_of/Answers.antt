@@ -2,8 +2,8 @@ use Rattle.std.proofs.Common.{◌∙◌, ◌++◌, ap, map}
 use Rattle.std.specs.HashMap.{get}
 use Rattle.ssu_ir.specs.View.{labels_view}
 use Rattle.zo_model.specs.Contents.{row_contents}
-use Rattle.bank_form.specs.Program.{same_column, row_of}
-use Rattle.bank_form.specs.Rows.{lines}
+use Rattle.bank_prog_form.specs.Program.{same_column, row_of}
+use Rattle.bank_prog_form.specs.Rows.{lines}
 use Rattle.bank_prog.proofs.all_rows.rows_of.Goals as goal
 
 pub returns : goal.returns

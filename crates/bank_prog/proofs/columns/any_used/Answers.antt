@@ -1,10 +1,10 @@
 use Rattle.std.proofs.Common.{◌∙◌, sym, map, arith}
 use Rattle.std.specs.List.{list_any}
 use Rattle.ssu_ir.specs.View.{labels_view}
-use Rattle.placement.specs.Uses as pure
-use Rattle.placement.specs.Uses.{is_used}
-use Rattle.bank_form.specs.inner.Form.{value_view}
-use Rattle.bank_form.proofs.Loops.{any-more, any-here, any-none}
+use Rattle.place_plan.specs.Uses as pure
+use Rattle.place_plan.specs.Uses.{is_used}
+use Rattle.bank_prog_form.specs.inner.Form.{value_view}
+use Rattle.bank_prog_form.proofs.Loops.{any-more, any-here, any-none}
 use Rattle.bank_prog.proofs.columns.any_used.Goals as goal
 
 pub loop-v-preserved : goal.loop-v-preserved

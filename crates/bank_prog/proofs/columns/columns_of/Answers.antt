@@ -2,11 +2,11 @@ use Rattle.std.proofs.Common.{◌≡◌, ◌∙◌, ◌++◌, ap, refl, List, ma
 use Rattle.std.specs.List.{flat_map}
 use Rattle.ssu_ir.specs.Points.{points}
 use Rattle.ssu_ir.specs.View.{labels_view}
-use Rattle.placement.specs.Uses as pure
-use Rattle.placement.specs.inner.UseViews.{use_view}
-use Rattle.bank_form.specs.Columns as columns
-use Rattle.bank_form.specs.inner.Form as form
-use Rattle.bank_form.proofs.Loops.{spend, spend-last, each-parts}
+use Rattle.place_plan.specs.Uses as pure
+use Rattle.place_plan.specs.inner.UseViews.{use_view}
+use Rattle.bank_prog_form.specs.Columns as columns
+use Rattle.bank_prog_form.specs.inner.Form as form
+use Rattle.bank_prog_form.proofs.Loops.{spend, spend-last, each-parts}
 use Rattle.bank_prog.proofs.columns.columns_of.Goals as goal
 
 pub returns : goal.returns

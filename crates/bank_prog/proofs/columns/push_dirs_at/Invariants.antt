@@ -1,7 +1,7 @@
 use Rattle.std.proofs.Common.{◌≡◌, ◌++◌, map, drop}
-use Rattle.bank_form.specs.declared.column.Column.TheVariants as column
+use Rattle.bank_prog_form.specs.declared.column.Column.TheVariants as column
 use Rattle.std.proofs.Common.{ℕ}
 use Rattle.bank_prog.proofs.columns.push_dirs_at.Given as goal
 
 abbrev pub invariant-loop-f : goal.invariant-loop-f
-invariant-loop-f l = l.out.items ++ map (λ (f : ℕ). (column.Dir l.u.point l.u.operand f, 0)) (drop l.f-index l.firsts) ≡ l.fn.out.items ++ map (λ (f : ℕ). (column.Dir l.u.point l.u.operand f, 0)) l.firsts
+invariant-loop-f l = l.out.items ++ map (λ (f : ℕ). (column.DirectWrite l.u.point l.u.operand f, 0)) (drop l.f-index l.firsts) ≡ l.fn.out.items ++ map (λ (f : ℕ). (column.DirectWrite l.u.point l.u.operand f, 0)) l.firsts

@@ -1,6 +1,6 @@
 use Rattle.std.proofs.Common.{◌++◌, map, arith}
-use Rattle.bank_form.specs.declared.column.Column.TheVariants as column
-use Rattle.bank_form.proofs.Loops.{map-more, map-all}
+use Rattle.bank_prog_form.specs.declared.column.Column.TheVariants as column
+use Rattle.bank_prog_form.proofs.Loops.{map-more, map-all}
 use Rattle.bank_prog.proofs.columns.push_eight.Goals as goal
 
 pub loop-c-preserved : goal.loop-c-preserved

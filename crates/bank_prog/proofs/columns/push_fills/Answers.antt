@@ -1,9 +1,9 @@
 use Rattle.std.proofs.Common.{◌++◌, map, arith}
 use Rattle.std.specs.List.{flat_map}
-use Rattle.bank_form.specs.Columns as columns
-use Rattle.bank_form.specs.inner.Form.{value_view}
+use Rattle.bank_prog_form.specs.Columns as columns
+use Rattle.bank_prog_form.specs.inner.Form.{value_view}
 use Rattle.ssu_ir.specs.View.{labels_view}
-use Rattle.bank_form.proofs.Loops.{out-more, out-all}
+use Rattle.bank_prog_form.proofs.Loops.{out-more, out-all}
 use Rattle.bank_prog.proofs.columns.push_fills.Goals as goal
 
 pub loop-v-preserved : goal.loop-v-preserved

@@ -1,7 +1,7 @@
 use Rattle.std.proofs.Common.{◌++◌, map, arith}
-use Rattle.bank_form.specs.declared.column.Column.TheVariants as column
+use Rattle.bank_prog_form.specs.declared.column.Column.TheVariants as column
 use Rattle.std.proofs.Common.{ℕ}
-use Rattle.bank_form.proofs.Loops.{map-more, map-all}
+use Rattle.bank_prog_form.proofs.Loops.{map-more, map-all}
 use Rattle.bank_prog.proofs.columns.push_firsts_at.Goals as goal
 
 pub loop-f-preserved : goal.loop-f-preserved

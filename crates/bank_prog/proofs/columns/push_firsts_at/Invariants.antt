@@ -1,5 +1,5 @@
 use Rattle.std.proofs.Common.{◌≡◌, ◌++◌, map, drop}
-use Rattle.bank_form.specs.declared.column.Column.TheVariants as column
+use Rattle.bank_prog_form.specs.declared.column.Column.TheVariants as column
 use Rattle.std.proofs.Common.{ℕ}
 use Rattle.bank_prog.proofs.columns.push_firsts_at.Given as goal
 

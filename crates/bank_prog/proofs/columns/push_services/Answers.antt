@@ -1,9 +1,9 @@
 use Rattle.std.proofs.Common.{◌++◌, arith}
 use Rattle.std.specs.List.{flat_map}
-use Rattle.bank_form.specs.inner.Form as form
-use Rattle.bank_form.proofs.Loops.{plain-more, plain-all}
+use Rattle.bank_prog_form.specs.inner.Form as form
+use Rattle.bank_prog_form.proofs.Loops.{plain-more, plain-all}
 use Rattle.bank_prog.proofs.columns.push_services.Goals as goal
-use Rattle.placement.specs.inner.UseViews.{use_view}
+use Rattle.place_plan.specs.inner.UseViews.{use_view}
 
 pub loop-s-preserved : goal.loop-s-preserved
 loop-s-preserved c =

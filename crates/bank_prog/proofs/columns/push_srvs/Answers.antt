@@ -1,10 +1,10 @@
 use Rattle.std.proofs.Common.{◌++◌, map, arith}
 use Rattle.std.specs.List.{flat_map}
-use Rattle.bank_form.specs.Columns as columns
+use Rattle.bank_prog_form.specs.Columns as columns
 use Rattle.ssu_ir.specs.View.{labels_view}
-use Rattle.bank_form.proofs.Loops.{out-more, out-all}
+use Rattle.bank_prog_form.proofs.Loops.{out-more, out-all}
 use Rattle.bank_prog.proofs.columns.push_srvs.Goals as goal
-use Rattle.placement.specs.inner.UseViews.{use_view}
+use Rattle.place_plan.specs.inner.UseViews.{use_view}
 
 pub loop-u-preserved : goal.loop-u-preserved
 loop-u-preserved c =

@@ -1,10 +1,10 @@
 use Rattle.std.proofs.Common.{◌++◌, ◌∙◌, ap, map, arith}
 use Rattle.std.specs.List.{flat_map}
-use Rattle.bank_form.specs.Columns as columns
-use Rattle.bank_form.specs.inner.Form as form
-use Rattle.bank_form.specs.inner.Form.{summary_view}
+use Rattle.bank_prog_form.specs.Columns as columns
+use Rattle.bank_prog_form.specs.inner.Form as form
+use Rattle.bank_prog_form.specs.inner.Form.{summary_view}
 use Rattle.ssu_ir.specs.View.{labels_view}
-use Rattle.bank_form.proofs.Loops.{out-more, out-all}
+use Rattle.bank_prog_form.proofs.Loops.{out-more, out-all}
 use Rattle.bank_prog.proofs.columns.push_stays.Goals as goal
 
 pub loop-summary-preserved : goal.loop-summary-preserved

@@ -6,8 +6,8 @@ use Rattle.ssu_ir.specs.View.{labels_view}
 use Rattle.zo_model.specs.declared.program.ZeroOne.{ZeroOne}
 use Rattle.zo_model.specs.Contents.{contents}
 use Rattle.zo_model.specs.Program.{IsValid}
-use Rattle.bank_form.specs.Columns.{columns}
-use Rattle.bank_form.specs.Program.{rows, IsTooLarge}
+use Rattle.bank_prog_form.specs.Columns.{columns}
+use Rattle.bank_prog_form.specs.Program.{rows, IsTooLarge}
 use Rattle.bank_prog.specs.Weighted.{weighted_program}
 use Rattle.bank_prog.proofs.program.build.Goals as goal
 

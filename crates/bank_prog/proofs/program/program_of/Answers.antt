@@ -7,11 +7,11 @@ use Rattle.ssu_ir.specs.View.{labels_view}
 use Rattle.ssu_liveness.specs.LiveRows.{IsRow, items_of}
 use Rattle.ssu_liveness.proofs.Kept.{rows-of-whole}
 use Rattle.zo_model.specs.Contents.{row_contents}
-use Rattle.bank_form.specs.declared.column.Column.{Column}
-use Rattle.bank_form.specs.Program as program
-use Rattle.bank_form.specs.Program.{same_column, row_of, number_of}
-use Rattle.bank_form.specs.Rows.{lines}
-use Rattle.bank_form.proofs.FormLemmas.{rows-alike, same-program}
+use Rattle.bank_prog_form.specs.declared.column.Column.{Column}
+use Rattle.bank_prog_form.specs.Program as program
+use Rattle.bank_prog_form.specs.Program.{same_column, row_of, number_of}
+use Rattle.bank_prog_form.specs.Rows.{lines}
+use Rattle.bank_prog_form.proofs.FormLemmas.{rows-alike, same-program}
 use Rattle.bank_prog.specs.Weighted.{weigh, weighted_costs}
 use Rattle.bank_prog.proofs.Valid.{costs-small, weighted-valid}
 use Rattle.bank_prog.proofs.program.program_of.Goals as goal

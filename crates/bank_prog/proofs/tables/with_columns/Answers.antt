@@ -1,8 +1,8 @@
 use Rattle.std.proofs.Common.{◌≡◌, ◌∙◌, List, ap, sym, map, length, arith}
 use Rattle.std.proofs.lemmas.List.{length-map}
 use Rattle.ssu_ir.specs.View.{labels_view}
-use Rattle.bank_form.specs.Columns.{Priced, priced, columns}
-use Rattle.bank_form.specs.Program.{number_in}
+use Rattle.bank_prog_form.specs.Columns.{Priced, priced, columns}
+use Rattle.bank_prog_form.specs.Program.{number_in}
 use Rattle.bank_prog.proofs.tables.with_columns.Goals as goal
 
 pub invariant_of-result : goal.invariant_of-result

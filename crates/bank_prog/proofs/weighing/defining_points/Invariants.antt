@@ -1,6 +1,6 @@
 use Rattle.std.proofs.Common.{◌≡◌, ◌≤◌, ℕ, length, map, drop, nat_eq}
 use Rattle.std.specs.HashMap.{get}
-use Rattle.bank_form.specs.inner.Form.{value_view}
+use Rattle.bank_prog_form.specs.inner.Form.{value_view}
 use Rattle.bank_prog.specs.Weighted.{point_in}
 use Rattle.bank_prog.specs.inner.Located.{known_point}
 use Rattle.bank_prog.proofs.weighing.defining_points.Given as goal

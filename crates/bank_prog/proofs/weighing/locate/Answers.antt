@@ -2,8 +2,8 @@ use Rattle.std.proofs.Common.{map, get_or, sym, ap, ◌∙◌}
 use Rattle.ssu_ir.specs.View.{labels_view}
 use Rattle.ssu_liveness.specs.inner.PointIds.{kind_of_point}
 use Rattle.ssu_liveness.proofs.Kept.{length-view}
-use Rattle.label_weights.specs.Weighted.{weight_of}
-use Rattle.bank_form.specs.inner.Form.{value_view}
+use Rattle.place_weights.specs.Weighted.{weight_of}
+use Rattle.bank_prog_form.specs.inner.Form.{value_view}
 use Rattle.bank_prog.specs.Weighted.{point_in}
 use Rattle.bank_prog.specs.inner.Located.{labels_behind}
 use Rattle.bank_prog.proofs.PointLabels.{point-weights}

@@ -1,6 +1,6 @@
 use Rattle.std.proofs.Common.{◌++◌, [], ◌∷◌, map, ap, ◌∙◌, arith}
 use Rattle.ssu_liveness.specs.inner.PointIds.{kind_of_point}
-use Rattle.label_weights.specs.Weighted.{weight_of}
+use Rattle.place_weights.specs.Weighted.{weight_of}
 use Rattle.bank_prog.specs.inner.Located.{labels_behind}
 use Rattle.bank_prog.proofs.PointLabels.{walk-more, walk-all}
 use Rattle.bank_prog.proofs.weighing.weights_of_points.Goals as goal

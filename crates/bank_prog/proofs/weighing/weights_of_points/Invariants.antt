@@ -1,7 +1,7 @@
 use Rattle.std.proofs.Common.{◌≡◌, ◌++◌, map, drop}
 use Rattle.ssu_ir.specs.declared.ssu.Ssu.{Ssu}
 use Rattle.ssu_liveness.specs.inner.PointIds.{kind_of_point}
-use Rattle.label_weights.specs.Weighted.{weight_of}
+use Rattle.place_weights.specs.Weighted.{weight_of}
 use Rattle.bank_prog.specs.inner.Located.{labels_behind}
 use Rattle.bank_prog.proofs.weighing.weights_of_points.Given as goal
 

@@ -1,7 +1,7 @@
 use Rattle.std.proofs.Common.{◌≡◌}
 use Rattle.std.proofs.lemmas.Result.{IfOk-weaker}
 use Rattle.flow_ir.specs.View.{tree_view}
-use Rattle.flow_ir.specs.Led.{GoesTo}
+use Rattle.flow_ir.specs.Reachable.{GoesTo}
 use Rattle.flow_ir.proofs.Noting.{noted-both, noted-weaker, pass-if, pass-first, pass-jump}
 use Rattle.flow_ir.proofs.prune.+note_all.Goals as goal
 

@@ -1,5 +1,5 @@
 use Rattle.flow_ir.specs.View.{tree_view}
-use Rattle.flow_ir.specs.Led.{GoesTo}
+use Rattle.flow_ir.specs.Reachable.{GoesTo}
 use Rattle.flow_ir.specs.inner.Pruned.{Noted}
 use Rattle.flow_ir.proofs.Noting.{Passing}
 use Rattle.flow_ir.proofs.prune.+note_all.Given as goal

@@ -2,7 +2,7 @@ use Rattle.std.proofs.Common.{◌≡◌, ◌∙◌, length, map, Some, slice_get
 use Rattle.std.proofs.lemmas.Option.{slice_get-map, slice_get_read}
 use Rattle.std.proofs.lemmas.Result.{IfOk-weaker}
 use Rattle.flow_ir.specs.View.{tree_view, label_view}
-use Rattle.flow_ir.specs.Led.{GoesTo}
+use Rattle.flow_ir.specs.Reachable.{GoesTo}
 use Rattle.flow_ir.proofs.Noting.{GoesFrom, noted-weaker}
 use Rattle.flow_ir.proofs.prune.visit.Goals as goal
 

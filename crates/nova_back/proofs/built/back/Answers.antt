@@ -6,8 +6,8 @@ use Rattle.ssu_ir.specs.Measures.{code_bound, peak}
 use Rattle.ssu_ir.specs.Single.{single}
 use Rattle.ssu_ir.specs.View.{labels_view}
 use Rattle.zo_model.specs.Program.{vector}
-use Rattle.bank_form.specs.Columns.{columns}
-use Rattle.bank_form.specs.Program.{rows, IsTooLarge}
+use Rattle.bank_prog_form.specs.Columns.{columns}
+use Rattle.bank_prog_form.specs.Program.{rows, IsTooLarge}
 use Rattle.nova_back.specs.Causes.{IsCodeBy, IsCodeOf, AreStartsOf, IsReportOn, IsCheapFor, report_cost}
 use Rattle.nova_back.specs.Placed.{IsPlacedBy}
 use Rattle.nova_back.specs.inner.Search.{IsUnfound}

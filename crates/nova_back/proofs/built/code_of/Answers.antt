@@ -3,7 +3,7 @@ use Rattle.std.proofs.Math.Nat.{le_trans}
 use Rattle.ssu_ir.specs.Entered.{entered}
 use Rattle.ssu_ir.specs.Meaning.{ssu_meaning, ssu_params}
 use Rattle.ssu_ir.specs.View.{labels_view}
-use Rattle.uc_executions.proofs.EntryLemmas.{visited-along}
+use Rattle.uc_isa_executions.proofs.EntryLemmas.{visited-along}
 use Rattle.ucode_emit.specs.Operations.{code_operations}
 use Rattle.ucode_emit.specs.SpillBase.{SpillsByBase}
 use Rattle.nova_back.specs.LeftOut.{LeavesOut}

@@ -5,9 +5,9 @@ use Rattle.ssu_ir.specs.Points.{points}
 use Rattle.ssu_ir.specs.View.{labels_view}
 use Rattle.ssu_liveness.specs.inner.PointIds.{kind_of_point}
 use Rattle.ssu_liveness.proofs.Kept.{if-ok-map}
-use Rattle.placement.specs.Uses.{values, uses}
-use Rattle.placement.specs.inner.UseViews.{use_view}
-use Rattle.bank_form.specs.inner.Form.{AreTables, value_view}
+use Rattle.place_plan.specs.Uses.{values, uses}
+use Rattle.place_plan.specs.inner.UseViews.{use_view}
+use Rattle.bank_prog_form.specs.inner.Form.{AreTables, value_view}
 use Rattle.nova_back.proofs.Counted.{size-parts}
 use Rattle.nova_back.proofs.memory.size_of.Goals as goal
 

@@ -3,9 +3,9 @@ use Rattle.std.proofs.lemmas.List.{length-map}
 use Rattle.std.specs.HashMap.{get}
 use Rattle.ssu_ir.specs.View.{labels_view}
 use Rattle.zo_model.specs.Program.{vector}
-use Rattle.bank_form.specs.Columns.{columns}
+use Rattle.bank_prog_form.specs.Columns.{columns}
 use Rattle.bank_prog.specs.Meaning.{on}
-use Rattle.bank_form.specs.Program.{same_column}
+use Rattle.bank_prog_form.specs.Program.{same_column}
 use Rattle.nova_back.specs.inner.Paired.{paired}
 use Rattle.nova_back.proofs.PairedAll.{paired-lines, vector-paired, paired-costs}
 use Rattle.nova_back.proofs.paired.paired.Goals as goal

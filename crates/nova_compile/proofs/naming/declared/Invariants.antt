@@ -1,6 +1,6 @@
 use Rattle.std.proofs.Common.{◌≡◌, ◌++◌, map, drop}
 use Rattle.nv_ast.specs.ProgramView.{decl_tree}
-use Rattle.line_text.specs.LineColumn.{line_at}
+use Rattle.nv_lines.specs.LineColumn.{line_at}
 use Rattle.nova_compile.specs.Naming.{exceptions_in}
 use Rattle.nova_compile.proofs.naming.declared.Given as goal
 

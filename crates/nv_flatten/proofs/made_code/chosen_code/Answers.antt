@@ -1,5 +1,5 @@
 use Rattle.std.proofs.Common.{◌∙◌, ap, option_map}
-use Rattle.flat_values.specs.inner.View.{view}
+use Rattle.nv_flatten_values.specs.inner.View.{view}
 use Rattle.nv_flatten.proofs.EndArms.{view-or}
 use Rattle.nv_flatten.proofs.FlatViews.{end-as}
 use Rattle.nv_flatten.proofs.FlatEnds.{choose-flat}

@@ -1,5 +1,5 @@
 use Rattle.std.proofs.Common.{true, false}
-use Rattle.flat_values.specs.inner.View.{view}
+use Rattle.nv_flatten_values.specs.inner.View.{view}
 use Rattle.nv_flatten.proofs.FlatEnds.{compare-flat}
 use Rattle.nv_flatten.proofs.made_code.compared.Goals.{then-swapped, else-swapped}
 use Rattle.nv_flatten.proofs.made_code.compared.Goals as goal

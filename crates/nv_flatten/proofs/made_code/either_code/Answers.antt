@@ -1,5 +1,5 @@
 use Rattle.std.proofs.Common.{option_map}
-use Rattle.flat_values.specs.inner.View.{view}
+use Rattle.nv_flatten_values.specs.inner.View.{view}
 use Rattle.nv_flatten.proofs.FlatEnds.{either-flat}
 use Rattle.nv_flatten.proofs.made_code.either_code.Goals as goal
 

@@ -1,5 +1,5 @@
 use Rattle.std.proofs.Common.{◌∙◌, ap, subst, option_map}
-use Rattle.flat_values.specs.inner.View.{view}
+use Rattle.nv_flatten_values.specs.inner.View.{view}
 use Rattle.nv_flatten.specs.inner.Handled.{IsHandled}
 use Rattle.nv_flatten.proofs.EndArms.{view-or}
 use Rattle.nv_flatten.proofs.made_code.handled.Goals as goal

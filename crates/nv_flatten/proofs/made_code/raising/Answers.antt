@@ -1,6 +1,6 @@
 use Rattle.std.proofs.Common.{◌∙◌, ap}
-use Rattle.flat_values.specs.inner.Symbols.{all_operands}
-use Rattle.flat_values.specs.inner.View.{list_symbols}
+use Rattle.nv_flatten_values.specs.inner.Symbols.{all_operands}
+use Rattle.nv_flatten_values.specs.inner.View.{list_symbols}
 use Rattle.nv_flatten.proofs.FlatEnds.{raise-flat}
 use Rattle.nv_flatten.proofs.made_code.raising.Goals as goal
 

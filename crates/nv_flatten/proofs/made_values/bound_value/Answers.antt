@@ -1,9 +1,9 @@
 use Rattle.std.proofs.Common.{◌∙◌, ◌++◌, [], ◌∷◌, refl, ap, option_map}
 use Rattle.nv_ast.specs.Types.{words}
 use Rattle.flat_ir.specs.declared.spine.Step.TheVariants.{Bind}
-use Rattle.flat_values.specs.inner.Code.{form_or_unit}
-use Rattle.flat_values.specs.inner.Symbols.{numbers_from}
-use Rattle.flat_values.specs.inner.View.{view}
+use Rattle.nv_flatten_values.specs.inner.Code.{form_or_unit}
+use Rattle.nv_flatten_values.specs.inner.Symbols.{numbers_from}
+use Rattle.nv_flatten_values.specs.inner.View.{view}
 use Rattle.nv_flatten.proofs.FlatViews.{value-as}
 use Rattle.nv_flatten.proofs.FlatValues.{named-flat}
 use Rattle.nv_flatten.proofs.made_values.bound_value.Goals as goal

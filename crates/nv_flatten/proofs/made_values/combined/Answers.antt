@@ -2,8 +2,8 @@ use Rattle.std.proofs.Common.{◌∙◌, ◌++◌, [], ◌∷◌, ap}
 use Rattle.nv_base.specs.declared.term.Atom.TheVariants.{Var}
 use Rattle.nv_base.specs.declared.term.Primitive.TheVariants.{Bin as BinOf}
 use Rattle.flat_ir.specs.declared.spine.Step.TheVariants.{Let}
-use Rattle.flat_values.specs.inner.Symbols.{Word, word_operand}
-use Rattle.flat_values.specs.inner.View.{view}
+use Rattle.nv_flatten_values.specs.inner.Symbols.{Word, word_operand}
+use Rattle.nv_flatten_values.specs.inner.View.{view}
 use Rattle.nv_flatten.proofs.FlatViews.{value-as}
 use Rattle.nv_flatten.proofs.FlatValues.{combine-flat}
 use Rattle.nv_flatten.proofs.made_values.combined.Goals as goal

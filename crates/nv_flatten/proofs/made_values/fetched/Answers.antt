@@ -1,7 +1,7 @@
 use Rattle.std.proofs.Common.{◌∙◌, ◌++◌, [], ◌∷◌, refl, ap}
 use Rattle.flat_ir.specs.declared.spine.Step.TheVariants.{Fetch}
-use Rattle.flat_values.specs.inner.Code.{variables}
-use Rattle.flat_values.specs.inner.Symbols.{words_symbol, numbers_from}
+use Rattle.nv_flatten_values.specs.inner.Code.{variables}
+use Rattle.nv_flatten_values.specs.inner.Symbols.{words_symbol, numbers_from}
 use Rattle.nv_flatten.proofs.FlatViews.{value-as}
 use Rattle.nv_flatten.proofs.FlatValues.{fetch-flat}
 use Rattle.nv_flatten.proofs.made_values.fetched.Goals as goal

@@ -3,7 +3,7 @@ use Rattle.nv_base.specs.declared.term.Atom.TheVariants.{Var}
 use Rattle.nv_base.specs.declared.term.Una.TheVariants as una
 use Rattle.nv_base.specs.declared.term.Primitive.TheVariants.{Una as UnaOf}
 use Rattle.flat_ir.specs.declared.spine.Step.TheVariants.{Let}
-use Rattle.flat_values.specs.inner.Symbols.{Word}
+use Rattle.nv_flatten_values.specs.inner.Symbols.{Word}
 use Rattle.nv_flatten.proofs.FlatViews.{value-as}
 use Rattle.nv_flatten.proofs.FlatValues.{invert-flat}
 use Rattle.nv_flatten.proofs.made_values.inverted.Goals as goal

@@ -3,7 +3,7 @@ use Rattle.nv_base.specs.declared.term.Atom.TheVariants.{Var, Lit}
 use Rattle.nv_base.specs.declared.term.Bin.TheVariants as bin
 use Rattle.nv_base.specs.declared.term.Primitive.TheVariants.{Bin as BinOf}
 use Rattle.flat_ir.specs.declared.spine.Step.TheVariants.{Let}
-use Rattle.flat_values.specs.inner.Symbols.{Truth}
+use Rattle.nv_flatten_values.specs.inner.Symbols.{Truth}
 use Rattle.nv_flatten.proofs.FlatViews.{value-as}
 use Rattle.nv_flatten.proofs.FlatValues.{negate-flat}
 use Rattle.nv_flatten.proofs.made_values.negated.Goals as goal

@@ -1,8 +1,8 @@
 use Rattle.std.proofs.Common.{◌∙◌, sym, ap, option_map}
-use Rattle.flat_values.specs.inner.Code.{form_or_unit}
-use Rattle.flat_values.specs.inner.Symbols.{Tuple, fresh}
-use Rattle.flat_values.specs.inner.View.{view, list_symbols}
-use Rattle.flat_values.proofs.Rows.{tuple_view}
+use Rattle.nv_flatten_values.specs.inner.Code.{form_or_unit}
+use Rattle.nv_flatten_values.specs.inner.Symbols.{Tuple, fresh}
+use Rattle.nv_flatten_values.specs.inner.View.{view, list_symbols}
+use Rattle.nv_flatten_values.proofs.Rows.{tuple_view}
 use Rattle.nv_flatten.proofs.made_values.renewed_form.Goals as goal
 
 pub returns-in-None-clause-symbol : goal.returns-in-None-clause-symbol

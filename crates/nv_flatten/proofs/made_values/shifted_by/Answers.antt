@@ -1,6 +1,6 @@
 use Rattle.std.proofs.Common.{◌∙◌, ◌++◌, [], ◌∷◌, ap}
 use Rattle.flat_ir.specs.declared.spine.Step.TheVariants.{Let}
-use Rattle.flat_values.specs.inner.Code.{shift_of}
+use Rattle.nv_flatten_values.specs.inner.Code.{shift_of}
 use Rattle.nv_flatten.proofs.FlatValues.{shift-flat}
 use Rattle.nv_flatten.proofs.made_values.shifted_by.Goals as goal
 

@@ -1,9 +1,9 @@
 use Rattle.std.proofs.Common.{◌≡◌, ◌+◌, ◌≤◌, ◌++◌, [], drop}
 use Rattle.nv_ast.specs.Types.{named_types_of, total_named_words}
 use Rattle.nv_ast.specs.TypeView.{list_named_types}
-use Rattle.flat_values.specs.inner.Symbols.{named_fresh, numbers_from, params_bound}
-use Rattle.flat_values.specs.inner.View.{scope_of}
-use Rattle.flat_declarations.specs.inner.WholeView.{whole_in}
+use Rattle.nv_flatten_values.specs.inner.Symbols.{named_fresh, numbers_from, params_bound}
+use Rattle.nv_flatten_values.specs.inner.View.{scope_of}
+use Rattle.nv_flatten_declarations.specs.inner.WholeView.{whole_in}
 use Rattle.nv_flatten.proofs.program.entry.Given as goal
 
 abbrev pub invariant-loop-param : goal.invariant-loop-param

@@ -2,11 +2,11 @@ use Rattle.std.proofs.Common.{◌≡◌, ◌∙◌, ap, sym, refl, subst, IfOk}
 use Rattle.nv_ast.specs.Types.{type_of, types_of, named_types_of}
 use Rattle.nv_ast.specs.TypeView.{type_tree, list_types, list_named_types}
 use Rattle.nv_ast.proofs.Reading.{tuple_type_is, record_type_is}
-use Rattle.nv_values.specs.Values.{Tuple, Record}
+use Rattle.nv_meaning_values.specs.Values.{Tuple, Record}
 use Rattle.nv_meaning.specs.inner.Blanks.{blank, blanks, named_blanks}
-use Rattle.nv_values.specs.inner.TableView.{declared_in}
-use Rattle.nv_values.specs.inner.View.{view}
-use Rattle.nv_values.proofs.Rows.{tuple_view, record_view}
+use Rattle.nv_meaning_values.specs.inner.TableView.{declared_in}
+use Rattle.nv_meaning_values.specs.inner.View.{view}
+use Rattle.nv_meaning_values.proofs.Rows.{tuple_view, record_view}
 use Rattle.nv_meaning.proofs.Parameters.{blanks-listed, fields-listed}
 use Rattle.nv_meaning.proofs.arguments.+blank.Goals as goal
 

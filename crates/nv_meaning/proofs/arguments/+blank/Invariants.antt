@@ -2,8 +2,8 @@ use Rattle.std.proofs.Common.{◌≡◌, take}
 use Rattle.nv_ast.specs.Types.{types_of, named_types_of}
 use Rattle.nv_ast.specs.TypeView.{list_types, list_named_types}
 use Rattle.nv_meaning.specs.inner.Blanks.{blanks, named_blanks}
-use Rattle.nv_values.specs.inner.TableView.{declared_in}
-use Rattle.nv_values.specs.inner.View.{list_values, list_named_values}
+use Rattle.nv_meaning_values.specs.inner.TableView.{declared_in}
+use Rattle.nv_meaning_values.specs.inner.View.{list_values, list_named_values}
 use Rattle.nv_meaning.proofs.arguments.+blank.Given as goal
 
 abbrev pub invariant-blank_parts-loop-ty : goal.invariant-blank_parts-loop-ty

@@ -1,10 +1,10 @@
 use Rattle.std.proofs.Common.{◌∙◌, ◌+◌, ◌==◌, ap, sym, refl, subst, not, ◌≤◌, [], length, drop, min, arith}
 use Rattle.std.proofs.lemmas.List.{take_all}
 use Rattle.std.below.core.specs.declared.int.usize.TheConstants.{MAX}
-use Rattle.nv_values.specs.Values.{Word, Truth, Tuple, Record, words_of, all_words, all_named_words}
+use Rattle.nv_meaning_values.specs.Values.{Word, Truth, Tuple, Record, words_of, all_words, all_named_words}
 use Rattle.nv_meaning.specs.inner.Blanks.{filled as filling, all_filled, fields_filled}
-use Rattle.nv_values.specs.inner.View.{view, list_values, list_named_values}
-use Rattle.nv_values.proofs.Rows.{tuple_view, record_view}
+use Rattle.nv_meaning_values.specs.inner.View.{view, list_values, list_named_values}
+use Rattle.nv_meaning_values.proofs.Rows.{tuple_view, record_view}
 use Rattle.nv_meaning.proofs.Parameters.{Filled, FilledFields, filled-none, fields-none, filled-turn, fields-turn}
 use Rattle.nv_meaning.proofs.arguments.+filled.Goals as goal
 

@@ -3,10 +3,10 @@ use Rattle.std.below.core.specs.declared.int.usize.TheConstants.{MAX}
 use Rattle.std.proofs.lemmas.List.{drop_all}
 use Rattle.nv_ast.specs.Types.{named_types_of}
 use Rattle.nv_ast.specs.TypeView.{list_named_types}
-use Rattle.nv_values.specs.Values.{named_values_from}
+use Rattle.nv_meaning_values.specs.Values.{named_values_from}
 use Rattle.nv_meaning.specs.Meaning.{named_scope}
-use Rattle.nv_values.specs.inner.TableView.{declared_in}
-use Rattle.nv_values.specs.inner.View.{scope_of}
+use Rattle.nv_meaning_values.specs.inner.TableView.{declared_in}
+use Rattle.nv_meaning_values.specs.inner.View.{scope_of}
 use Rattle.nv_meaning.proofs.Parameters.{arguments-turn}
 use Rattle.nv_meaning.proofs.arguments.add_arguments.Goals as goal
 

@@ -1,10 +1,10 @@
 use Rattle.std.proofs.Common.{◌≡◌, [], drop}
 use Rattle.nv_ast.specs.Types.{named_types_of}
 use Rattle.nv_ast.specs.TypeView.{list_named_types}
-use Rattle.nv_values.specs.Values.{named_values_from}
+use Rattle.nv_meaning_values.specs.Values.{named_values_from}
 use Rattle.nv_meaning.specs.Meaning.{named_scope}
-use Rattle.nv_values.specs.inner.TableView.{declared_in}
-use Rattle.nv_values.specs.inner.View.{scope_of}
+use Rattle.nv_meaning_values.specs.inner.TableView.{declared_in}
+use Rattle.nv_meaning_values.specs.inner.View.{scope_of}
 use Rattle.nv_meaning.proofs.arguments.add_arguments.Given as goal
 
 abbrev pub invariant-loop-param : goal.invariant-loop-param

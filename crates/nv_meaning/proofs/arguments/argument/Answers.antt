@@ -1,8 +1,8 @@
 use Rattle.std.proofs.Common.{◌≡◌, ◌+◌, min, subst, drop, length, IfOk}
 use Rattle.std.below.core.specs.declared.int.usize.TheConstants.{MAX}
-use Rattle.nv_values.specs.Values.{words_of}
+use Rattle.nv_meaning_values.specs.Values.{words_of}
 use Rattle.nv_meaning.specs.inner.Blanks.{filled}
-use Rattle.nv_values.specs.inner.View.{view}
+use Rattle.nv_meaning_values.specs.inner.View.{view}
 use Rattle.nv_meaning.proofs.arguments.argument.Goals as goal
 
 pub returns-clause-value : goal.returns-clause-value

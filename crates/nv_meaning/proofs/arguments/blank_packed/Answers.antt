@@ -3,8 +3,8 @@ use Rattle.nv_ast.specs.Tree.{NamedLayout}
 use Rattle.nv_ast.specs.Outline.{outline, size}
 use Rattle.nv_ast.specs.Types.{words_ty}
 use Rattle.nv_meaning.specs.inner.Blanks.{blank}
-use Rattle.nv_values.specs.inner.TableView.{declared_in}
-use Rattle.nv_values.specs.inner.View.{view}
+use Rattle.nv_meaning_values.specs.inner.TableView.{declared_in}
+use Rattle.nv_meaning_values.specs.inner.View.{view}
 use Rattle.nv_meaning.proofs.arguments.blank_packed.Goals as goal
 
 pub returns : goal.returns

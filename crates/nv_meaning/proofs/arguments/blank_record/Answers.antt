@@ -3,13 +3,13 @@ use Rattle.nv_ast.specs.Tree.{NamedLayout}
 use Rattle.nv_ast.specs.LayoutView.{layout_tree}
 use Rattle.nv_ast.specs.Outline.{outline}
 use Rattle.nv_ast.specs.Types.{unpacked_ty}
-use Rattle.nv_values.specs.Values.{Record}
-use Rattle.nv_values.specs.Packing.{value_at}
+use Rattle.nv_meaning_values.specs.Values.{Record}
+use Rattle.nv_meaning_values.specs.Packing.{value_at}
 use Rattle.nv_meaning.specs.inner.Blanks.{blank}
-use Rattle.nv_values.specs.inner.TableView.{declared_in}
-use Rattle.nv_values.specs.inner.View.{view, list_named_values}
-use Rattle.nv_values.proofs.NameIndices.{all-laid}
-use Rattle.nv_values.proofs.Rows.{record_view}
+use Rattle.nv_meaning_values.specs.inner.TableView.{declared_in}
+use Rattle.nv_meaning_values.specs.inner.View.{view, list_named_values}
+use Rattle.nv_meaning_values.proofs.NameIndices.{all-laid}
+use Rattle.nv_meaning_values.proofs.Rows.{record_view}
 use Rattle.nv_meaning.proofs.Filling.{blank-record, packed-none}
 use Rattle.nv_meaning.proofs.arguments.blank_record.Goals as goal
 

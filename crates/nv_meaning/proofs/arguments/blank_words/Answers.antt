@@ -1,8 +1,8 @@
 use Rattle.std.proofs.Common.{◌≡◌, ◌∙◌, ◌+◌, ◌≤◌, ap, sym, refl, arith}
 use Rattle.nv_ast.specs.Types.{words_ty, word_parts}
-use Rattle.nv_values.specs.Values.{Tuple}
+use Rattle.nv_meaning_values.specs.Values.{Tuple}
 use Rattle.nv_meaning.specs.inner.Blanks.{blank, blanks}
-use Rattle.nv_values.proofs.Rows.{tuple_view}
+use Rattle.nv_meaning_values.proofs.Rows.{tuple_view}
 use Rattle.nv_meaning.proofs.Parameters.{zeros-again, words-tuple}
 use Rattle.nv_meaning.proofs.arguments.blank_words.Goals as goal
 

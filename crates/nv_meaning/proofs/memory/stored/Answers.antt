@@ -1,8 +1,8 @@
 use Rattle.std.proofs.Common.{◌∙◌, subst}
 use Rattle.std.proofs.lemmas.Result.{err_from_is_err_and}
-use Rattle.nv_values.specs.Running.{store}
-use Rattle.nv_values.specs.Values.{words_of}
-use Rattle.nv_values.specs.inner.View.{view}
+use Rattle.nv_meaning_values.specs.Running.{store}
+use Rattle.nv_meaning_values.specs.Values.{words_of}
+use Rattle.nv_meaning_values.specs.inner.View.{view}
 use Rattle.nv_meaning.specs.inner.Ran.{at, RanScope}
 use Rattle.nv_meaning.proofs.Access.{store-short}
 use Rattle.nv_meaning.proofs.memory.stored.Goals as goal

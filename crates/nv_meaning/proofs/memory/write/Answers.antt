@@ -1,8 +1,8 @@
 use Rattle.std.proofs.Common.{◌≡◌, ap, sym, subst, Some, Err}
 use Rattle.std.proofs.lemmas.Result.{err_from_is_err_and}
 use Rattle.nv_base.specs.Memories.{stored}
-use Rattle.nv_values.specs.Running.{store}
-use Rattle.nv_values.specs.declared.stop.Interruption.TheVariants.{NoMemory}
+use Rattle.nv_meaning_values.specs.Running.{store}
+use Rattle.nv_meaning_values.specs.declared.stop.Interruption.TheVariants.{NoMemory}
 use Rattle.nv_meaning.specs.inner.Ran.{at, RanScope}
 use Rattle.nv_meaning.proofs.Access.{store-short, store-written}
 use Rattle.nv_meaning.proofs.memory.write.Goals as goal

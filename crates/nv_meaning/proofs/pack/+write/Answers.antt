@@ -5,12 +5,12 @@ use Rattle.nv_ast.specs.LayoutView.{layout_tree, field_tree, list_fields, list_l
 use Rattle.nv_ast.specs.Outline.{PartsOutline, JoinedOutline, OverlayOutline, outline, outlines, field_outline, field_outlines, size, outline_height}
 use Rattle.nv_ast.proofs.Reading.{parts_is, joined_is, overlay_is}
 use Rattle.nv_layout.proofs.BitLists.{length-packed}
-use Rattle.nv_values.specs.Values.{field_named}
-use Rattle.nv_values.specs.Packing.{bits_of, parts_bits, chosen_bits, joined_bits}
+use Rattle.nv_meaning_values.specs.Values.{field_named}
+use Rattle.nv_meaning_values.specs.Packing.{bits_of, parts_bits, chosen_bits, joined_bits}
 use Rattle.nv_meaning.specs.inner.Blanks.{IsBlankFrom}
-use Rattle.nv_values.specs.inner.TableView.{declared_in}
-use Rattle.nv_values.specs.inner.View.{view, list_named_values}
-use Rattle.nv_values.proofs.Unpacking.{alias_rank, alias-low, alias-none, total_named_within, longest_within, highest_named_within, total_within, highest_within}
+use Rattle.nv_meaning_values.specs.inner.TableView.{declared_in}
+use Rattle.nv_meaning_values.specs.inner.View.{view, list_named_values}
+use Rattle.nv_meaning_values.proofs.Unpacking.{alias_rank, alias-low, alias-none, total_named_within, longest_within, highest_named_within, total_within, highest_within}
 use Rattle.nv_meaning.proofs.Packed.{replaced-nothing, replaced-zeros}
 use Rattle.nv_meaning.proofs.Writing.{parts_bits-more, joined_bits-more, chosen-turn, parts-within, joined-within, written-more, behind-more, blank-after}
 use Rattle.nv_meaning.proofs.Bindings.{if-true, if-false}

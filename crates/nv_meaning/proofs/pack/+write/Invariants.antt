@@ -2,10 +2,10 @@ use Rattle.std.proofs.Common.{◌≡◌, ◌+◌, ◌*◌, take, drop, length}
 use Rattle.nv_ast.specs.Bits.{packed, replaced}
 use Rattle.nv_ast.specs.LayoutView.{layout_tree, field_tree, list_fields, list_layouts}
 use Rattle.nv_ast.specs.Outline.{outline, outlines, field_outline, field_outlines, outline_height, highest_outline, highest_named_outline}
-use Rattle.nv_values.specs.Packing.{parts_bits, joined_bits, chosen_bits}
-use Rattle.nv_values.specs.inner.TableView.{declared_in}
-use Rattle.nv_values.specs.inner.View.{view, list_named_values}
-use Rattle.nv_values.proofs.Unpacking.{alias_rank}
+use Rattle.nv_meaning_values.specs.Packing.{parts_bits, joined_bits, chosen_bits}
+use Rattle.nv_meaning_values.specs.inner.TableView.{declared_in}
+use Rattle.nv_meaning_values.specs.inner.View.{view, list_named_values}
+use Rattle.nv_meaning_values.proofs.Unpacking.{alias_rank}
 use Rattle.nv_meaning.proofs.pack.+write.Given as goal
 
 abbrev pub invariant-write_joined-loop-l : goal.invariant-write_joined-loop-l

@@ -2,10 +2,10 @@ use Rattle.std.proofs.Common.{◌≡◌, ◌∙◌, ap, sym, subst, length, min,
 use Rattle.std.below.core.specs.declared.int.u64.TheConstants.{MAX}
 use Rattle.nv_ast.specs.Tree.{NamedLayout}
 use Rattle.nv_ast.specs.Outline.{outline, size}
-use Rattle.nv_values.specs.Values.{words_value}
-use Rattle.nv_values.specs.Packing.{packed_value}
-use Rattle.nv_values.specs.inner.View.{view}
-use Rattle.nv_values.proofs.NameIndices.{all-laid}
+use Rattle.nv_meaning_values.specs.Values.{words_value}
+use Rattle.nv_meaning_values.specs.Packing.{packed_value}
+use Rattle.nv_meaning_values.specs.inner.View.{view}
+use Rattle.nv_meaning_values.proofs.NameIndices.{all-laid}
 use Rattle.nv_meaning.proofs.pack.packed.Goals as goal
 
 pub packed_words-requires : goal.packed_words-requires

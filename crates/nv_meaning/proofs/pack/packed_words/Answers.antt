@@ -3,9 +3,9 @@ use Rattle.std.proofs.lemmas.List.{length-replicate}
 use Rattle.nv_ast.specs.LayoutView.{layout_tree}
 use Rattle.nv_ast.specs.Outline.{outline}
 use Rattle.nv_ast.specs.Types.{packed_words}
-use Rattle.nv_values.specs.Packing.{bits_of, words_of_bits}
-use Rattle.nv_values.specs.inner.TableView.{declared_in}
-use Rattle.nv_values.specs.inner.View.{view}
+use Rattle.nv_meaning_values.specs.Packing.{bits_of, words_of_bits}
+use Rattle.nv_meaning_values.specs.inner.TableView.{declared_in}
+use Rattle.nv_meaning_values.specs.inner.View.{view}
 use Rattle.nv_meaning.proofs.Writing.{length-words, back-all}
 use Rattle.nv_meaning.proofs.pack.packed_words.Goals as goal
 

@@ -1,9 +1,9 @@
 use Rattle.std.proofs.Common.{length, take, arith}
 use Rattle.nv_ast.specs.LayoutView.{layout_tree}
 use Rattle.nv_ast.specs.Outline.{outline}
-use Rattle.nv_values.specs.Packing.{bits_of}
-use Rattle.nv_values.specs.inner.TableView.{declared_in}
-use Rattle.nv_values.specs.inner.View.{view}
+use Rattle.nv_meaning_values.specs.Packing.{bits_of}
+use Rattle.nv_meaning_values.specs.inner.TableView.{declared_in}
+use Rattle.nv_meaning_values.specs.inner.View.{view}
 use Rattle.nv_meaning.proofs.Writing.{bits-within, blank-zeros, words-written}
 use Rattle.nv_meaning.proofs.pack.write_all.Goals as goal
 

@@ -1,6 +1,6 @@
 use Rattle.std.proofs.Common.{◌≡◌, ◌++◌, take}
-use Rattle.nv_values.specs.Values.{all_words, all_named_words}
-use Rattle.nv_values.specs.inner.View.{list_values, list_named_values}
+use Rattle.nv_meaning_values.specs.Values.{all_words, all_named_words}
+use Rattle.nv_meaning_values.specs.inner.View.{list_values, list_named_values}
 use Rattle.nv_meaning.proofs.parts.+add_words.Given as goal
 
 abbrev pub invariant-add_all_words-loop-v : goal.invariant-add_all_words-loop-v

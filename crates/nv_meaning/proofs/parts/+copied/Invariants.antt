@@ -1,5 +1,5 @@
 use Rattle.std.proofs.Common.{◌≡◌, take}
-use Rattle.nv_values.specs.inner.View.{list_values, list_named_values}
+use Rattle.nv_meaning_values.specs.inner.View.{list_values, list_named_values}
 use Rattle.nv_meaning.proofs.parts.+copied.Given as goal
 
 abbrev pub invariant-copied_all-loop-v : goal.invariant-copied_all-loop-v

@@ -1,6 +1,6 @@
 use Rattle.std.proofs.Common.{◌≡◌, drop}
-use Rattle.nv_values.specs.Values.{field_named, has_field}
-use Rattle.nv_values.specs.inner.View.{list_named_values}
+use Rattle.nv_meaning_values.specs.Values.{field_named, has_field}
+use Rattle.nv_meaning_values.specs.inner.View.{list_named_values}
 use Rattle.nv_meaning.proofs.parts.find.Given as goal
 
 abbrev pub invariant-loop-i : goal.invariant-loop-i

@@ -1,11 +1,11 @@
 use Rattle.std.proofs.Common.{◌∙◌, ◌∷◌, [], ap, sym, map, get_or, Some}
 use Rattle.nv_ast.specs.ProgramView.{decl_tree, fun_tree}
 use Rattle.nv_ast.specs.TypedView.{typed_program}
-use Rattle.nv_values.specs.Chains.{trail_of}
-use Rattle.nv_values.specs.Callers.{calls_of}
-use Rattle.nv_values.specs.Running.{closed}
+use Rattle.nv_meaning_values.specs.Chains.{trail_of}
+use Rattle.nv_meaning_values.specs.Callers.{calls_of}
+use Rattle.nv_meaning_values.specs.Running.{closed}
 use Rattle.nv_meaning.specs.Meaning.{declared, groups_from, in_main, run_main, traced}
-use Rattle.nv_values.specs.inner.TableView.{declared_in}
+use Rattle.nv_meaning_values.specs.inner.TableView.{declared_in}
 use Rattle.nv_meaning.proofs.Whole.{executes-alike, main-alone, start, traced-is}
 use Rattle.nv_meaning.proofs.program.run_both.Goals as goal
 

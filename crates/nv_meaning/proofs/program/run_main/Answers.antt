@@ -3,11 +3,11 @@ use Rattle.std.proofs.lemmas.Result.{err_from_is_err_and}
 use Rattle.nv_ast.specs.ProgramView.{fun_tree}
 use Rattle.nv_ast.specs.Types.{named_types_of}
 use Rattle.nv_ast.specs.TypeView.{list_named_types}
-use Rattle.nv_values.specs.Values.{named_values_from}
-use Rattle.nv_values.specs.Running.{Running, closed}
+use Rattle.nv_meaning_values.specs.Values.{named_values_from}
+use Rattle.nv_meaning_values.specs.Running.{Running, closed}
 use Rattle.nv_meaning.specs.Meaning.{eval, run_main as main_run, calls_within, named_scope}
-use Rattle.nv_values.specs.inner.TableView.{declared_in}
-use Rattle.nv_values.specs.inner.View.{scope_of}
+use Rattle.nv_meaning_values.specs.inner.TableView.{declared_in}
+use Rattle.nv_meaning_values.specs.inner.View.{scope_of}
 use Rattle.nv_meaning.specs.inner.Ran.{at}
 use Rattle.nv_meaning.proofs.Whole.{executes-nothing, executes-left, main-executes}
 use Rattle.nv_meaning.proofs.program.run_main.Goals as goal

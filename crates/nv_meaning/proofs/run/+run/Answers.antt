@@ -7,16 +7,16 @@ use Rattle.nv_ast.specs.PatternView.{pattern_tree, list_patterns}
 use Rattle.nv_ast.specs.TypeView.{list_named_types}
 use Rattle.nv_ast.specs.ProgramView.{fun_tree}
 use Rattle.nv_ast.specs.Tree.{NumberTree, TruthTree, VarTree, ParenTree, TupleTree, FieldsTree, BinaryTree, CallTree, RaiseTree, IfTree, TryTree, BlockTree}
-use Rattle.nv_values.specs.Values.{Word, Truth, all_matched, matched, word_of, words_of}
-use Rattle.nv_values.specs.Running.{Gives, exception_number, store, then_stated}
+use Rattle.nv_meaning_values.specs.Values.{Word, Truth, all_matched, matched, word_of, words_of}
+use Rattle.nv_meaning_values.specs.Running.{Gives, exception_number, store, then_stated}
 use Rattle.nv_meaning.specs.Meaning.{eval as evaluated, run_one, entered}
-use Rattle.nv_values.specs.inner.TableView.{declared_in}
-use Rattle.nv_values.specs.inner.View.{view, list_values, scope_of}
+use Rattle.nv_meaning_values.specs.inner.TableView.{declared_in}
+use Rattle.nv_meaning_values.specs.inner.View.{view, list_values, scope_of}
 use Rattle.nv_meaning.specs.inner.Ran.{at, IsStep, RanScope, RanCall}
-use Rattle.nv_values.specs.Callers.{IsMark, LieAbove}
-use Rattle.nv_values.specs.declared.value.Value as code
+use Rattle.nv_meaning_values.specs.Callers.{IsMark, LieAbove}
+use Rattle.nv_meaning_values.specs.declared.value.Value as code
 use Rattle.nv_meaning.specs.declared.step.Step.TheVariants.{Done, Again}
-use Rattle.nv_values.specs.declared.stop.Interruption.TheVariants.{NoMemory, Raised, Fault, Going}
+use Rattle.nv_meaning_values.specs.declared.stop.Interruption.TheVariants.{NoMemory, Raised, Fault, Going}
 use Rattle.nv_meaning.proofs.Bindings.{extends-more}
 use Rattle.nv_meaning.proofs.Moments.{ran-here}
 use Rattle.nv_meaning.proofs.Arms.{Front, FrontNamed, in-scope, in-scope_value, of-tree, of-step, of-stop, settled-again, front-none, front-more, front-all, front-stop, front-short, named-none, named-more, named-all, named-stop, named-short, led-none, led-more, led-all, led-stop, let-stop, let-short, let-done, store-stop, store-stop_value, store-done, tuple-stop, tuple-done, again-stop, again-done, raise-stop, raise-done, record-stop, record-done}

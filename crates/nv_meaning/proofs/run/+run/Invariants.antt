@@ -1,7 +1,7 @@
 use Rattle.std.proofs.Common.{◌≡◌, ◌+◌, ◌*◌, ◌≤◌, [], drop}
 use Rattle.nv_ast.specs.ExprView.{tree_of, list_trees, list_named_trees, list_statements, statement_tree}
-use Rattle.nv_values.specs.inner.TableView.{declared_in}
-use Rattle.nv_values.specs.inner.View.{list_values, scope_of, Extends}
+use Rattle.nv_meaning_values.specs.inner.TableView.{declared_in}
+use Rattle.nv_meaning_values.specs.inner.View.{list_values, scope_of, Extends}
 use Rattle.nv_meaning.specs.inner.Ran.{at}
 use Rattle.nv_meaning.specs.inner.Weight.{weight, weight_all, weight_named, weight_statement, weight_statements, span}
 use Rattle.nv_meaning.proofs.Arms.{Front, FrontNamed, Led}

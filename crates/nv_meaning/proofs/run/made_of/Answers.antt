@@ -1,7 +1,7 @@
 use Rattle.std.proofs.Common.{inl, inr}
 use Rattle.std.proofs.lemmas.Result.{err_from_is_err_and}
-use Rattle.nv_values.specs.inner.TableView.{declared_in}
-use Rattle.nv_values.specs.inner.View.{view}
+use Rattle.nv_meaning_values.specs.inner.TableView.{declared_in}
+use Rattle.nv_meaning_values.specs.inner.View.{view}
 use Rattle.nv_meaning.proofs.Operands.{made-dot, made-invert, made-negate, made-shift, made-unpack, made-pack, made-fetch, made-short, plain-number, plain-truth, plain-variable, plain-paren, plain-tuple, plain-fields, plain-binary, plain-call, plain-raise, plain-if, plain-try, plain-block}
 use Rattle.nv_meaning.proofs.run.made_of.Goals as goal
 

@@ -1,5 +1,5 @@
 use Rattle.std.proofs.Common.{◌≡◌, sym, refl, subst, [], OnOk}
-use Rattle.nv_values.specs.inner.View.{scope_of}
+use Rattle.nv_meaning_values.specs.inner.View.{scope_of}
 use Rattle.nv_meaning.proofs.Bindings.{name-bound, tuple-bound, extends-more}
 use Rattle.nv_meaning.proofs.scope.+bind.Goals as goal
 

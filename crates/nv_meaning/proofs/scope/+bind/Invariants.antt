@@ -1,7 +1,7 @@
 use Rattle.std.proofs.Common.{◌≡◌, drop, []}
 use Rattle.nv_ast.specs.PatternView.{list_patterns}
-use Rattle.nv_values.specs.Values.{all_matched}
-use Rattle.nv_values.specs.inner.View.{list_values, scope_of, Extends}
+use Rattle.nv_meaning_values.specs.Values.{all_matched}
+use Rattle.nv_meaning_values.specs.inner.View.{list_values, scope_of, Extends}
 use Rattle.nv_meaning.proofs.scope.+bind.Given as goal
 
 abbrev pub invariant-bind_all-loop-p : goal.invariant-bind_all-loop-p

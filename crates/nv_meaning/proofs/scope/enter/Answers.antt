@@ -1,5 +1,5 @@
 use Rattle.std.proofs.Common.{◌∙◌, ◌+◌, [], drop, arith}
-use Rattle.nv_values.specs.inner.View.{scope_of}
+use Rattle.nv_meaning_values.specs.inner.View.{scope_of}
 use Rattle.nv_meaning.proofs.Bindings.{entered-step, pushed-name}
 use Rattle.nv_meaning.proofs.scope.enter.Goals as goal
 use Rattle.nv_ast.proofs.Items.{next_item}

@@ -1,7 +1,7 @@
 use Rattle.std.proofs.Common.{◌≡◌, drop, []}
 use Rattle.nv_ast.specs.TypeView.{list_named_types}
 use Rattle.nv_meaning.specs.Meaning.{entered}
-use Rattle.nv_values.specs.inner.View.{list_values, scope_of}
+use Rattle.nv_meaning_values.specs.inner.View.{list_values, scope_of}
 use Rattle.nv_meaning.proofs.scope.enter.Given as goal
 
 abbrev pub invariant-loop-param : goal.invariant-loop-param

@@ -1,5 +1,5 @@
 use Rattle.std.proofs.Common.{◌≡◌, sym, ◌∙◌, arith, IfOk, subst}
-use Rattle.nv_values.specs.inner.View.{view}
+use Rattle.nv_meaning_values.specs.inner.View.{view}
 use Rattle.nv_meaning.proofs.Bindings.{variable-newest, if-true, if-false}
 use Rattle.nv_meaning.proofs.scope.variable.Goals as goal
 

@@ -1,6 +1,6 @@
 use Rattle.std.proofs.Common.{◌≡◌, ◌≤◌, length, take, []}
-use Rattle.nv_values.specs.Values.{variable_in}
-use Rattle.nv_values.specs.inner.View.{scope_of}
+use Rattle.nv_meaning_values.specs.Values.{variable_in}
+use Rattle.nv_meaning_values.specs.inner.View.{scope_of}
 use Rattle.nv_meaning.proofs.scope.variable.Given as goal
 
 abbrev pub invariant-loop-i : goal.invariant-loop-i

@@ -6,14 +6,14 @@ use Rattle.nv_ast.specs.LayoutView.{layout_tree, field_tree, list_fields, list_l
 use Rattle.nv_ast.specs.Outline.{PartsOutline, JoinedOutline, OverlayOutline, outline, outlines, field_outline, field_outlines, size, total_size, total_named_size, longest, outline_height}
 use Rattle.nv_ast.proofs.Reading.{parts_is, joined_is, overlay_is}
 use Rattle.nv_layout.proofs.BitLists.{length-packed}
-use Rattle.nv_values.specs.Values.{Word, Record, ◌++_fields◌, fields_of, named_value_and, no_named_values}
-use Rattle.nv_values.specs.Packing.{value_at, parts_at, alternatives_at, joined_at}
-use Rattle.nv_values.specs.inner.TableView.{declared_in}
-use Rattle.nv_values.specs.inner.View.{list_named_values}
-use Rattle.nv_values.specs.inner.Tables.{layout_pairs}
+use Rattle.nv_meaning_values.specs.Values.{Word, Record, ◌++_fields◌, fields_of, named_value_and, no_named_values}
+use Rattle.nv_meaning_values.specs.Packing.{value_at, parts_at, alternatives_at, joined_at}
+use Rattle.nv_meaning_values.specs.inner.TableView.{declared_in}
+use Rattle.nv_meaning_values.specs.inner.View.{list_named_values}
+use Rattle.nv_meaning_values.specs.inner.Tables.{layout_pairs}
 use Rattle.nv_meaning.proofs.Records.{layout-record}
-use Rattle.nv_values.proofs.Rows.{record_view}
-use Rattle.nv_values.proofs.Unpacking.{alias_rank, alias-low, alias-none, fields-none, fields-append, fields-step, drop-at, total_named_more, longest_more, parts_more, alternatives_more, highest_named_within, total_more, joined_more, highest_within}
+use Rattle.nv_meaning_values.proofs.Rows.{record_view}
+use Rattle.nv_meaning_values.proofs.Unpacking.{alias_rank, alias-low, alias-none, fields-none, fields-append, fields-step, drop-at, total_named_more, longest_more, parts_more, alternatives_more, highest_named_within, total_more, joined_more, highest_within}
 use Rattle.nv_meaning.proofs.unpack.+unpack.Goals as goal
 
 pub add_fields-add_fields-requires : goal.add_fields-add_fields-requires

@@ -3,11 +3,11 @@ use Rattle.std.below.core.specs.declared.int.u64.TheConstants.{MAX}
 use Rattle.nv_ast.specs.Bits.{packed}
 use Rattle.nv_ast.specs.LayoutView.{layout_tree, field_tree, list_fields, list_layouts}
 use Rattle.nv_ast.specs.Outline.{outline, outlines, field_outline, field_outlines, total_size, total_named_size, longest, outline_height, highest_outline, highest_named_outline}
-use Rattle.nv_values.specs.Values.{◌++_fields◌}
-use Rattle.nv_values.specs.Packing.{parts_at, alternatives_at, joined_at}
-use Rattle.nv_values.specs.inner.TableView.{declared_in}
-use Rattle.nv_values.specs.inner.View.{list_named_values}
-use Rattle.nv_values.proofs.Unpacking.{alias_rank}
+use Rattle.nv_meaning_values.specs.Values.{◌++_fields◌}
+use Rattle.nv_meaning_values.specs.Packing.{parts_at, alternatives_at, joined_at}
+use Rattle.nv_meaning_values.specs.inner.TableView.{declared_in}
+use Rattle.nv_meaning_values.specs.inner.View.{list_named_values}
+use Rattle.nv_meaning_values.proofs.Unpacking.{alias_rank}
 use Rattle.nv_meaning.proofs.unpack.+unpack.Given as goal
 
 abbrev pub invariant-add_joined-loop-l : goal.invariant-add_joined-loop-l

@@ -2,13 +2,13 @@ use Rattle.std.proofs.Common.{◌∙◌, ap, sym, take}
 use Rattle.nv_ast.specs.Bits.{packed}
 use Rattle.nv_ast.specs.LayoutView.{layout_tree}
 use Rattle.nv_ast.specs.Outline.{outline}
-use Rattle.nv_values.specs.Values.{Record, fields_of, ◌++_fields◌}
-use Rattle.nv_values.specs.Packing.{value_at}
-use Rattle.nv_values.specs.inner.Tables.{layout_pairs}
-use Rattle.nv_values.specs.inner.TableView.{declared_in}
-use Rattle.nv_values.specs.inner.View.{list_named_values}
+use Rattle.nv_meaning_values.specs.Values.{Record, fields_of, ◌++_fields◌}
+use Rattle.nv_meaning_values.specs.Packing.{value_at}
+use Rattle.nv_meaning_values.specs.inner.Tables.{layout_pairs}
+use Rattle.nv_meaning_values.specs.inner.TableView.{declared_in}
+use Rattle.nv_meaning_values.specs.inner.View.{list_named_values}
 use Rattle.nv_meaning.proofs.Records.{layout-record}
-use Rattle.nv_values.proofs.Rows.{record_view}
+use Rattle.nv_meaning_values.proofs.Rows.{record_view}
 use Rattle.nv_meaning.proofs.unpack.record.Goals as goal
 
 pub returns : goal.returns

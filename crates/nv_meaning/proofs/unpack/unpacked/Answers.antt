@@ -3,12 +3,12 @@ use Rattle.nv_ast.specs.Bits.{packed}
 use Rattle.nv_ast.specs.Tree.{NamedLayout}
 use Rattle.nv_ast.specs.LayoutView.{layout_tree}
 use Rattle.nv_ast.specs.Outline.{outline}
-use Rattle.nv_values.specs.Values.{Record, words_of}
-use Rattle.nv_values.specs.Packing.{value_at}
-use Rattle.nv_values.specs.inner.TableView.{declared_in}
-use Rattle.nv_values.specs.inner.View.{view, list_named_values}
-use Rattle.nv_values.proofs.NameIndices.{all-laid}
-use Rattle.nv_values.proofs.Rows.{record_view}
+use Rattle.nv_meaning_values.specs.Values.{Record, words_of}
+use Rattle.nv_meaning_values.specs.Packing.{value_at}
+use Rattle.nv_meaning_values.specs.inner.TableView.{declared_in}
+use Rattle.nv_meaning_values.specs.inner.View.{view, list_named_values}
+use Rattle.nv_meaning_values.proofs.NameIndices.{all-laid}
+use Rattle.nv_meaning_values.proofs.Rows.{record_view}
 use Rattle.nv_meaning.proofs.unpack.unpacked.Goals as goal
 
 pub returns-in-Some : goal.returns-in-Some

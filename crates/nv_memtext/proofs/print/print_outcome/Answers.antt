@@ -1,5 +1,5 @@
 use Rattle.std.proofs.Common.{ℕ, List, ◌++◌, ◌∷◌, [], ap, ◌∙◌}
-use Rattle.line_text.specs.Line.{text_of}
+use Rattle.nv_lines.specs.Line.{text_of}
 use Rattle.nv_memtext.specs.OutcomeText.{outcome_text, outcome_line, state_lines}
 use Rattle.nv_memtext.proofs.print.print_outcome.Goals as goal
 

@@ -1,6 +1,6 @@
 use Rattle.std.proofs.Common.{◌++◌, ◌∷◌, [], map, take, ap, ◌∙◌, codes, decimal}
 use Rattle.std.proofs.lemmas.Result.{on_ok_weaker}
-use Rattle.line_text.specs.Line.{text_of, parted}
+use Rattle.nv_lines.specs.Line.{text_of, parted}
 use Rattle.nv_memtext.specs.OutcomeText.{write_line}
 use Rattle.nv_memtext.proofs.PrintLemmas.{log_pieces}
 use Rattle.nv_memtext.proofs.print.push_log.Goals as goal

@@ -1,6 +1,6 @@
 use Rattle.std.proofs.Common.{◌≡◌, ◌++◌}
 use Rattle.std.specs.List.{flat_map}
-use Rattle.line_text.specs.Line.{text_of}
+use Rattle.nv_lines.specs.Line.{text_of}
 use Rattle.nv_memtext.specs.OutcomeText.{stretch_lines, numbers_below}
 use Rattle.nv_memtext.proofs.print.push_memory.Given as goal
 

@@ -1,6 +1,6 @@
 use Rattle.std.proofs.Common.{◌++◌, ◌∷◌, [], sym, ap, ◌∙◌, append_assoc, codes, decimal, rules}
 use Rattle.std.specs.List.{flat_map}
-use Rattle.line_text.specs.Number.{hex_word}
+use Rattle.nv_lines.specs.Number.{hex_word}
 use Rattle.nv_base.specs.MemoryNames.{memory_name}
 use Rattle.nv_memtext.proofs.PrintLemmas.{listed_pieces, piece_as}
 use Rattle.nv_memtext.proofs.print.push_outcome.Goals as goal

@@ -1,6 +1,6 @@
 use Rattle.std.proofs.Common.{◌++◌, length, take, ap, ◌∙◌, arith}
 use Rattle.std.proofs.lemmas.List.{length-take}
-use Rattle.line_text.specs.Line.{text_of}
+use Rattle.nv_lines.specs.Line.{text_of}
 use Rattle.nv_base.specs.declared.term.Mem.TheVariants.{Sram, Sdram, Scratch}
 use Rattle.nv_memtext.specs.OutcomeText.{sizes_line, memory_lines}
 use Rattle.nv_memtext.proofs.PrintLemmas.{packet_pieces}

@@ -1,6 +1,6 @@
 use Rattle.std.proofs.Common.{◌≡◌, ◌++◌, ◌∷◌, take}
 use Rattle.std.specs.List.{flat_map}
-use Rattle.line_text.specs.Number.{hex_word}
+use Rattle.nv_lines.specs.Number.{hex_word}
 use Rattle.nv_memtext.proofs.print.push_words.Given as goal
 
 abbrev pub invariant-loop-word : goal.invariant-loop-word

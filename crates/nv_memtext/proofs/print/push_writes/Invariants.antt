@@ -1,5 +1,5 @@
 use Rattle.std.proofs.Common.{◌≡◌, ◌++◌, map, take}
-use Rattle.line_text.specs.Line.{text_of}
+use Rattle.nv_lines.specs.Line.{text_of}
 use Rattle.nv_memtext.specs.OutcomeText.{write_line}
 use Rattle.nv_memtext.proofs.print.push_writes.Given as goal
 

@@ -1,6 +1,6 @@
 use Rattle.std.proofs.Common.{◌≡◌, ◌++◌, ◌∷◌, [], take}
 use Rattle.std.specs.List.{flat_map}
-use Rattle.nv_values.specs.Chains.{made_in}
+use Rattle.nv_meaning_values.specs.Chains.{made_in}
 use Rattle.nv_trace.specs.TraceText.{made_line}
 use Rattle.nv_trace.proofs.text.push_lines.Given as goal
 

@@ -1,6 +1,6 @@
 use Rattle.std.proofs.Common.{ap, ◌∙◌, ◌++◌, ◌∷◌, List, ℕ, decimal}
 use Rattle.std.specs.List.{flat_map}
-use Rattle.line_text.specs.Number.{hex_word}
+use Rattle.nv_lines.specs.Number.{hex_word}
 use Rattle.nv_memtext.proofs.PrintLemmas.{join5}
 use Rattle.nv_trace.proofs.Texts.{write-pieces}
 use Rattle.nv_trace.proofs.text.push_write.Goals as goal

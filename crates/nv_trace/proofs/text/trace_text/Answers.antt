@@ -1,7 +1,7 @@
 use Rattle.std.proofs.Common.{◌≡◌, ◌∙◌, ◌++◌, ◌∷◌, [], ap, sym, List, ℕ, length, map, min, take, arith}
 use Rattle.std.specs.List.{flat_map}
-use Rattle.nv_values.specs.Chains.{made_in}
-use Rattle.nv_values.specs.declared.trace.Made as code
+use Rattle.nv_meaning_values.specs.Chains.{made_in}
+use Rattle.nv_meaning_values.specs.declared.trace.Made as code
 use Rattle.nv_trace.specs.TraceText.{made_line, shown, trace_text}
 use Rattle.nv_trace.proofs.Texts.{whole-text}
 use Rattle.nv_trace.proofs.text.trace_text.Goals as goal

@@ -1,5 +1,5 @@
 use Rattle.std.proofs.Common.{◌<◌, ◌∙◌, ap, length, refl, arith}
-use Rattle.nv_values.specs.declared.trace.Made as code
+use Rattle.nv_meaning_values.specs.declared.trace.Made as code
 use Rattle.nv_trace.proofs.Unlikes.{same-further}
 use Rattle.nv_trace.proofs.unlike.compare.Goals as goal
 

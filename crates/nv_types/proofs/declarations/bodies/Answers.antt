@@ -2,12 +2,12 @@ use Rattle.std.proofs.Common.{◌++◌, ◌∷◌, ◌≤◌, ◌+◌, [], sym, 
 use Rattle.std.proofs.lemmas.Result.{err_from_is_err_and}
 use Rattle.nv_ast.specs.Tree.{FunTree}
 use Rattle.nv_ast.specs.ProgramView.{fun_tree}
-use Rattle.type_scopes.proofs.Holding.{Keeps-refl}
-use Rattle.type_costs.specs.declared.cost.Cost.{Cost}
-use Rattle.type_scopes.proofs.Images.{image_before, image_behind, image_all, image_none}
-use Rattle.type_scopes.proofs.Groups.{BodiedSo, CountedSo}
-use Rattle.type_scopes.proofs.DeclWalk.{bodies_err, bodies_so, bodies_counted, bodies_keeps, bodies_end}
-use Rattle.type_scopes.proofs.WalkCosts.{no_cost}
+use Rattle.nv_types_scopes.proofs.Holding.{Keeps-refl}
+use Rattle.nv_types_table.specs.declared.cost.Cost.{Cost}
+use Rattle.nv_types_scopes.proofs.Images.{image_before, image_behind, image_all, image_none}
+use Rattle.nv_types_scopes.proofs.Groups.{BodiedSo, CountedSo}
+use Rattle.nv_types_scopes.proofs.DeclWalk.{bodies_err, bodies_so, bodies_counted, bodies_keeps, bodies_end}
+use Rattle.nv_types_scopes.proofs.WalkCosts.{no_cost}
 use Rattle.nv_types.proofs.declarations.bodies.Goals as goal
 
 pub loop-f-init : goal.loop-f-init

@@ -1,7 +1,7 @@
 use Rattle.std.proofs.Common.{◌≡◌, [], map, take, drop}
 use Rattle.nv_ast.specs.ProgramView.{fun_tree}
-use Rattle.type_scopes.specs.inner.Standing.{Keeps}
-use Rattle.type_scopes.proofs.Groups.{BodiedSo, CountedSo}
+use Rattle.nv_types_scopes.specs.inner.Standing.{Keeps}
+use Rattle.nv_types_scopes.proofs.Groups.{BodiedSo, CountedSo}
 use Rattle.nv_types.proofs.declarations.bodies.Given as goal
 
 abbrev pub invariant-loop-f : goal.invariant-loop-f

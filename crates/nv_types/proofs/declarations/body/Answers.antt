@@ -1,11 +1,11 @@
 use Rattle.std.proofs.Common.{◌∙◌, ap, sym, ◌+◌, min}
-use Rattle.type_table.specs.inner.Cells.{most}
+use Rattle.nv_types_table.specs.inner.Cells.{most}
 use Rattle.std.proofs.lemmas.Result.{err_from_is_err_and}
 use Rattle.nv_ast.specs.ProgramView.{fun_tree}
 use Rattle.nv_ast.specs.TypeView.{list_named_types}
 use Rattle.nv_ast.specs.Tests.{names_of}
-use Rattle.type_scopes.proofs.Params.{names_in_text, listed_names}
-use Rattle.type_scopes.proofs.DeclWalk.{body_unknown, body_err, body_ok, body_no_memory}
+use Rattle.nv_types_scopes.proofs.Params.{names_in_text, listed_names}
+use Rattle.nv_types_scopes.proofs.DeclWalk.{body_unknown, body_err, body_ok, body_no_memory}
 use Rattle.nv_types.proofs.declarations.body.Goals as goal
 
 pub returns-in_default : goal.returns-in_default

@@ -4,7 +4,7 @@ use Rattle.nv_ast.specs.declared.tree.TyText.{TyText}
 use Rattle.nv_ast.specs.Tree.{DeclTree, ExceptionDecl, GroupDecl}
 use Rattle.nv_ast.specs.TypeView.{list_types}
 use Rattle.nv_ast.specs.ProgramView.{fun_tree, decl_tree}
-use Rattle.type_scopes.specs.inner.Declarations.{ChecksDecl}
+use Rattle.nv_types_scopes.specs.inner.Declarations.{ChecksDecl}
 use Rattle.nv_types.proofs.declarations.declaration.Goals as goal
 
 pub returns-in-Layout : goal.returns-in-Layout

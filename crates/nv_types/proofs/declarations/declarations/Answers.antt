@@ -2,7 +2,7 @@ use Rattle.std.proofs.Common.{◌≤◌, ◌+◌, [], sym, subst, map, take, dro
 use Rattle.std.proofs.lemmas.Result.{err_from_is_err_and}
 use Rattle.nv_ast.specs.Tree.{DeclTree}
 use Rattle.nv_ast.specs.ProgramView.{decl_tree}
-use Rattle.type_scopes.proofs.Images.{image_before, image_behind, image_all, image_none}
+use Rattle.nv_types_scopes.proofs.Images.{image_before, image_behind, image_all, image_none}
 use Rattle.nv_types.proofs.Measured.{WalkedSo, walked_start, walked_more, walked_fault, walked_end}
 use Rattle.nv_types.proofs.declarations.declarations.Goals as goal
 

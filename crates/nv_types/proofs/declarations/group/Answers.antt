@@ -1,7 +1,7 @@
 use Rattle.std.proofs.Common.{map}
 use Rattle.std.proofs.lemmas.Result.{err_from_is_err_and}
 use Rattle.nv_ast.specs.ProgramView.{fun_tree}
-use Rattle.type_scopes.proofs.DeclWalk.{group_names_err, group_texts_err, group_bodies_err, group_ok}
+use Rattle.nv_types_scopes.proofs.DeclWalk.{group_names_err, group_texts_err, group_bodies_err, group_ok}
 use Rattle.nv_types.proofs.declarations.group.Goals as goal
 
 pub returns-in_err-group_names : goal.returns-in_err-group_names

@@ -2,9 +2,9 @@ use Rattle.std.proofs.Common.{◌∙◌, ◌≤◌, ◌+◌, [], sym, subst, map
 use Rattle.std.proofs.lemmas.Result.{err_from_is_err_and}
 use Rattle.nv_ast.specs.Tree.{FunTree}
 use Rattle.nv_ast.specs.ProgramView.{fun_tree}
-use Rattle.type_scopes.proofs.Images.{image_before, image_behind, image_all, image_none}
-use Rattle.type_scopes.proofs.Groups.{SignedSo, signed_start}
-use Rattle.type_scopes.proofs.DeclWalk.{signs_err, signs_more, signs_end}
+use Rattle.nv_types_scopes.proofs.Images.{image_before, image_behind, image_all, image_none}
+use Rattle.nv_types_scopes.proofs.Groups.{SignedSo, signed_start}
+use Rattle.nv_types_scopes.proofs.DeclWalk.{signs_err, signs_more, signs_end}
 use Rattle.nv_types.proofs.declarations.signatures.Goals as goal
 
 pub loop-f-init : goal.loop-f-init

@@ -1,6 +1,6 @@
 use Rattle.std.proofs.Common.{◌≡◌, map, take, drop}
 use Rattle.nv_ast.specs.ProgramView.{fun_tree}
-use Rattle.type_scopes.proofs.Groups.{SignedSo}
+use Rattle.nv_types_scopes.proofs.Groups.{SignedSo}
 use Rattle.nv_types.proofs.declarations.signatures.Given as goal
 
 abbrev pub invariant-loop-f : goal.invariant-loop-f

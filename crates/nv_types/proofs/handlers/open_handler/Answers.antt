@@ -1,10 +1,10 @@
 use Rattle.std.proofs.Common.{subst, refl, false, Result}
 use Rattle.std.proofs.lemmas.Result.{err_from_is_err_and}
-use Rattle.type_costs.specs.declared.error.TypeError.{TypeError}
-use Rattle.type_scopes.specs.declared.functions.TypedExpr.{TypedExpr}
-use Rattle.type_scopes.specs.declared.expected.Expected.TheVariants.{Anything}
-use Rattle.type_scopes.specs.inner.Walk.{Checks}
-use Rattle.type_scopes.proofs.BlockHandlers.{try_fails_at_body, try_fails_at_patterns}
+use Rattle.nv_types_table.specs.declared.error.TypeError.{TypeError}
+use Rattle.nv_types_scopes.specs.declared.functions.TypedExpr.{TypedExpr}
+use Rattle.nv_types_scopes.specs.declared.expected.Expected.TheVariants.{Anything}
+use Rattle.nv_types_scopes.specs.inner.Walk.{Checks}
+use Rattle.nv_types_scopes.proofs.BlockHandlers.{try_fails_at_body, try_fails_at_patterns}
 use Rattle.nv_types.proofs.handlers.open_handler.Goals as goal
 
 pub returns-in_err-tried-clause-first : goal.returns-in_err-tried-clause-first

@@ -1,10 +1,10 @@
 use Rattle.std.proofs.Common.{◌∙◌, ap, sym, subst, false, ℕ, Result, Some}
-use Rattle.type_costs.specs.declared.error.TypeError.{TypeError}
-use Rattle.type_costs.specs.declared.needs.Step.{Step}
-use Rattle.type_scopes.specs.declared.functions.TypedExpr.{TypedExpr}
-use Rattle.type_scopes.specs.declared.expected.Expected.TheVariants.{Value}
-use Rattle.type_scopes.specs.inner.Walk.{Checks}
-use Rattle.type_scopes.proofs.BlockStatements.{as_many_names, statement_at_err, let_fails_at_value, let_fails_at_pattern, let_checks}
+use Rattle.nv_types_table.specs.declared.error.TypeError.{TypeError}
+use Rattle.nv_types_table.specs.declared.needs.Step.{Step}
+use Rattle.nv_types_scopes.specs.declared.functions.TypedExpr.{TypedExpr}
+use Rattle.nv_types_scopes.specs.declared.expected.Expected.TheVariants.{Value}
+use Rattle.nv_types_scopes.specs.inner.Walk.{Checks}
+use Rattle.nv_types_scopes.proofs.BlockStatements.{as_many_names, statement_at_err, let_fails_at_value, let_fails_at_pattern, let_checks}
 use Rattle.nv_types.proofs.lets.let_value.Goals as goal
 
 pub returns-in_err-part : goal.returns-in_err-part

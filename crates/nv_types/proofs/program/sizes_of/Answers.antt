@@ -2,7 +2,7 @@ use Rattle.std.proofs.Common.{subst, map, List, Ok, Err}
 use Rattle.std.proofs.lemmas.Result.{err_from_is_err_and}
 use Rattle.nv_ast.specs.declared.tree.Decl.{Decl}
 use Rattle.nv_ast.specs.ProgramView.{decl_tree, program_of}
-use Rattle.type_scopes.specs.inner.Declarations.{ChecksDecls}
+use Rattle.nv_types_scopes.specs.inner.Declarations.{ChecksDecls}
 use Rattle.nv_types.proofs.Measured.{measures_fault, measures_main}
 use Rattle.nv_types.proofs.program.sizes_of.Goals as goal
 

@@ -6,11 +6,11 @@ use Rattle.nv_ast.specs.TypeView.{list_named_types}
 use Rattle.nv_ast.specs.ProgramView.{fun_tree}
 use Rattle.nv_ast.specs.Tests.{names_of}
 use Rattle.nv_ast.specs.Faults.{at_span, variable_twice}
-use Rattle.type_costs.specs.inner.Faulty.{IsFirstOf}
-use Rattle.type_table.specs.inner.Named.{named, bound_types}
-use Rattle.type_table.specs.inner.Store.{AreTypes}
-use Rattle.type_scopes.specs.inner.Texts.{TypesNamed}
-use Rattle.type_scopes.proofs.Signing.{Listed, texts_read, sign_params_err, sign_result_err, sign_twice_err, sign_main_err, sign_ok, sign_no_memory}
+use Rattle.nv_types_table.specs.inner.Faulty.{IsFirstOf}
+use Rattle.nv_types_table.specs.inner.Named.{named, bound_types}
+use Rattle.nv_types_table.specs.inner.Store.{AreTypes}
+use Rattle.nv_types_scopes.specs.inner.Texts.{TypesNamed}
+use Rattle.nv_types_scopes.proofs.Signing.{Listed, texts_read, sign_params_err, sign_result_err, sign_twice_err, sign_main_err, sign_ok, sign_no_memory}
 use Rattle.nv_types.proofs.signatures.signature.Goals as goal
 
 pub returns-in_err-params : goal.returns-in_err-params

@@ -6,45 +6,45 @@ use Rattle.nv_ast.specs.PatternView.{list_patterns}
 use Rattle.nv_ast.specs.Tests.{where_true}
 use Rattle.nv_ast.specs.Tree.{NumberTree, TruthTree, VarTree, ParenTree, TupleTree, FieldsTree, DotTree, InvertTree, NegateTree, BinaryTree, ShiftTree, CallTree, UnpackTree, PackTree, RaiseTree, IfTree, TryTree, FetchTree, BlockTree, Trees, NamedTrees, no_named_trees, StatementTree}
 use Rattle.nv_ast.specs.Faults.{at_span, wrong_scratch}
-use Rattle.type_costs.specs.declared.cost.Cost.{Cost}
-use Rattle.type_scopes.specs.declared.expected.Expected.TheVariants.{Value, Anything}
-use Rattle.type_table.specs.inner.Named.{named}
-use Rattle.type_costs.specs.inner.Costs.{two_costs, node_cost}
-use Rattle.type_costs.specs.inner.Faulty.{IsFirstOf}
-use Rattle.type_table.specs.inner.Store.{AreTypes}
-use Rattle.type_costs.proofs.Entries.{named-append}
-use Rattle.type_table.proofs.Growing.{Extends-trans}
-use Rattle.type_table.proofs.RowEdges.{none_test}
-use Rattle.type_scopes.proofs.Holding.{Keeps-table}
-use Rattle.type_scopes.proofs.WalkNodes.{node_failed, node_checks}
-use Rattle.type_scopes.proofs.WalkArms.{number_checks, truth_checks, paren_failed, paren_checks, invert_failed, invert_checks, negate_failed, negate_checks, shift_failed, shift_stands, left_failed, right_failed, binary_checks}
-use Rattle.type_scopes.proofs.WalkNamed.{dot_failed, dot_checks, dot_unknown, unpack_other, unpack_unknown, unpack_failed, unpack_checks, pack_other, pack_unknown, pack_failed, pack_checks}
-use Rattle.type_scopes.proofs.WalkLists.{AllSo, all_start, next_value, all_more, all_failed, all_end, exprs_at, exprs_end, unnamed, named_at, named_end}
-use Rattle.type_scopes.proofs.WalkTuples.{TypesSo, types_start, types_more, tuple_failed, tuple_checks, FieldsSo, fields_begin, fields_more, fields_failed, fields_checks}
-use Rattle.type_scopes.proofs.WalkCalls.{call_other, call_unknown, call_failed, call_outside, call_number, call_checks, raise_other, raise_unknown, raise_failed, raise_number, raise_checks}
+use Rattle.nv_types_table.specs.declared.cost.Cost.{Cost}
+use Rattle.nv_types_scopes.specs.declared.expected.Expected.TheVariants.{Value, Anything}
+use Rattle.nv_types_table.specs.inner.Named.{named}
+use Rattle.nv_types_table.specs.inner.Costs.{two_costs, node_cost}
+use Rattle.nv_types_table.specs.inner.Faulty.{IsFirstOf}
+use Rattle.nv_types_table.specs.inner.Store.{AreTypes}
+use Rattle.nv_types_table.proofs.Entries.{named-append}
+use Rattle.nv_types_table.proofs.Growing.{Extends-trans}
+use Rattle.nv_types_table.proofs.RowEdges.{none_test}
+use Rattle.nv_types_scopes.proofs.Holding.{Keeps-table}
+use Rattle.nv_types_scopes.proofs.WalkNodes.{node_failed, node_checks}
+use Rattle.nv_types_scopes.proofs.WalkArms.{number_checks, truth_checks, paren_failed, paren_checks, invert_failed, invert_checks, negate_failed, negate_checks, shift_failed, shift_stands, left_failed, right_failed, binary_checks}
+use Rattle.nv_types_scopes.proofs.WalkNamed.{dot_failed, dot_checks, dot_unknown, unpack_other, unpack_unknown, unpack_failed, unpack_checks, pack_other, pack_unknown, pack_failed, pack_checks}
+use Rattle.nv_types_scopes.proofs.WalkLists.{AllSo, all_start, next_value, all_more, all_failed, all_end, exprs_at, exprs_end, unnamed, named_at, named_end}
+use Rattle.nv_types_scopes.proofs.WalkTuples.{TypesSo, types_start, types_more, tuple_failed, tuple_checks, FieldsSo, fields_begin, fields_more, fields_failed, fields_checks}
+use Rattle.nv_types_scopes.proofs.WalkCalls.{call_other, call_unknown, call_failed, call_outside, call_number, call_checks, raise_other, raise_unknown, raise_failed, raise_number, raise_checks}
 use Rattle.nv_ast.specs.Height.{height, statement_height}
-use Rattle.type_scopes.proofs.WalkHeights.{expr_within, named_within}
-use Rattle.type_scopes.proofs.WalkKinds.{of_tree, arm}
-use Rattle.type_scopes.proofs.WalkErrors.{at_err, all_answered, memory_wanted}
+use Rattle.nv_types_scopes.proofs.WalkHeights.{expr_within, named_within}
+use Rattle.nv_types_scopes.proofs.WalkKinds.{of_tree, arm}
+use Rattle.nv_types_scopes.proofs.WalkErrors.{at_err, all_answered, memory_wanted}
 use Rattle.nv_ast.specs.declared.tree.Stmt.{Stmt}
 use Rattle.nv_ast.proofs.Items.{split_item}
 use Rattle.nv_ast.proofs.TreeKinds.{number-is, truth-is, variable-is, paren-is, dot-is, invert-is, negate-is, shift-is, unpack-is, pack-is, fetch-is, binary-is, if-is, try-is, tuple-is, record-is, call-is, raise-is, block-is}
-use Rattle.type_costs.specs.declared.needs.Step.{Step}
-use Rattle.type_scopes.specs.declared.functions.TypedExpr.{TypedExpr}
-use Rattle.type_table.specs.inner.Cells.{most}
-use Rattle.type_scopes.specs.inner.Walk.{Checks}
-use Rattle.type_scopes.specs.inner.Blocks.{ChecksStatement}
-use Rattle.type_costs.specs.inner.Needs.{block_needs}
-use Rattle.type_scopes.specs.inner.Standing.{written_in}
-use Rattle.type_costs.specs.declared.error.TypeError.{TypeError}
-use Rattle.type_costs.specs.declared.error.TypeError.TheVariants.{NoMemory}
-use Rattle.type_scopes.proofs.BlockNodes.{wants_memory}
-use Rattle.type_scopes.proofs.BlockChoices.{choice_fails_at_condition, choice_fails_at_first, choice_fails_at_second, choice_checks}
-use Rattle.type_scopes.proofs.BlockHandlers.{try_fails_at_handler, try_checks}
-use Rattle.type_scopes.proofs.BlockFetches.{fetch_fails_at_address, fetch_fails_at_type, fetch_fails_at_words, fetch_fails_at_node, fetch_checks, no_middle, some_middle}
-use Rattle.type_scopes.proofs.BlockStatements.{as_many_names, statement_at_err, store_fails_at_address, store_fails_at_value, store_fails_at_words, store_fails_at_reach, store_checks}
-use Rattle.type_scopes.proofs.BlockWalked.{Behind, behind_none, behind_next, behind_all, behind_inside, statement_within}
-use Rattle.type_scopes.proofs.BlockWhole.{block_fails_at_statement, block_fails_at_tail, block_fails_at_node, block_checks}
+use Rattle.nv_types_table.specs.declared.needs.Step.{Step}
+use Rattle.nv_types_scopes.specs.declared.functions.TypedExpr.{TypedExpr}
+use Rattle.nv_types_table.specs.inner.Cells.{most}
+use Rattle.nv_types_scopes.specs.inner.Walk.{Checks}
+use Rattle.nv_types_scopes.specs.inner.Blocks.{ChecksStatement}
+use Rattle.nv_types_table.specs.inner.Needs.{block_needs}
+use Rattle.nv_types_scopes.specs.inner.Standing.{written_in}
+use Rattle.nv_types_table.specs.declared.error.TypeError.{TypeError}
+use Rattle.nv_types_table.specs.declared.error.TypeError.TheVariants.{NoMemory}
+use Rattle.nv_types_scopes.proofs.BlockNodes.{wants_memory}
+use Rattle.nv_types_scopes.proofs.BlockChoices.{choice_fails_at_condition, choice_fails_at_first, choice_fails_at_second, choice_checks}
+use Rattle.nv_types_scopes.proofs.BlockHandlers.{try_fails_at_handler, try_checks}
+use Rattle.nv_types_scopes.proofs.BlockFetches.{fetch_fails_at_address, fetch_fails_at_type, fetch_fails_at_words, fetch_fails_at_node, fetch_checks, no_middle, some_middle}
+use Rattle.nv_types_scopes.proofs.BlockStatements.{as_many_names, statement_at_err, store_fails_at_address, store_fails_at_value, store_fails_at_words, store_fails_at_reach, store_checks}
+use Rattle.nv_types_scopes.proofs.BlockWalked.{Behind, behind_none, behind_next, behind_all, behind_inside, statement_within}
+use Rattle.nv_types_scopes.proofs.BlockWhole.{block_fails_at_statement, block_fails_at_tail, block_fails_at_node, block_checks}
 use Rattle.nv_types.proofs.walk.+walk.Goals.{fetch-then-is_in_reach, fetch-else-is_in_reach}
 use Rattle.nv_types.proofs.walk.+walk.Goals as goal
 

@@ -1,10 +1,10 @@
 use Rattle.std.proofs.Common.{None, drop, ◌+◌, ◌*◌, max, take}
 use Rattle.nv_ast.specs.ExprView.{list_trees, list_named_trees, tree_of, list_statements, statement_tree}
-use Rattle.type_table.specs.inner.Named.{named}
-use Rattle.type_scopes.proofs.WalkLists.{AllSo, unnamed}
-use Rattle.type_scopes.proofs.WalkTuples.{TypesSo, FieldsSo}
+use Rattle.nv_types_table.specs.inner.Named.{named}
+use Rattle.nv_types_scopes.proofs.WalkLists.{AllSo, unnamed}
+use Rattle.nv_types_scopes.proofs.WalkTuples.{TypesSo, FieldsSo}
 use Rattle.nv_ast.specs.Height.{height, highest, highest_named, statement_height, highest_statement}
-use Rattle.type_scopes.proofs.BlockWalked.{Behind}
+use Rattle.nv_types_scopes.proofs.BlockWalked.{Behind}
 use Rattle.nv_types.proofs.walk.+walk.Given as goal
 
 abbrev pub invariant-tuple-loop-e : goal.invariant-tuple-loop-e

@@ -1,6 +1,6 @@
 use Rattle.std.proofs.Common.{get_or, arith}
 use Rattle.std.proofs.lemmas.List.{get_or_default}
-use Rattle.placement.specs.declared.place.Place.TheVariants.{A}
+use Rattle.place_plan.specs.declared.place.Place.TheVariants.{A}
 use Rattle.par_move.proofs.Loops.{freeing-more, freeing-end}
 use Rattle.par_move.proofs.order.run_free.Goals as goal
 

@@ -1,6 +1,6 @@
 use Rattle.std.proofs.Common.{◌+◌, ◌∙◌, get_or, subst, sym, arith}
 use Rattle.std.proofs.lemmas.List.{get_or_default}
-use Rattle.placement.specs.declared.place.Place.TheVariants.{A}
+use Rattle.place_plan.specs.declared.place.Place.TheVariants.{A}
 use Rattle.par_move.specs.declared.pending.Pending.{Pending}
 use Rattle.par_move.proofs.Loops.{Turning, turning-past, turning-more, turning-end, spared}
 use Rattle.par_move.proofs.order.turn_all.Goals as goal

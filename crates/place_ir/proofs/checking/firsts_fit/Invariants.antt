@@ -1,8 +1,8 @@
 use Rattle.std.proofs.Common.{◌≡◌, drop, map}
-use Rattle.placement.specs.Plan.{plan_view}
+use Rattle.place_plan.specs.Plan.{plan_view}
 use Rattle.ssu_ir.specs.Points.{points}
 use Rattle.ssu_ir.specs.View.{labels_view}
-use Rattle.placement_checks.specs.inner.Checks as checks
+use Rattle.place_ir_checks.specs.inner.Checks as checks
 use Rattle.place_ir.proofs.checking.firsts_fit.Given as goal
 
 abbrev pub invariant-loop-k : goal.invariant-loop-k

@@ -1,6 +1,6 @@
 use Rattle.std.proofs.Common.{◌∙◌, sym}
 use Rattle.ssu_ir.specs.View.{labels_view}
-use Rattle.placement.specs.Plan.{plan_view}
+use Rattle.place_plan.specs.Plan.{plan_view}
 use Rattle.place_ir.proofs.Decided.{fits-from, fits-to}
 use Rattle.place_ir.proofs.checking.fits.Goals as goal
 

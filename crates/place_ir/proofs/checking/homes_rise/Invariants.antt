@@ -1,6 +1,6 @@
 use Rattle.std.proofs.Common.{◌≡◌, drop, map, None}
-use Rattle.placement.specs.Plan.{home_view, plan_view}
-use Rattle.placement_checks.specs.inner.Checks as checks
+use Rattle.place_plan.specs.Plan.{home_view, plan_view}
+use Rattle.place_ir_checks.specs.inner.Checks as checks
 use Rattle.place_ir.proofs.checking.homes_rise.Given as goal
 
 abbrev pub invariant-loop-h : goal.invariant-loop-h

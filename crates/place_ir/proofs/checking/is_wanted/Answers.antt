@@ -1,9 +1,9 @@
 use Rattle.std.proofs.Common.{◌∙◌, length, sym, arith}
 use Rattle.ssu_ir.specs.Points.{points}
 use Rattle.ssu_ir.specs.View.{labels_view}
-use Rattle.placement.specs.Plan.{plan_view}
-use Rattle.placement_checks.specs.inner.Checks as checks
-use Rattle.placement_checks.proofs.Seen.{below-from}
+use Rattle.place_plan.specs.Plan.{plan_view}
+use Rattle.place_ir_checks.specs.inner.Checks as checks
+use Rattle.place_ir_checks.proofs.Seen.{below-from}
 use Rattle.place_ir.proofs.checking.is_wanted.Goals as goal
 
 pub returns-then-wants_at : goal.returns-then-wants_at

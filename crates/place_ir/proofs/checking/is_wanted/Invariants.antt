@@ -1,7 +1,7 @@
 use Rattle.std.proofs.Common.{◌≡◌, false}
-use Rattle.placement.specs.Plan.{plan_view}
+use Rattle.place_plan.specs.Plan.{plan_view}
 use Rattle.ssu_ir.specs.View.{labels_view}
-use Rattle.placement_checks.specs.inner.Checks as checks
+use Rattle.place_ir_checks.specs.inner.Checks as checks
 use Rattle.place_ir.proofs.checking.is_wanted.Given as goal
 
 abbrev pub invariant-loop-k : goal.invariant-loop-k

@@ -1,6 +1,6 @@
 use Rattle.std.proofs.Common.{◌≡◌, drop, map, None}
-use Rattle.placement.specs.Plan.{plan_view}
-use Rattle.placement_checks.specs.inner.Checks as checks
+use Rattle.place_plan.specs.Plan.{plan_view}
+use Rattle.place_ir_checks.specs.inner.Checks as checks
 use Rattle.place_ir.proofs.checking.passes_rise.Given as goal
 
 abbrev pub invariant-loop-q : goal.invariant-loop-q

@@ -1,7 +1,7 @@
 use Rattle.std.proofs.Common.{◌≡◌, true, take}
 use Rattle.ssu_ir.specs.View.{labels_view}
 use Rattle.std.specs.List.{list_all}
-use Rattle.placement_checks.specs.inner.Checks as checks
+use Rattle.place_ir_checks.specs.inner.Checks as checks
 use Rattle.place_ir.proofs.checking.passes_there.Given as goal
 
 abbrev pub invariant-loop-q : goal.invariant-loop-q

@@ -1,8 +1,8 @@
 use Rattle.std.proofs.Common.{◌∙◌, length, sym, arith}
 use Rattle.ssu_ir.specs.Points.{points}
 use Rattle.ssu_ir.specs.View.{labels_view}
-use Rattle.placement.specs.Plan.{plan_view}
-use Rattle.placement_checks.specs.inner.Checks as checks
+use Rattle.place_plan.specs.Plan.{plan_view}
+use Rattle.place_ir_checks.specs.inner.Checks as checks
 use Rattle.place_ir.proofs.Decided.{all-below-miss, all-below-more}
 use Rattle.place_ir.proofs.checking.points_fit.Goals as goal
 

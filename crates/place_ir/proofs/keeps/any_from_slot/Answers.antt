@@ -1,7 +1,7 @@
 use Rattle.std.proofs.Common.{◌∙◌, sym, ap}
-use Rattle.placement.specs.Fits.{is_slot}
-use Rattle.placement.specs.Plan.{plan_view, serve}
-use Rattle.placement_checks.proofs.Seen.{below-from}
+use Rattle.place_plan.specs.Fits.{is_slot}
+use Rattle.place_plan.specs.Plan.{plan_view, serve}
+use Rattle.place_ir_checks.proofs.Seen.{below-from}
 use Rattle.place_ir.proofs.keeps.any_from_slot.Goals as goal
 
 pub returns-then-is_slot : goal.returns-then-is_slot

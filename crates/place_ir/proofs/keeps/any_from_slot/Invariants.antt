@@ -1,6 +1,6 @@
 use Rattle.std.proofs.Common.{◌≡◌, false}
-use Rattle.placement.specs.Plan.{plan_view}
-use Rattle.placement_checks.specs.inner.Checks as checks
+use Rattle.place_plan.specs.Plan.{plan_view}
+use Rattle.place_ir_checks.specs.inner.Checks as checks
 use Rattle.place_ir.proofs.keeps.any_from_slot.Given as goal
 
 abbrev pub invariant-loop-i : goal.invariant-loop-i

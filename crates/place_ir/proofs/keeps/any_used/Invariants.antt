@@ -1,8 +1,8 @@
 use Rattle.std.proofs.Common.{◌≡◌, false, take}
-use Rattle.placement.specs.Plan.{plan_view}
+use Rattle.place_plan.specs.Plan.{plan_view}
 use Rattle.ssu_ir.specs.View.{labels_view}
 use Rattle.std.specs.List.{list_any}
-use Rattle.placement_checks.specs.inner.Checks as checks
+use Rattle.place_ir_checks.specs.inner.Checks as checks
 use Rattle.place_ir.proofs.keeps.any_used.Given as goal
 
 abbrev pub invariant-loop-x : goal.invariant-loop-x

@@ -1,10 +1,10 @@
 use Rattle.std.proofs.Common.{◌∙◌, sym}
 use Rattle.ssu_ir.specs.View.{labels_view}
-use Rattle.placement.specs.Plan.{plan_view}
-use Rattle.placement.specs.inner.UseViews.{use_view}
-use Rattle.placement_checks.specs.inner.Checks as checks
-use Rattle.placement_checks.specs.inner.NodeLookups.{found_use}
-use Rattle.placement_checks.proofs.Loops.{all-miss}
+use Rattle.place_plan.specs.Plan.{plan_view}
+use Rattle.place_plan.specs.inner.UseViews.{use_view}
+use Rattle.place_ir_checks.specs.inner.Checks as checks
+use Rattle.place_ir_checks.specs.inner.NodeLookups.{found_use}
+use Rattle.place_ir_checks.proofs.Loops.{all-miss}
 use Rattle.place_ir.proofs.keeps.is_alone.Goals as goal
 
 pub returns-then-not-is_other : goal.returns-then-not-is_other

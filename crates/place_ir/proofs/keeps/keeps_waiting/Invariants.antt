@@ -1,9 +1,9 @@
 use Rattle.std.proofs.Common.{◌≡◌, true, take, map}
-use Rattle.placement.specs.Plan.{plan_view}
-use Rattle.placement_checks.specs.inner.NodeLookups.{found_use}
+use Rattle.place_plan.specs.Plan.{plan_view}
+use Rattle.place_ir_checks.specs.inner.NodeLookups.{found_use}
 use Rattle.ssu_ir.specs.View.{labels_view}
 use Rattle.std.specs.List.{list_all}
-use Rattle.placement_checks.specs.inner.Checks as checks
+use Rattle.place_ir_checks.specs.inner.Checks as checks
 use Rattle.place_ir.proofs.keeps.keeps_waiting.Given as goal
 
 abbrev pub invariant-loop-serve : goal.invariant-loop-serve

@@ -1,7 +1,7 @@
 use Rattle.std.proofs.Common.{◌≡◌, true, take, not}
-use Rattle.placement.specs.Plan.{plan_view}
+use Rattle.place_plan.specs.Plan.{plan_view}
 use Rattle.std.specs.List.{list_all}
-use Rattle.placement_checks.specs.inner.Checks as checks
+use Rattle.place_ir_checks.specs.inner.Checks as checks
 use Rattle.place_ir.proofs.keeps.none_shared.Given as goal
 
 abbrev pub invariant-loop-q : goal.invariant-loop-q

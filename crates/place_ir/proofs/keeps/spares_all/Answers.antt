@@ -1,8 +1,8 @@
 use Rattle.std.proofs.Common.{◌∙◌, sym, ap}
 use Rattle.ssu_ir.specs.View.{labels_view}
-use Rattle.placement.specs.Plan.{home_view, plan_view}
-use Rattle.placement_checks.specs.inner.Checks as checks
-use Rattle.placement_checks.proofs.Loops.{all-miss, all-more}
+use Rattle.place_plan.specs.Plan.{home_view, plan_view}
+use Rattle.place_ir_checks.specs.inner.Checks as checks
+use Rattle.place_ir_checks.proofs.Loops.{all-miss, all-more}
 use Rattle.place_ir.proofs.keeps.spares_all.Goals as goal
 
 pub returns-then-not-spares : goal.returns-then-not-spares

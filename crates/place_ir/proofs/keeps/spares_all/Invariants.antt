@@ -1,8 +1,8 @@
 use Rattle.std.proofs.Common.{◌≡◌, true, take, map}
-use Rattle.placement.specs.Plan.{home_view, plan_view}
+use Rattle.place_plan.specs.Plan.{home_view, plan_view}
 use Rattle.ssu_ir.specs.View.{labels_view}
 use Rattle.std.specs.List.{list_all}
-use Rattle.placement_checks.specs.inner.Checks as checks
+use Rattle.place_ir_checks.specs.inner.Checks as checks
 use Rattle.place_ir.proofs.keeps.spares_all.Given as goal
 
 abbrev pub invariant-loop-h : goal.invariant-loop-h

@@ -1,4 +1,4 @@
-use Rattle.placement.proofs.Homes.{homes-are-spilled}
+use Rattle.place_plan.proofs.Homes.{homes-are-spilled}
 use Rattle.place_ir.proofs.laws.homes_are_found.Goals as goal
 
 pub returns : goal.returns

@@ -1,4 +1,4 @@
-use Rattle.placement.proofs.Slotted.{spilled-fits}
+use Rattle.place_plan.proofs.Slotted.{spilled-fits}
 use Rattle.place_ir.proofs.laws.slots_alone_fit.Goals as goal
 
 pub returns : goal.returns

@@ -2,17 +2,17 @@ use Rattle.std.proofs.Common.{◌≡◌, ℕ, ◌≤◌, List, sym, ap, subst, �
 use Rattle.std.proofs.lemmas.Result.{IfOk-weaker}
 use Rattle.ssu_ir.specs.Single.{single}
 use Rattle.ssu_ir.specs.View.{labels_view}
-use Rattle.placement.specs.declared.place.Placement.{Placement}
-use Rattle.placement.specs.Costs.{cost}
-use Rattle.placement.specs.Fits.{Fits}
-use Rattle.placement.specs.Plan.{plan_view}
+use Rattle.place_plan.specs.declared.place.Placement.{Placement}
+use Rattle.place_plan.specs.Costs.{cost}
+use Rattle.place_plan.specs.Fits.{Fits}
+use Rattle.place_plan.specs.Plan.{plan_view}
 use Rattle.zo_model.specs.Program.{vector, costs_of}
-use Rattle.bank_form.specs.Columns.{costs}
+use Rattle.bank_prog_form.specs.Columns.{costs}
 use Rattle.bank_prog.specs.Meaning.{IsFeasible}
 use Rattle.bank_prog.specs.Weighted.{weighted_costs}
-use Rattle.placement.specs.ByLabel.{label_cost}
-use Rattle.placement.specs.Weighted.{weighted_cost}
-use Rattle.bank_assignment.specs.ByLabel.{label_price}
+use Rattle.place_plan.specs.ByLabel.{label_cost}
+use Rattle.place_plan.specs.Weighted.{weighted_cost}
+use Rattle.reg_assign_reading.specs.ByLabel.{label_price}
 use Rattle.reg_assign.specs.Assigned.{IsAssigned, IsReadFrom}
 use Rattle.reg_assign.proofs.Promised.{assigned-of}
 use Rattle.reg_assign.proofs.assigned.assign.Goals as goal

@@ -1,4 +1,4 @@
-use Rattle.bank_assignment.specs.declared.reading.Reading.{Reading}
+use Rattle.reg_assign_reading.specs.declared.reading.Reading.{Reading}
 use Rattle.reg_assign.proofs.Promised.{assigned}
 use Rattle.reg_assign.proofs.assigned.assign_by.Goals as goal
 

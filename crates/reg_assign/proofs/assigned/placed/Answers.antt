@@ -1,14 +1,14 @@
 use Rattle.std.proofs.Common.{List, map, refl, ap, ◌∙◌}
 use Rattle.std.specs.List.{flat_map}
-use Rattle.bank_form.specs.declared.form.Value.{Value}
-use Rattle.bank_form.specs.declared.form.Access.{Access}
-use Rattle.placement.specs.declared.uses.Use.{Use}
-use Rattle.placement.specs.inner.UseViews.{use_view}
-use Rattle.bank_form.specs.declared.form.PointSummary.{PointSummary}
-use Rattle.bank_form.specs.inner.Form.{value_view, access_view, summary_view}
-use Rattle.bank_assignment.specs.inner.ReadOff.{access_first, use_serve}
+use Rattle.bank_prog_form.specs.declared.form.Value.{Value}
+use Rattle.bank_prog_form.specs.declared.form.Access.{Access}
+use Rattle.place_plan.specs.declared.uses.Use.{Use}
+use Rattle.place_plan.specs.inner.UseViews.{use_view}
+use Rattle.bank_prog_form.specs.declared.form.PointSummary.{PointSummary}
+use Rattle.bank_prog_form.specs.inner.Form.{value_view, access_view, summary_view}
+use Rattle.reg_assign_reading.specs.inner.ReadOff.{access_first, use_serve}
 use Rattle.reg_assign.specs.inner.AssignmentInputs.{labels_in, says_in, numbers_in}
-use Rattle.bank_assignment.specs.inner.Reading.{preferred_home, part_pass}
+use Rattle.reg_assign_reading.specs.inner.Reading.{preferred_home, part_pass}
 use Rattle.reg_assign.proofs.Placed.{is-read-off}
 use Rattle.reg_assign.proofs.assigned.placed.Goals as goal
 

@@ -3,16 +3,16 @@ use Rattle.std.proofs.lemmas.Result.{IfOk-weaker}
 use Rattle.ssu_ir.specs.declared.ssu.Ssu.{Ssu}
 use Rattle.ssu_ir.specs.Single.{single}
 use Rattle.ssu_ir.specs.View.{labels_view}
-use Rattle.placement.specs.Costs.{cost}
-use Rattle.placement.specs.Fits.{Fits}
-use Rattle.placement.specs.Plan.{plan_view}
+use Rattle.place_plan.specs.Costs.{cost}
+use Rattle.place_plan.specs.Fits.{Fits}
+use Rattle.place_plan.specs.Plan.{plan_view}
 use Rattle.zo_model.specs.declared.program.Assignment.{Assignment}
 use Rattle.zo_model.specs.Program.{vector, costs_of}
-use Rattle.bank_form.specs.Columns.{columns, costs}
+use Rattle.bank_prog_form.specs.Columns.{columns, costs}
 use Rattle.bank_prog.specs.Meaning.{IsFeasible}
 use Rattle.bank_prog.specs.Weighted.{weighted_costs}
-use Rattle.placement.specs.Weighted.{weighted_cost}
-use Rattle.bank_assignment.specs.inner.Chosen.{chosen}
+use Rattle.place_plan.specs.Weighted.{weighted_cost}
+use Rattle.reg_assign_reading.specs.inner.Chosen.{chosen}
 use Rattle.reg_assign.specs.Assigned.{IsVectorOf}
 use Rattle.reg_assign.proofs.chosen.from_placement.Goals as goal
 

@@ -3,11 +3,11 @@ use Rattle.std.proofs.lemmas.Result.{IfOk-weaker}
 use Rattle.std.specs.declared.vec.Vec.{Vec}
 use Rattle.std.specs.declared.alloc.Global.{Global}
 use Rattle.ssu_ir.specs.View.{labels_view}
-use Rattle.placement.specs.Order.{IsInOrder}
-use Rattle.placement.specs.Plan.{plan_view}
-use Rattle.bank_assignment.specs.inner.Chosen.{chosen}
-use Rattle.bank_assignment.specs.inner.PlanTables.{told}
-use Rattle.bank_assignment.proofs.ChosenVector.{all-told}
+use Rattle.place_plan.specs.Order.{IsInOrder}
+use Rattle.place_plan.specs.Plan.{plan_view}
+use Rattle.reg_assign_reading.specs.inner.Chosen.{chosen}
+use Rattle.reg_assign_reading.specs.inner.PlanTables.{told}
+use Rattle.reg_assign_reading.proofs.ChosenVector.{all-told}
 use Rattle.reg_assign.proofs.chosen.on_of.Goals as goal
 
 pub all_on-requires : goal.all_on-requires

@@ -1,9 +1,9 @@
 use Rattle.std.proofs.Common.{◌∙◌, map, ap}
 use Rattle.ssu_ir.specs.View.{labels_view}
-use Rattle.placement.specs.Plan.{plan_view}
-use Rattle.placement.proofs.Ordered.{fits-in-order}
-use Rattle.bank_assignment.specs.inner.Chosen.{chosen}
-use Rattle.bank_assignment.proofs.ChosenVector.{IsVector, vector-long, vector-feasible, vector-costs, vector-weighted}
+use Rattle.place_plan.specs.Plan.{plan_view}
+use Rattle.place_plan.proofs.Ordered.{fits-in-order}
+use Rattle.reg_assign_reading.specs.inner.Chosen.{chosen}
+use Rattle.reg_assign_reading.proofs.ChosenVector.{IsVector, vector-long, vector-feasible, vector-costs, vector-weighted}
 use Rattle.reg_assign.proofs.chosen.vector_of.Goals as goal
 
 pub on_of-requires : goal.on_of-requires

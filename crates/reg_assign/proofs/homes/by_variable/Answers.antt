@@ -1,6 +1,6 @@
 use Rattle.std.proofs.Common.{rules}
 use Rattle.std.proofs.lemmas.List.Sorted.{IsNonDecreasingBy-from_sort_by_key}
-use Rattle.placement.specs.declared.place.Home.{Home}
+use Rattle.place_plan.specs.declared.place.Home.{Home}
 use Rattle.reg_assign.proofs.homes.by_variable.Goals as goal
 
 pub returns-clause-sorted : goal.returns-clause-sorted

@@ -1,8 +1,8 @@
 use Rattle.std.proofs.Common.{List, ◌++◌, ap, map, ◌∙◌}
-use Rattle.placement.specs.declared.place.Place.{Place}
-use Rattle.placement.specs.inner.UseViews.{use_view}
-use Rattle.bank_form.specs.declared.column.Bank.TheVariants.{A}
-use Rattle.bank_assignment.specs.inner.ReadOff.{fill_at}
+use Rattle.place_plan.specs.declared.place.Place.{Place}
+use Rattle.place_plan.specs.inner.UseViews.{use_view}
+use Rattle.bank_prog_form.specs.declared.column.Bank.TheVariants.{A}
+use Rattle.reg_assign_reading.specs.inner.ReadOff.{fill_at}
 use Rattle.reg_assign.specs.inner.AssignmentInputs.{labels_in, says_in, numbers_in}
 use Rattle.reg_assign.proofs.Placed.{copies-made}
 use Rattle.reg_assign.proofs.homes.copies_of.Goals as goal

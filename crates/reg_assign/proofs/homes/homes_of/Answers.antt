@@ -1,10 +1,10 @@
 use Rattle.std.proofs.Common.{map, arith}
 use Rattle.std.specs.List.{flat_map}
-use Rattle.placement.specs.Plan.{home_view}
-use Rattle.bank_form.specs.inner.Form.{value_view}
-use Rattle.bank_form.proofs.Loops.{out-more, out-all}
+use Rattle.place_plan.specs.Plan.{home_view}
+use Rattle.bank_prog_form.specs.inner.Form.{value_view}
+use Rattle.bank_prog_form.proofs.Loops.{out-more, out-all}
 use Rattle.reg_assign.specs.inner.AssignmentInputs.{labels_in, says_in, numbers_in}
-use Rattle.bank_assignment.specs.inner.Reading.{preferred_home}
+use Rattle.reg_assign_reading.specs.inner.Reading.{preferred_home}
 use Rattle.reg_assign.proofs.homes.homes_of.Goals as goal
 
 pub loop-v-preserved : goal.loop-v-preserved

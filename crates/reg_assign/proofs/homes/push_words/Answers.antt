@@ -1,9 +1,9 @@
 use Rattle.std.proofs.Common.{◌++◌, map, arith}
 use Rattle.std.specs.List.{flat_map}
-use Rattle.bank_form.proofs.Loops.{out-more, out-all}
-use Rattle.bank_assignment.specs.inner.Reading.{says, early_word}
+use Rattle.bank_prog_form.proofs.Loops.{out-more, out-all}
+use Rattle.reg_assign_reading.specs.inner.Reading.{says, early_word}
 use Rattle.reg_assign.proofs.homes.push_words.Goals as goal
-use Rattle.placement.specs.inner.UseViews.{use_view}
+use Rattle.place_plan.specs.inner.UseViews.{use_view}
 
 pub loop-u-preserved : goal.loop-u-preserved
 loop-u-preserved c =

@@ -1,6 +1,6 @@
 use Rattle.std.proofs.Common.{◌≡◌, ◌++◌, map, drop}
 use Rattle.ssu_ir.specs.View.{labels_view}
-use Rattle.bank_assignment.specs.inner.PlanTables.{told}
+use Rattle.reg_assign_reading.specs.inner.PlanTables.{told}
 use Rattle.reg_assign.proofs.plan_columns.all_on.Given as goal
 
 abbrev pub invariant-loop-c : goal.invariant-loop-c

@@ -1,7 +1,7 @@
 use Rattle.std.proofs.Common.{◌≡◌, drop}
 use Rattle.std.specs.List.{list_any}
-use Rattle.bank_assignment.specs.inner.Chosen.{is_in_bank}
-use Rattle.bank_assignment.specs.inner.PlanTables.{copied_told}
+use Rattle.reg_assign_reading.specs.inner.Chosen.{is_in_bank}
+use Rattle.reg_assign_reading.specs.inner.PlanTables.{copied_told}
 use Rattle.reg_assign.proofs.plan_columns.has_copy.Given as goal
 
 abbrev pub invariant-loop-q : goal.invariant-loop-q

@@ -1,9 +1,9 @@
 use Rattle.std.proofs.Common.{map, ap, ◌∙◌, ◌++◌, arith}
 use Rattle.std.specs.List.{flat_map}
-use Rattle.bank_form.specs.declared.form.PointSummary.{PointSummary}
-use Rattle.bank_form.specs.inner.Form.{summary_view}
-use Rattle.bank_form.proofs.Loops.{out-more, out-all}
-use Rattle.bank_assignment.specs.inner.Reading.{says, part_pass}
+use Rattle.bank_prog_form.specs.declared.form.PointSummary.{PointSummary}
+use Rattle.bank_prog_form.specs.inner.Form.{summary_view}
+use Rattle.bank_prog_form.proofs.Loops.{out-more, out-all}
+use Rattle.reg_assign_reading.specs.inner.Reading.{says, part_pass}
 use Rattle.reg_assign.proofs.serves.passes_of.Goals as goal
 
 pub loop-summary-preserved : goal.loop-summary-preserved

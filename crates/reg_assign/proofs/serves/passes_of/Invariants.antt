@@ -1,7 +1,7 @@
 use Rattle.std.proofs.Common.{◌≡◌, ◌++◌, map, drop}
 use Rattle.std.specs.List.{flat_map}
-use Rattle.bank_form.specs.inner.Form.{summary_view}
-use Rattle.bank_assignment.specs.inner.Reading.{says, part_pass}
+use Rattle.bank_prog_form.specs.inner.Form.{summary_view}
+use Rattle.reg_assign_reading.specs.inner.Reading.{says, part_pass}
 use Rattle.reg_assign.proofs.serves.passes_of.Given as goal
 
 abbrev pub invariant-loop-summary : goal.invariant-loop-summary

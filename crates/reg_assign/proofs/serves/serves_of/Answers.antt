@@ -1,9 +1,9 @@
 use Rattle.std.proofs.Common.{map, arith}
-use Rattle.bank_assignment.specs.inner.ReadOff.{use_serve}
+use Rattle.reg_assign_reading.specs.inner.ReadOff.{use_serve}
 use Rattle.reg_assign.specs.inner.AssignmentInputs.{labels_in, says_in, numbers_in}
 use Rattle.reg_assign.proofs.Placed.{map-more, map-all}
 use Rattle.reg_assign.proofs.serves.serves_of.Goals as goal
-use Rattle.placement.specs.inner.UseViews.{use_view}
+use Rattle.place_plan.specs.inner.UseViews.{use_view}
 
 pub loop-u-preserved : goal.loop-u-preserved
 loop-u-preserved c =

@@ -1,8 +1,8 @@
 use Rattle.std.proofs.Common.{◌≡◌, ◌++◌, map, drop}
-use Rattle.bank_assignment.specs.inner.ReadOff.{use_serve}
+use Rattle.reg_assign_reading.specs.inner.ReadOff.{use_serve}
 use Rattle.reg_assign.specs.inner.AssignmentInputs.{labels_in, says_in, numbers_in}
 use Rattle.reg_assign.proofs.serves.serves_of.Given as goal
-use Rattle.placement.specs.inner.UseViews.{use_view}
+use Rattle.place_plan.specs.inner.UseViews.{use_view}
 
 abbrev pub invariant-loop-u : goal.invariant-loop-u
 invariant-loop-u l =

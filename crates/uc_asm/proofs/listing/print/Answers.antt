@@ -1,6 +1,6 @@
 use Rattle.std.proofs.Common.{◌≡◌, ◌+◌, [], ◌∷◌, ◌++◌, map, drop, ap, sym, ◌∙◌, append_assoc, arith}
 use Rattle.std.proofs.lemmas.Grind.{common_steps}
-use Rattle.line_text.specs.Line.{text_of}
+use Rattle.nv_lines.specs.Line.{text_of}
 use Rattle.uc_asm.specs.Items.{instruction_line}
 use Rattle.uc_asm.proofs.ListingLemmas.{fit-more, printed-text}
 use Rattle.uc_asm.proofs.listing.print.Goals as goal

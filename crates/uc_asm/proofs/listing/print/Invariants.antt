@@ -1,5 +1,5 @@
 use Rattle.std.proofs.Common.{◌≡◌, ◌++◌, map, drop}
-use Rattle.line_text.specs.Line.{text_of}
+use Rattle.nv_lines.specs.Line.{text_of}
 use Rattle.uc_asm.specs.Items.{instruction_line}
 use Rattle.uc_asm.specs.Text.{listing}
 use Rattle.uc_asm.proofs.ListingLemmas.{FitBelow}

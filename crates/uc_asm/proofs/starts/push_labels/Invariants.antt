@@ -1,5 +1,5 @@
 use Rattle.std.proofs.Common.{◌≡◌, ◌++◌, map, take}
-use Rattle.line_text.specs.Line.{text_of}
+use Rattle.nv_lines.specs.Line.{text_of}
 use Rattle.uc_asm.specs.Items.{item_line}
 use Rattle.uc_asm.specs.Starts.{start_label}
 use Rattle.uc_asm.proofs.starts.push_labels.Given as goal

@@ -1,5 +1,5 @@
 use Rattle.std.proofs.Common.{◌++◌, get_or, ap, ◌∙◌, arith}
-use Rattle.placement.specs.Plan.{home, plan_view}
+use Rattle.place_plan.specs.Plan.{home, plan_view}
 use Rattle.ucode_emit.specs.Pieces as pieces
 use Rattle.ucode_emit.specs.inner.Given as given
 use Rattle.ucode_emit.proofs.Turns.{turn}

@@ -1,5 +1,5 @@
 use Rattle.std.proofs.Common.{◌≡◌, ◌++◌, take}
-use Rattle.placement.specs.Plan.{plan_view}
+use Rattle.place_plan.specs.Plan.{plan_view}
 use Rattle.ucode_emit.specs.inner.Given as given
 use Rattle.ucode_emit.proofs.access.copy_each.Given as goal
 

@@ -1,15 +1,15 @@
 use Rattle.std.proofs.Common.{◌≡◌, ◌≤◌, [], length, sym, ◌∙◌, subst}
 use Rattle.uc_isa.specs.Lawful.{IsLawful}
 use Rattle.uc_isa.specs.Moves.{moves}
-use Rattle.uc_executions.specs.Entries.{IsVisited}
-use Rattle.uc_executions.specs.Starts.{AreStarts}
+use Rattle.uc_isa_executions.specs.Entries.{IsVisited}
+use Rattle.uc_isa_executions.specs.Starts.{AreStarts}
 use Rattle.ssu_ir.specs.Entered.{entered}
 use Rattle.ssu_ir.specs.Meaning.{ssu_params}
 use Rattle.ssu_ir.specs.Measures.{code_bound}
 use Rattle.ssu_ir.specs.View.{labels_view}
-use Rattle.placement.specs.Weighted.{weighted_cost}
-use Rattle.placement.specs.Costs.{cost}
-use Rattle.placement.specs.Plan.{plan_view}
+use Rattle.place_plan.specs.Weighted.{weighted_cost}
+use Rattle.place_plan.specs.Costs.{cost}
+use Rattle.place_plan.specs.Plan.{plan_view}
 use Rattle.ucode_emit.specs.Operations.{code_operations, form_operations}
 use Rattle.ucode_emit.specs.SpillBase.{SpillsByBase}
 use Rattle.ucode_emit.specs.Emits.{AreEmitted}

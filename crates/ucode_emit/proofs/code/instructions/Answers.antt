@@ -1,6 +1,6 @@
 use Rattle.std.proofs.Common.{sym, subst}
 use Rattle.ssu_ir.specs.View.{labels_view}
-use Rattle.placement.specs.Plan.{plan_view}
+use Rattle.place_plan.specs.Plan.{plan_view}
 use Rattle.ucode_emit.specs.inner.Drafted.{AreDrafted}
 use Rattle.ucode_emit.proofs.Whole.{emitted, placed}
 use Rattle.ucode_emit.proofs.code.instructions.Goals as goal

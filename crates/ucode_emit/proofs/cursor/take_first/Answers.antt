@@ -1,5 +1,5 @@
 use Rattle.std.proofs.Common.{sym, ap, ◌∙◌}
-use Rattle.placement.specs.declared.place.First.{First}
+use Rattle.place_plan.specs.declared.place.First.{First}
 use Rattle.ucode_emit.proofs.Cursored.{cut_some, cut_none, first_value, first_here}
 use Rattle.ucode_emit.proofs.cursor.take_first.Goals as goal
 

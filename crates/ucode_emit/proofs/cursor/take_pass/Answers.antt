@@ -1,5 +1,5 @@
 use Rattle.std.proofs.Common.{sym, ap, ◌∙◌}
-use Rattle.placement.specs.declared.place.Pass.{Pass}
+use Rattle.place_plan.specs.declared.place.Pass.{Pass}
 use Rattle.ucode_emit.proofs.Cursored.{cut_some, cut_none, pass_value, pass_here}
 use Rattle.ucode_emit.proofs.cursor.take_pass.Goals as goal
 

@@ -1,6 +1,6 @@
 use Rattle.std.proofs.Common.{◌≡◌, map, slice_index_or, ap, ◌∙◌}
 use Rattle.ssu_ir.specs.View.{labels_view}
-use Rattle.placement.specs.Plan.{plan_view}
+use Rattle.place_plan.specs.Plan.{plan_view}
 use Rattle.ucode_emit.specs.inner.Walk.{moves_of}
 use Rattle.ucode_emit.proofs.Drafting.{drafted_all, spots_many}
 use Rattle.ucode_emit.proofs.drafted.draft_of.Goals as goal

@@ -1,5 +1,5 @@
 use Rattle.std.proofs.Common.{None}
-use Rattle.placement.specs.Plan.{plan_view}
+use Rattle.place_plan.specs.Plan.{plan_view}
 use Rattle.ucode_emit.specs.Pieces as pieces
 use Rattle.ucode_emit.specs.inner.Given as given
 use Rattle.ucode_emit.proofs.Serving.{copied_here, appended}

@@ -1,6 +1,6 @@
 use Rattle.std.proofs.Common.{◌≡◌, ◌++◌, map, OnOk, subst}
 use Rattle.ssu_ir.specs.Slots.{node_of}
-use Rattle.placement.specs.Plan.{plan_view}
+use Rattle.place_plan.specs.Plan.{plan_view}
 use Rattle.ucode_emit.specs.inner.DraftItems.{draft}
 use Rattle.ucode_emit.proofs.Serving.{given_is, given_can}
 use Rattle.ucode_emit.proofs.piece.push_node.Goals as goal

@@ -1,8 +1,8 @@
 use Rattle.std.proofs.Common.{◌≡◌, ◌++◌, map, ap, sym, ◌∙◌, arith}
 use Rattle.ssu_ir.specs.View.{labels_view}
-use Rattle.placement.specs.declared.place.First.{First}
-use Rattle.placement.specs.declared.place.Pass.{Pass}
-use Rattle.placement.specs.Plan.{plan_view}
+use Rattle.place_plan.specs.declared.place.First.{First}
+use Rattle.place_plan.specs.declared.place.Pass.{Pass}
+use Rattle.place_plan.specs.Plan.{plan_view}
 use Rattle.ssu_liveness.proofs.RowSteps.{on-ok}
 use Rattle.ucode_emit.specs.inner.DraftItems.{draft}
 use Rattle.ucode_emit.specs.inner.Marks.{point_piece}

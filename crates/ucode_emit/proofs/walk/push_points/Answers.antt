@@ -1,9 +1,9 @@
 use Rattle.std.proofs.Common.{ap, sym, subst, length, ◌∙◌, arith}
 use Rattle.ssu_ir.specs.View.{labels_view}
-use Rattle.placement.specs.declared.place.First.{First}
-use Rattle.placement.specs.declared.place.Pass.{Pass}
-use Rattle.placement.specs.Fits.{Rises}
-use Rattle.placement.specs.Plan.{plan_view}
+use Rattle.place_plan.specs.declared.place.First.{First}
+use Rattle.place_plan.specs.declared.place.Pass.{Pass}
+use Rattle.place_plan.specs.Fits.{Rises}
+use Rattle.place_plan.specs.Plan.{plan_view}
 use Rattle.ucode_emit.specs.inner.Marks.{marks}
 use Rattle.ucode_emit.specs.inner.Walk.{moves_of}
 use Rattle.ucode_emit.proofs.Cursored.{served_start, uses_by_marks, cut_start, accesses_rise}

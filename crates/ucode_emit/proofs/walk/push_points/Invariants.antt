@@ -1,6 +1,6 @@
 use Rattle.std.proofs.Common.{drop}
 use Rattle.ssu_ir.specs.View.{labels_view}
-use Rattle.placement.specs.Plan.{plan_view}
+use Rattle.place_plan.specs.Plan.{plan_view}
 use Rattle.ucode_emit.specs.inner.Marks.{marks}
 use Rattle.ucode_emit.specs.inner.Walk.{IsAt, IsDrafted, moves_of}
 use Rattle.ucode_emit.proofs.walk.push_points.Given as goal

@@ -1,6 +1,6 @@
 use Rattle.std.proofs.Common.{map, take}
 use Rattle.std.specs.List.{All}
-use Rattle.zo_proof.specs.Node.{node_contents, IsNodeText}
+use Rattle.zo_cert_tree.specs.Node.{node_contents, IsNodeText}
 use Rattle.zo_cert.proofs.fits.nodes_fit.Given as goal
 
 abbrev pub invariant-loop-node : goal.invariant-loop-node

@@ -1,4 +1,4 @@
-use Rattle.zo_proof.proofs.Duality.{proves_holds}
+use Rattle.zo_cert_tree.proofs.Duality.{proves_holds}
 use Rattle.zo_cert.proofs.laws.proof_holds.Goals as goal
 
 pub returns : goal.returns

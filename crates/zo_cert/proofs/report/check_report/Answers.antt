@@ -1,10 +1,10 @@
 use Rattle.std.proofs.Common.{◌≡◌, ap, sym, subst, rules}
 use Rattle.zo_model.specs.Program.{cost_of, vector, Feasible}
-use Rattle.zo_proof.specs.Certificate.{IsTreeWith, Proves}
+use Rattle.zo_cert_tree.specs.Certificate.{IsTreeWith, Proves}
 use Rattle.zo_cert.specs.Report.{VerdictHolds}
-use Rattle.zo_proof.specs.declared.cert.Claim.TheVariants.{Least, Nothing}
+use Rattle.zo_cert_tree.specs.declared.cert.Claim.TheVariants.{Least, Nothing}
 use Rattle.zo_cert.specs.declared.report.Verdict.TheVariants as verdicts
-use Rattle.zo_proof.proofs.Walk.{proved_shaped}
+use Rattle.zo_cert_tree.proofs.Walk.{proved_shaped}
 use Rattle.zo_cert.proofs.report.check_report.Goals as goal
 
 pub returns-then-feasible-clause-exact : goal.returns-then-feasible-clause-exact

@@ -1,5 +1,5 @@
 use Rattle.std.proofs.Common.{◌∙◌, sym, arith}
-use Rattle.line_text.proofs.NumberLemmas.{decimal_one}
+use Rattle.nv_lines.proofs.NumberLemmas.{decimal_one}
 use Rattle.zo_cert.proofs.report_reader.column_of.Goals as goal
 
 pub returns-then-column-low-clause-none : goal.returns-then-column-low-clause-none

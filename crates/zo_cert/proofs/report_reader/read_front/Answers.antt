@@ -1,6 +1,6 @@
 use Rattle.std.proofs.Common.{codes, arith, refl}
 use Rattle.std.proofs.lemmas.Result.{err_from_is_err_and}
-use Rattle.line_text.proofs.SplitLaws.{Lacks-test}
+use Rattle.nv_lines.proofs.SplitLaws.{Lacks-test}
 use Rattle.zo_model.specs.declared.error.ZoError.TheVariants.{Bad}
 use Rattle.zo_cert.specs.ReportText.{counted_line}
 use Rattle.zo_cert.proofs.ReportLines.{three_lines}

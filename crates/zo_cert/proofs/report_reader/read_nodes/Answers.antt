@@ -3,7 +3,7 @@ use Rattle.std.proofs.lemmas.List.{length-map, map-append, length-append}
 use Rattle.std.proofs.lemmas.Result.{err_from_is_err_and}
 use Rattle.zo_model.specs.inner.LineFault.{cut}
 use Rattle.zo_model.proofs.LineLemmas.{no_line_other}
-use Rattle.zo_proof.specs.Node.{node_contents}
+use Rattle.zo_cert_tree.specs.Node.{node_contents}
 use Rattle.zo_cert.proofs.NodePieces.{HasNodes, one_node_more}
 use Rattle.zo_cert.proofs.report_reader.read_nodes.Goals as goal
 

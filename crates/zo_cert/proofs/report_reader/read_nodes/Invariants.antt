@@ -1,5 +1,5 @@
 use Rattle.std.proofs.Common.{◌≡◌, length, map}
-use Rattle.zo_proof.specs.Node.{node_contents}
+use Rattle.zo_cert_tree.specs.Node.{node_contents}
 use Rattle.zo_cert.proofs.NodePieces.{HasNodes}
 use Rattle.zo_cert.proofs.report_reader.read_nodes.Given as goal
 

@@ -1,9 +1,9 @@
 use Rattle.std.proofs.Common.{◌≡◌, ◌++◌, ◌∷◌, length, map, sym, ap, ◌∙◌, codes, arith, refl}
 use Rattle.std.proofs.lemmas.Result.{err_from_is_err_and}
-use Rattle.line_text.proofs.SplitLaws.{Lacks-test}
+use Rattle.nv_lines.proofs.SplitLaws.{Lacks-test}
 use Rattle.zo_model.proofs.Pieces.{length-map'}
 use Rattle.zo_model.specs.declared.error.ZoError.TheVariants.{Bad}
-use Rattle.zo_proof.specs.Node.{node_contents, node_line}
+use Rattle.zo_cert_tree.specs.Node.{node_contents, node_line}
 use Rattle.zo_cert.specs.ReportText.{counted_line}
 use Rattle.zo_cert.proofs.ReportLines.{tree_lines}
 use Rattle.zo_cert.proofs.StopLemmas.{head_stop, head_weaker, IsTreeHead, zero_line, no_head, nodes_stop}

@@ -4,7 +4,7 @@ use Rattle.std.proofs.lemmas.Result.{err_from_is_err_and}
 use Rattle.zo_model.specs.Contents.{contents}
 use Rattle.zo_model.specs.ProgramText.{program_lines}
 use Rattle.zo_model.proofs.ExactLemmas.{valid_from_contents}
-use Rattle.zo_proof.specs.Node.{node_contents, node_line}
+use Rattle.zo_cert_tree.specs.Node.{node_contents, node_line}
 use Rattle.zo_cert.specs.ReportText.{report_text, counted_line, verdict_lines}
 use Rattle.zo_cert.proofs.ReportLines.{report_spelled}
 use Rattle.zo_cert.proofs.ReportRefusals.{front_refusal, program_refusal}

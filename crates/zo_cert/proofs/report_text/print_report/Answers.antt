@@ -1,6 +1,6 @@
 use Rattle.std.proofs.Common.{map, subst}
 use Rattle.std.specs.List.{All}
-use Rattle.zo_proof.specs.Node.{node_contents, IsNodeText}
+use Rattle.zo_cert_tree.specs.Node.{node_contents, IsNodeText}
 use Rattle.zo_cert.proofs.ReportWhole.{report_fits}
 use Rattle.zo_cert.proofs.report_text.print_report.Goals as goal
 

@@ -1,5 +1,5 @@
 use Rattle.std.proofs.Common.{◌++◌, ◌∷◌, [], ap, ◌∙◌, arith}
-use Rattle.zo_proof.specs.Node.{node_contents, node_line}
+use Rattle.zo_cert_tree.specs.Node.{node_contents, node_line}
 use Rattle.zo_model.proofs.Pieces.{line_more}
 use Rattle.zo_cert.proofs.report_text.push_nodes.Goals as goal
 

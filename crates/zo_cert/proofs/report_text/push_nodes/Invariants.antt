@@ -1,6 +1,6 @@
 use Rattle.std.proofs.Common.{◌≡◌, ◌++◌, map, take}
-use Rattle.line_text.specs.Line.{text_of}
-use Rattle.zo_proof.specs.Node.{node_contents, node_line}
+use Rattle.nv_lines.specs.Line.{text_of}
+use Rattle.zo_cert_tree.specs.Node.{node_contents, node_line}
 use Rattle.zo_cert.proofs.report_text.push_nodes.Given as goal
 
 abbrev pub invariant-loop-node : goal.invariant-loop-node

@@ -1,8 +1,8 @@
 use Rattle.std.proofs.Common.{◌∷◌, [], codes, decimal}
-use Rattle.line_text.specs.Line.{parted}
+use Rattle.nv_lines.specs.Line.{parted}
 use Rattle.zo_model.specs.Program.{cost_of, vector}
 use Rattle.zo_cert.specs.ReportText.{x_line}
-use Rattle.zo_proof.proofs.Written.{piece_as}
+use Rattle.zo_cert_tree.proofs.Written.{piece_as}
 use Rattle.zo_cert.proofs.ReportPieces.{two_line_text, pushed}
 use Rattle.zo_cert.proofs.report_text.push_verdict.Goals as goal
 

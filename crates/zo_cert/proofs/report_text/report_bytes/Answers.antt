@@ -1,9 +1,9 @@
 use Rattle.std.proofs.Common.{◌≡◌, ◌++◌, ◌∷◌, [], length, map, ap, ◌∙◌, codes, arith}
-use Rattle.line_text.specs.Line.{text_of}
+use Rattle.nv_lines.specs.Line.{text_of}
 use Rattle.zo_model.specs.Contents.{contents}
 use Rattle.zo_model.specs.ProgramText.{program_lines, program_text}
 use Rattle.zo_model.proofs.Pieces.{length-map'}
-use Rattle.zo_proof.specs.Node.{node_contents, node_line}
+use Rattle.zo_cert_tree.specs.Node.{node_contents, node_line}
 use Rattle.zo_cert.specs.ReportText.{report_text, counted_line, verdict_lines}
 use Rattle.zo_cert.proofs.ReportPieces.{report_pieces}
 use Rattle.zo_cert.proofs.report_text.report_bytes.Goals as goal

@@ -1,7 +1,7 @@
 use Rattle.std.proofs.Common.{arith}
 use Rattle.std.proofs.lemmas.Int.{ints}
 use Rattle.zo_model.proofs.TermLemmas.{no_colon, term_parts, term_is}
-use Rattle.line_text.proofs.NumberLemmas.{mag_small}
+use Rattle.nv_lines.proofs.NumberLemmas.{mag_small}
 use Rattle.zo_model.proofs.read_text.term_of.Goals as goal
 use Rattle.zo_model.proofs.read_text.term_of.Goals.{then-column-low-via-then-column-low, then-column-low-via-else-column-low+then-columns-column, then-column-low-via-else-column-low+else-columns-column+then-coefficient-eq0}
 

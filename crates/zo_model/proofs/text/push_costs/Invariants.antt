@@ -1,5 +1,5 @@
 use Rattle.std.proofs.Common.{◌≡◌, ◌++◌, map, take}
-use Rattle.line_text.specs.Line.{text_of}
+use Rattle.nv_lines.specs.Line.{text_of}
 use Rattle.zo_model.specs.ProgramText.{cost_line}
 use Rattle.zo_model.proofs.text.push_costs.Given as goal
 

@@ -1,5 +1,5 @@
 use Rattle.std.proofs.Common.{◌≡◌, ◌++◌, ◌∷◌, [], length, map, ap, ◌∙◌, arith}
-use Rattle.line_text.specs.Line.{text_of}
+use Rattle.nv_lines.specs.Line.{text_of}
 use Rattle.zo_model.specs.Contents.{row_contents}
 use Rattle.zo_model.specs.ProgramText.{program_text, columns_line, rows_line, cost_line, row_line}
 use Rattle.zo_model.proofs.Pieces.{join4, program_pieces, length-map'}

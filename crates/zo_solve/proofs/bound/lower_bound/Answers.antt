@@ -1,6 +1,6 @@
 use Rattle.std.proofs.Common.{rules, ◌≡◌, [], ◌∷◌, sym}
-use Rattle.zo_proof.specs.Certificate.{leaf}
-use Rattle.zo_proof.specs.declared.cert.Claim.TheVariants.{Least}
+use Rattle.zo_cert_tree.specs.Certificate.{leaf}
+use Rattle.zo_cert_tree.specs.declared.cert.Claim.TheVariants.{Least}
 use Rattle.zo_solve.proofs.RootLeaf.{root_proves}
 use Rattle.zo_solve.proofs.bound.lower_bound.Goals as goal
 

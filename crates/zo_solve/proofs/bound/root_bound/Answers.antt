@@ -1,7 +1,7 @@
 use Rattle.std.proofs.Common.{arith}
-use Rattle.zo_proof.specs.Certificate.{unfixed}
-use Rattle.zo_proof.specs.declared.cert.Claim.TheVariants.{Least}
-use Rattle.zo_branch.proofs.Close.{plain_closes}
+use Rattle.zo_cert_tree.specs.Certificate.{unfixed}
+use Rattle.zo_cert_tree.specs.declared.cert.Claim.TheVariants.{Least}
+use Rattle.zo_solve_branch.proofs.Close.{plain_closes}
 use Rattle.zo_solve.proofs.bound.root_bound.Goals as goal
 
 pub returns : goal.returns

@@ -1,6 +1,6 @@
 use Rattle.std.proofs.Common.{◌≡◌, ◌≢◌, [], refl, sym, ◌∙◌, ap, subst, arith, rules}
-use Rattle.zo_proof.specs.Certificate.{branches, HasLeft}
-use Rattle.zo_proof.specs.inner.Path.{Pending}
+use Rattle.zo_cert_tree.specs.Certificate.{branches, HasLeft}
+use Rattle.zo_cert_tree.specs.inner.Path.{Pending}
 use Rattle.zo_solve.specs.inner.Search.{LeftsLast}
 use Rattle.zo_solve.proofs.Grow.{left_falls, left_spent, lefts_last_more, measure_falls}
 use Rattle.zo_solve.proofs.Weaker.{begun_first, begun_step, found}

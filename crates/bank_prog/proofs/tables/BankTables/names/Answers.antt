@@ -3,8 +3,8 @@ use Rattle.std.proofs.lemmas.Result.{IfOk-weaker}
 use Rattle.std.specs.declared.vec.Vec.{Vec}
 use Rattle.std.specs.declared.alloc.Global.{Global}
 use Rattle.ssu_ir.specs.View.{labels_view}
-use Rattle.bank_form.specs.declared.column.Column.{Column}
-use Rattle.bank_form.specs.Columns.{Priced, columns}
+use Rattle.bank_prog_form.specs.declared.column.Column.{Column}
+use Rattle.bank_prog_form.specs.Columns.{Priced, columns}
 use Rattle.bank_prog.proofs.tables.BankTables.names.Goals as goal
 
 pub returns : goal.returns

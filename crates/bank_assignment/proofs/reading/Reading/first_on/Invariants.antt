@@ -1,6 +1,0 @@
-use Rattle.std.proofs.Common.{◌≡◌, ℕ, ◌<◌, false}
-use Rattle.bank_assignment.specs.inner.Reading.{says, column_of}
-use Rattle.bank_assignment.proofs.reading.Reading.first_on.Given as goal
-
-abbrev pub invariant-loop-r : goal.invariant-loop-r
-invariant-loop-r l = (j : ℕ) → j < l.r → says l.self (column_of l.family j) ≡ false

@@ -1,8 +1,0 @@
-use Rattle.std.proofs.Common.{◌≡◌, drop}
-use Rattle.bank_assignment.specs.inner.ReadOff.{service_on}
-use Rattle.bank_assignment.specs.inner.Reading.{says}
-use Rattle.bank_assignment.proofs.reading.Reading.service_on.Given as goal
-use Rattle.placement.specs.inner.UseViews.{use_view}
-
-abbrev pub invariant-loop-s : goal.invariant-loop-s
-invariant-loop-s l = service_on (says l.self) (use_view l.u) (drop l.s-index l.services) ≡ service_on (says l.self) (use_view l.u) l.services

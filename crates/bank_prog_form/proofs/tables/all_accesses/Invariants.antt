@@ -1,0 +1,7 @@
+use Rattle.std.proofs.Common.{◌≡◌, ◌++◌, map, drop}
+use Rattle.std.specs.List.{flat_map}
+use Rattle.bank_prog_form.specs.inner.Form.{access_view, part_accesses, summary_view}
+use Rattle.bank_prog_form.proofs.tables.all_accesses.Given as goal
+
+abbrev pub invariant-loop-summary : goal.invariant-loop-summary
+invariant-loop-summary l = map access_view l.all.items ++ flat_map part_accesses (map summary_view (drop l.summary-index l.summaries)) ≡ flat_map part_accesses (map summary_view l.summaries)

@@ -1,0 +1,23 @@
+use Rattle.std.proofs.Common.{◌++◌, map, arith}
+use Rattle.std.specs.HashMap.{get}
+use Rattle.std.specs.List.{flat_map}
+use Rattle.zo_model.specs.Contents.{row_contents}
+use Rattle.bank_prog_form.specs.Program.{same_column, row_of}
+use Rattle.bank_prog_form.specs.Rows as lines
+use Rattle.ssu_ir.specs.View.{labels_view}
+use Rattle.bank_prog_form.proofs.Loops.{adds-more, adds-all}
+use Rattle.bank_prog_rows.proofs.cover.push_argument_covers.Goals as goal
+use Rattle.place_plan.specs.inner.UseViews.{use_view}
+
+pub loop-u-preserved : goal.loop-u-preserved
+loop-u-preserved c =
+    let number = get same_column c.args.numbers.now in
+    adds-more number (lines.argument_cover (labels_view c.args.f.now.ssu.now)) use_view c.args.uses.now c.loop-u.u-index _ c.loop-u.rows.items c.push_argument_cover.new.rows.items
+    (map row_contents c.args.rows.now.items ++ map (row_of number) (flat_map (lines.argument_cover (labels_view c.args.f.now.ssu.now)) (map use_view c.args.uses.now)))
+    (omega arith) c.in_ok-push_argument_cover.ensures c.loop-u.invariant
+
+pub returns : goal.returns
+returns c =
+    let number = get same_column c.args.numbers.now in
+    adds-all number (lines.argument_cover (labels_view c.args.f.now.ssu.now)) use_view c.args.uses.now c.loop-u.u-index c.loop-u.rows.items
+    (map row_contents c.args.rows.now.items ++ map (row_of number) (flat_map (lines.argument_cover (labels_view c.args.f.now.ssu.now)) (map use_view c.args.uses.now))) (omega arith) c.loop-u.invariant

@@ -1,9 +1,0 @@
-use Rattle.std.proofs.Common.{arith}
-use Rattle.code_kinds.specs.Kinds.{cost_of}
-use Rattle.code_kinds.proofs.Costs.{cost-done, even-cost}
-use Rattle.code_kinds.proofs.counts.counts_of.Goals as goal
-
-pub returns-clause-cost : goal.returns-clause-cost
-returns-clause-cost c = λ starts.
-    even-cost c.args.list.now starts (cost_of c.loop-i.counts)
-    (cost-done c.args.list.now c.loop-i.i-index (cost_of c.loop-i.counts) (omega arith) c.loop-i.invariant.2)

@@ -1,0 +1,153 @@
+//! The part of a faulty expression, declaration or statement that is at fault.
+
+use diag_syntax::place::Place;
+use nv_ast::Span;
+use nv_lines::{Message, part};
+use nv_text::{MOST_BYTES, Token, tokens};
+use std::alloc::Global;
+
+/// The part of a fault's span that is at fault, as far as the kind tells it.
+pub fn narrowed(alloc: Global, out: &mut Message, bytes: &[u8], kind: u8, span: Span) -> Span {
+    let front = part(bytes, 0, span.after as usize);
+    if front.len() > MOST_BYTES {
+        return span;
+    }
+    match tokens(alloc, front) {
+        Ok(found) => {
+            let narrow = narrow(front, &found, kind, span);
+            drop(found);
+            narrow
+        }
+        Err(_) => {
+            out.fail();
+            span
+        }
+    }
+}
+
+// The same, with the tokens up to the span's end.
+fn narrow(bytes: &[u8], found: &[Token], kind: u8, span: Span) -> Span {
+    let first = Place::at(bytes, found, span.first as usize);
+    let last = Place::at(bytes, found, span.after as usize);
+    let some = match kind {
+        2 => declared_name(&first),
+        4 => faulty_size(&first, found.len()),
+        9 | 13 | 16 | 17 => pattern(&first, &last),
+        3 => argument_of(&first, &["unpack", "pack"]),
+        11 => Some(first.span(0)),
+        15 | 21 => Some(last.span(1)),
+        19 => argument_of(&first, &["sram", "sdram", "scratch"]),
+        23 => bool_parameter(&first, found.len()),
+        _ => None,
+    };
+    some.unwrap_or(span)
+}
+
+// The name that is declared.
+fn declared_name(first: &Place) -> Option<Span> {
+    if first.is_among(0, &["layout", "exception"]) {
+        return Some(first.later(1).span(0));
+    }
+    Some(first.span(0))
+}
+
+// What stands in the brackets after one of these words.
+fn argument_of(first: &Place, words: &[&str]) -> Option<Span> {
+    let second = first.later(1);
+    if first.is_among(0, words) && second.is(0, "[") {
+        return Some(first.later(2).span(0));
+    }
+    None
+}
+
+// The first field or gap with no bits or too many.
+fn faulty_size(first: &Place, count: usize) -> Option<Span> {
+    for n in first.index()..count {
+        let place = first.moved(n);
+        if place.is(1, ":") && place.is_number(0) && !place.is_size(32) {
+            return Some(joined(place.span(2), place.span(0)));
+        }
+        if place.is(1, "{") && place.is_number(0) && !place.is_size(1024) {
+            return Some(place.span(0));
+        }
+    }
+    None
+}
+
+// From one span to another.
+fn joined(one: Span, other: Span) -> Span {
+    Span {
+        first: one.first,
+        after: other.after,
+    }
+}
+
+// The pattern of a `let`, the head of a handler, or the name of an exception.
+fn pattern(first: &Place, last: &Place) -> Option<Span> {
+    match first.text(0) {
+        b"let" => before_sign(first, last.index()),
+        b"try" => handler(first, last.index()),
+        b"raise" => Some(first.later(1).span(0)),
+        _ => None,
+    }
+}
+
+// What stands between a `let` and its `=`.
+fn before_sign(first: &Place, count: usize) -> Option<Span> {
+    for n in first.index()..count {
+        let place = first.moved(n);
+        if place.is(0, "=") {
+            return Some(joined(first.later(1).span(0), place.span(1)));
+        }
+    }
+    None
+}
+
+// The head of the handler of a `try`: the last one in it that stands in no brackets.
+fn handler(first: &Place, count: usize) -> Option<Span> {
+    let mut depth: usize = 0;
+    let mut head = None;
+    for n in first.index()..count {
+        let place = first.moved(n);
+        if place.is_among(0, &["{", "(", "["]) {
+            depth = depth.saturating_add(1);
+        } else if place.is_among(0, &["}", ")", "]"]) {
+            depth = depth.saturating_sub(1);
+        } else if depth == 0 && place.is(0, "handle") {
+            head = Some(place);
+        }
+    }
+    match head {
+        Some(place) => Some(joined(place.span(0), after_patterns(&place, count))),
+        None => None,
+    }
+}
+
+// The bracket that ends the patterns of a handler.
+fn after_patterns(head: &Place, count: usize) -> Span {
+    for n in head.index()..count {
+        let place = head.moved(n);
+        if place.is(0, "]") {
+            return place.span(0);
+        }
+    }
+    head.span(0)
+}
+
+// The first parameter of a head that has a bool.
+fn bool_parameter(first: &Place, count: usize) -> Option<Span> {
+    let mut name = first.span(0);
+    for n in first.index()..count {
+        let place = first.moved(n);
+        if place.is_parameter() {
+            name = place.span(0);
+        }
+        if place.is(0, "bool") {
+            return Some(joined(name, place.span(0)));
+        }
+        if place.is(0, "]") && place.later(1).is(0, ":") {
+            return None;
+        }
+    }
+    None
+}

@@ -1,7 +1,0 @@
-use Rattle.std.proofs.Common.{subst}
-use Rattle.flat_values.specs.inner.Bounded.{AreOnce}
-use Rattle.flat_values.proofs.NamedOnce.{named-once}
-use Rattle.flat_values.proofs.names.Names.get.Goals as goal
-
-pub returns-clause-once : goal.returns-clause-once
-returns-clause-once c = subst AreOnce c.self.view_is (named-once c.self.inside.entries.keys c.as_slice.ensures.unique)

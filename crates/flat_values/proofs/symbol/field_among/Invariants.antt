@@ -1,7 +1,0 @@
-use Rattle.std.proofs.Common.{◌≡◌}
-use Rattle.flat_values.specs.inner.Symbols.{field_named}
-use Rattle.flat_values.specs.inner.View.{list_named_symbols}
-use Rattle.flat_values.proofs.symbol.field_among.Given as goal
-
-abbrev pub invariant-loop-field : goal.invariant-loop-field
-invariant-loop-field l = field_named l.x (list_named_symbols l.field-iterator.rest.items) ≡ field_named l.x (list_named_symbols l.fn.fields.items)

@@ -1,6 +1,0 @@
-use Rattle.std.specs.Cmp.Lexicographic.{told_text}
-use Rattle.line_text.proofs.LineLemmas.{name_next}
-use Rattle.line_text.proofs.lines.Parts.next_is.Goals as goal
-
-pub returns-in-Some : goal.returns-in-Some
-returns-in-Some c = name_next _ _ c.in-Some.part.now _ _ c.in-Some.ensures (told_text _ _ _ c.eq.ensures)

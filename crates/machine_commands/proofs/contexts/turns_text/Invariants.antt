@@ -1,7 +1,0 @@
-use Rattle.std.proofs.Common.{◌≡◌, ◌++◌, drop}
-use Rattle.line_text.specs.Line.{text_of}
-use Rattle.machine_commands.specs.Scheduled.{context_lines}
-use Rattle.machine_commands.proofs.contexts.turns_text.Given as goal
-
-abbrev pub invariant-loop-i : goal.invariant-loop-i
-invariant-loop-i l = l.out.items ++ text_of (context_lines l.i (drop l.i l.contexts)) ≡ text_of (context_lines 0 l.contexts)

@@ -1,0 +1,5 @@
+use Rattle.std.proofs.Common.{◌≡◌}
+use Rattle.nova_actions.proofs.testing.test.Given as goal
+
+abbrev pub invariant-loop-path : goal.invariant-loop-path
+invariant-loop-path g l = g.F.Files.held l.files ≡ g.F.Files.held l.fn.files

@@ -1,0 +1,260 @@
+//! The command `build`.
+ghost use Rattle.std.specs.Prelude.{◌≡◌, ◌≤◌, length};
+ghost use Rattle.novac_words.specs.Limits.{source_limit};
+ghost use Rattle.nova_compile.specs.inner.Parts.{HasParts};
+ghost use Rattle.nova_words.specs.Limits.{AreInLimits};
+ghost use Rattle.zo_cert.specs.Report.{IsValidReport};
+
+use crate::check::fault_form;
+use crate::compiled::{compile, object_in, save_report};
+use nova_compile::{Compiled, no_weights};
+use nova_show::{Answer, Counts, Ending, Saving, add_saving, counts_of, load};
+use nova_words::Build;
+use novac_words::limits::{SOURCE_LIMIT, WEIGHTS_LIMIT};
+use nv_lines::Message;
+use nv_outside::Files;
+use place_weights::Weights;
+use place_weights_text::{WeightsError, read_weights};
+use std::alloc::Global;
+use zo_cert::{Report, Verdict};
+use zo_model::cost;
+use zo_solve::{Order, lower_bound};
+
+/// Compiles a source, says what came of it, and gives the files that are to be saved.
+pub fn build<F: Files>(
+    alloc: Global,
+    files: &mut F,
+    words: Build,
+    answer: &mut Answer,
+) -> Vec<Saving>
+    requires { AreInLimits words }
+    ensures { F.held files.new ≡ F.held files.old }
+{
+    answer.form = fault_form(words.is_json);
+    let mut savings = Vec::new(alloc);
+    if let Some(object) = object_name(alloc, words, answer) {
+        build_as(alloc, files, words, object.as_str(), &mut savings, answer);
+        drop(object);
+    }
+    savings
+}
+
+fn build_as<F: Files>(
+    alloc: Global,
+    files: &mut F,
+    words: Build,
+    object: &str,
+    savings: &mut Vec<Saving>,
+    answer: &mut Answer,
+)
+    requires { AreInLimits words }
+    ensures { F.held files.new ≡ F.held files.old }
+{
+    if !check_names(words, object, answer) {
+        return;
+    }
+    let Some(source) = load(alloc, files, words.source, SOURCE_LIMIT, answer) else {
+        return;
+    };
+    if let Some(weights) = weights_for(alloc, files, words, answer) {
+        build_source(alloc, words, object, &source, &weights, savings, answer);
+    }
+}
+
+// The name of the object: that of the source with `.obj` in place of `.nova`, where the words don't say it.
+fn object_name(alloc: Global, words: Build, answer: &mut Answer) -> Option<String> {
+    let made = match words.object {
+        Some(name) => name.to_string(alloc),
+        None => match words.source.strip_suffix(".nova") {
+            Some(stem) => format!(in alloc; "{stem}.obj"),
+            None => {
+                let source = words.source;
+                format!(in alloc; "{source}.obj")
+            }
+        },
+    };
+    match made {
+        Ok(name) => Some(name),
+        Err(_) => {
+            answer.fail();
+            None
+        }
+    }
+}
+
+// Refuses an output that is an input or the other output too.
+fn check_names(words: Build, object: &str, answer: &mut Answer) -> bool {
+    if words.source == "-" && words.object.is_none() {
+        return refuse(answer, "a source from the standard input wants `-o OBJ`");
+    }
+    let report = words.report.unwrap_or("");
+    let weights = words.weights.unwrap_or("");
+    if object.is_empty() || words.source.is_empty() {
+        refuse(answer, "the name of a file is empty")
+    } else if object == report {
+        refuse(answer, "object and report have one name")
+    } else if object != "-" && (object == words.source || object == weights) {
+        refuse(answer, "the object would replace an input")
+    } else if report != "-"
+        && (report == words.source || report == weights)
+        && words.report.is_some()
+    {
+        refuse(answer, "the report would replace an input")
+    } else {
+        true
+    }
+}
+
+fn refuse(answer: &mut Answer, text: &str) -> bool {
+    answer.fault("nova", text);
+    answer.ending = Ending::BadWords;
+    false
+}
+
+// The weights that the words name.
+fn weights_for<F: Files>(
+    alloc: Global,
+    files: &mut F,
+    words: Build,
+    answer: &mut Answer,
+) -> Option<Weights>
+    ensures { F.held files.new ≡ F.held files.old }
+{
+    let Some(name) = words.weights else {
+        return Some(no_weights(alloc));
+    };
+    let text = load(alloc, files, name, WEIGHTS_LIMIT, answer)?;
+    match read_weights(alloc, &text) {
+        Ok(weights) => return Some(weights),
+        Err(WeightsError::NoMemory) => answer.fail(),
+        Err(WeightsError::Bad(line)) => {
+            answer.line_fault(
+                name,
+                line,
+                "the line isn't one of a weights text (status 21)",
+            )
+        }
+    }
+    None
+}
+
+fn build_source(
+    alloc: Global,
+    words: Build,
+    object: &str,
+    source: &[u8],
+    weights: &Weights,
+    savings: &mut Vec<Saving>,
+    answer: &mut Answer,
+)
+    requires words { AreInLimits words }
+    requires text { length source.now ≤ source_limit }
+{
+    if let Some(compiled) = compile(alloc, words, source, weights, savings, answer) {
+        save_both(alloc, words, object, source, compiled, savings, answer);
+    }
+}
+
+// Saves report and object, and says what they are.
+fn save_both(
+    alloc: Global,
+    words: Build,
+    object: &str,
+    source: &[u8],
+    compiled: Compiled,
+    savings: &mut Vec<Saving>,
+    answer: &mut Answer,
+)
+    requires text { length source.now ≤ source_limit }
+    requires parts { HasParts compiled }
+{
+    let counts = counts_of(compiled.built.code.list());
+    let mut text = Message::new(alloc);
+    push_summary(alloc, &mut text, &compiled.built.report, counts);
+    save_report(alloc, words, &compiled.built.report, savings, answer);
+    if let Some(bytes) = object_in(alloc, source, compiled, answer) {
+        push_text(object, words.report == Some("-"), &text, answer);
+        add_saving(alloc, savings, object, bytes, answer);
+    }
+}
+
+// A text goes to the standard output, unless a file does.
+fn push_text(object: &str, has_report: bool, text: &Message, answer: &mut Answer) {
+    if object == "-" || has_report {
+        answer.err.message_text(text)
+    } else {
+        answer.out.put(object);
+        answer.out.put(": ");
+        answer.out.message_text(text)
+    }
+}
+
+/// Appends what code and banks come to.
+pub fn push_summary(alloc: Global, out: &mut Message, report: &Report, counts: Counts)
+    requires { IsValidReport report.now }
+{
+    out.counted(counts.all, "instruction");
+    out.put(", moves between banks cost ");
+    out.number(cost(&report.z, &report.x));
+    push_verdict(alloc, out, report);
+    out.line("");
+    out.put("  of these ");
+    out.counted(counts.between, "move");
+    out.put(" between banks, ");
+    out.counted(counts.within, "move");
+    out.put(" within a bank, ");
+    out.counted(counts.literals, "literal");
+    out.put(", ");
+    out.counted(counts.spills, "spill");
+    out.line("")
+}
+
+// Whether a cheaper choice of banks is possible.
+fn push_verdict(alloc: Global, out: &mut Message, report: &Report)
+    requires { IsValidReport report.now }
+{
+    match report.verdict {
+        Verdict::Optimal => out.put(", optimal"),
+        Verdict::Feasible => push_above(alloc, out, report),
+        Verdict::Infeasible | Verdict::Spent => {}
+    }
+}
+
+// By how much it may be cheaper, by a bound that multipliers of the rows prove.
+fn push_above(alloc: Global, out: &mut Message, report: &Report)
+    requires { IsValidReport report.now }
+{
+    match least_cost(alloc, report) {
+        Some(least) => {
+            out.put(", at most ");
+            out.number(cost(&report.z, &report.x).saturating_sub(least));
+            out.put(" above the least")
+        }
+        None => out.fail(),
+    }
+}
+
+// A cost that no choice of banks is below; none for memory exhaustion.
+fn least_cost(alloc: Global, report: &Report) -> Option<u64>
+    requires { IsValidReport report.now }
+{
+    let Ok(order) = Order::new(alloc, &report.z) else {
+        return None;
+    };
+    let found = least_by(alloc, report, &order);
+    drop(order);
+    found
+}
+
+fn least_by(alloc: Global, report: &Report, order: &Order) -> Option<u64>
+    requires { IsValidReport report.now }
+{
+    match lower_bound(alloc, &report.z, order) {
+        Ok(bounded) => {
+            let least = bounded.least;
+            drop(bounded);
+            Some(least)
+        }
+        Err(_) => None,
+    }
+}

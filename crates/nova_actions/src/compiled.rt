@@ -1,0 +1,217 @@
+//! Sources, compiled.
+ghost use Rattle.std.specs.Prelude.{◌≤◌, length, IfSome};
+ghost use Rattle.nv_ast.specs.TypedView.{typed_program};
+ghost use Rattle.nv_text.specs.Limits.{source_limit};
+ghost use Rattle.nova_compile.specs.Naming.{source_exceptions};
+ghost use Rattle.nova_compile.specs.inner.Parts.{HasParts, HasValidReport};
+ghost use Rattle.nova_words.specs.Limits.{AreInLimits};
+ghost use Rattle.uc_object.specs.Object.{IsTaggedObject};
+ghost use Rattle.zo_cert.specs.Report.{IsValidReport};
+
+use diag_source::push_fault_as;
+use diag_text::finding::Code;
+use nova_back::Built;
+use nova_compile::{CompileError, Compiled, compile_text, no_weights, object_of};
+use nova_show::{Answer, Ending, Saving, add_saving};
+use nova_words::Build;
+use nv_base::NoMemory;
+use nv_text::MOST_BYTES;
+use place_weights::Weights;
+use std::alloc::Global;
+use zo_cert::{Report, print_report};
+
+// How a source is compiled that is only run or listed.
+const SLOTS: u32 = 128;
+
+const BUDGET: u32 = 2_000;
+
+const STORE: u32 = 1_048_576;
+
+/// The object of a source, compiled as `build` does it without options; where there is none, the answer says why.
+pub fn object_of_source(
+    alloc: Global,
+    name: &str,
+    bytes: &[u8],
+    answer: &mut Answer,
+) -> Option<Vec<u8>> {
+    if bytes.len() > MOST_BYTES {
+        push_refused(alloc, name, bytes, answer);
+        return None;
+    }
+    let ones = no_weights(alloc);
+    let mut none = Vec::new(alloc);
+    let compiled = compile(alloc, words_for(name), bytes, &ones, &mut none, answer)?;
+    object_in(alloc, bytes, compiled, answer)
+}
+
+/// The words of `build` without an option, but for the length of the code.
+pub fn words_for(name: &str) -> Build<'_>
+    ensures { AreInLimits result }
+{
+    Build {
+        source: name,
+        object: None,
+        report: None,
+        weights: None,
+        slots: SLOTS,
+        budget: BUDGET,
+        store: STORE,
+        is_json: false,
+    }
+}
+
+/// The code of a source and the report on its banks; where there is none, the answer says why, and the report that says so is
+/// saved if it is asked for.
+pub fn compile(
+    alloc: Global,
+    words: Build,
+    bytes: &[u8],
+    w: &Weights,
+    savings: &mut Vec<Saving>,
+    answer: &mut Answer,
+) -> Option<Compiled>
+    requires words { AreInLimits words }
+    requires text { length bytes.now ≤ source_limit }
+    ensures { IfSome result HasParts }
+{
+    match compile_text(alloc, bytes, words.slots, words.budget, words.store, w) {
+        Ok(compiled) => Some(compiled),
+        Err(error) => {
+            push_error(alloc, words, bytes, error, savings, answer);
+            None
+        }
+    }
+}
+
+// Says why a source isn't compiled, and saves the report that says so if it is asked for.
+fn push_error(
+    alloc: Global,
+    words: Build,
+    bytes: &[u8],
+    error: CompileError,
+    savings: &mut Vec<Saving>,
+    answer: &mut Answer,
+)
+    requires { HasValidReport error }
+{
+    match error {
+        CompileError::NoMemory => answer.fail(),
+        CompileError::Text(_) | CompileError::Fault(_, _) => {
+            push_refused(alloc, words.source, bytes, answer)
+        }
+        CompileError::TooLarge(size) => push_large(alloc, words.source, bytes, size, answer),
+        CompileError::StoreFull(length) => push_store(words, length, answer),
+        CompileError::Infeasible(report) => {
+            push_slots(words, answer);
+            save_report(alloc, words, &report, savings, answer);
+            drop(report)
+        }
+        CompileError::Spent(report) => {
+            push_budget(words, answer);
+            save_report(alloc, words, &report, savings, answer);
+            drop(report)
+        }
+    }
+}
+
+/// The object of compiled code, by the call that novac makes.
+pub fn object_in(
+    alloc: Global,
+    bytes: &[u8],
+    compiled: Compiled,
+    answer: &mut Answer,
+) -> Option<Vec<u8>>
+    requires text { length bytes.now ≤ source_limit }
+    requires parts { HasParts compiled }
+    ensures { IfSome result (λ object. IsTaggedObject object.items (record { code = compiled.built.code; exceptions = source_exceptions bytes.now (typed_program compiled.typed); starts = compiled.built.starts.items })) }
+{
+    let Compiled { typed, built } = compiled;
+    let Built {
+        ssu,
+        report,
+        code,
+        starts,
+    } = built;
+    let object = object_of(alloc, bytes, typed.program(), code, starts);
+    drop(typed);
+    drop(ssu);
+    drop(report);
+    match object {
+        Ok(object) => Some(object),
+        Err(NoMemory) => {
+            answer.fail();
+            None
+        }
+    }
+}
+
+/// Saves a report under the name that the words give, if they do.
+pub fn save_report(
+    alloc: Global,
+    words: Build,
+    report: &Report,
+    savings: &mut Vec<Saving>,
+    answer: &mut Answer,
+)
+    requires { IsValidReport report.now }
+{
+    if let Some(name) = words.report {
+        match print_report(alloc, report) {
+            Ok(bytes) => add_saving(alloc, savings, name, bytes, answer),
+            Err(_) => answer.fail(),
+        }
+    }
+}
+
+/// Says why a source is refused.
+pub fn push_refused(alloc: Global, name: &str, bytes: &[u8], answer: &mut Answer) {
+    if push_fault_as(alloc, &mut answer.err, answer.form, name, bytes) {
+        answer.ending = Ending::Failed;
+    }
+}
+
+// The expanded size of a program is told as a fault of the source; that of its 0-1 program here.
+fn push_large(alloc: Global, name: &str, bytes: &[u8], size: u64, answer: &mut Answer) {
+    if push_fault_as(alloc, &mut answer.err, answer.form, name, bytes) {
+        answer.ending = Ending::Failed;
+        return;
+    }
+    let mut it = answer.finding();
+    it.title.put("the 0-1 program of the banks has ");
+    it.title.number(size);
+    it.title
+        .put(" columns or rows, and at most 67108864 are allowed");
+    it.code = Code::Named("status 8");
+    it.help.line("Fewer values that are live at once, or smaller functions, make it smaller.");
+    answer.push(name, it)
+}
+
+fn push_slots(words: Build, answer: &mut Answer) {
+    let mut it = answer.finding();
+    it.title.put("no choice of banks is possible with ");
+    it.title.counted(u64::from(words.slots), "slot");
+    it.code = Code::Named("status 9");
+    it.help.line("Allow more by `--slots N`, up to 128, or have fewer values live at once.");
+    answer.push(words.source, it)
+}
+
+fn push_budget(words: Build, answer: &mut Answer) {
+    let mut it = answer.finding();
+    it.title.put("no choice of banks was found in a search of so many branches: ");
+    it.title.number(u64::from(words.budget));
+    it.code = Code::Named("status 10");
+    it.help.line("Allow more by `--budget N`, up to 1000000, or more slots by `--slots N`.");
+    answer.push(words.source, it)
+}
+
+fn push_store(words: Build, length: u32, answer: &mut Answer) {
+    let mut it = answer.finding();
+    it.title.put("the code has ");
+    it.title.number(u64::from(length));
+    it.title.put(" instructions, and at most ");
+    it.title.number(u64::from(words.store));
+    it.title.put(" are allowed");
+    it.code = Code::Named("status 11");
+    it.help.line("Allow more by `--store N`, up to 1048576.");
+    answer.push(words.source, it)
+}

@@ -1,0 +1,102 @@
+//! The sources of a folder and their memory texts.
+
+use crate::folders::{FolderError, Folders};
+use nova_show::Answer;
+use std::alloc::Global;
+
+/// A folder, and the names in it in their order.
+#[derive(Drop)]
+pub struct Folder<'a> {
+    path: &'a str,
+    pub names: Vec<String>,
+}
+
+/// The folder of this path; where it can't be read, the answer says so.
+pub fn folder_at<'a, D: Folders>(
+    alloc: Global,
+    folders: &mut D,
+    path: &'a str,
+    answer: &mut Answer,
+) -> Option<Folder<'a>> {
+    let shown = if path.is_empty() { "." } else { path };
+    match folders.names(alloc, shown) {
+        Ok(names) => sorted(path, names, answer),
+        Err(FolderError::NoMemory) => {
+            answer.fail();
+            None
+        }
+        Err(FolderError::Unread) => {
+            answer.fault(
+                shown,
+                "this is neither a source, whose name ends in `.nova`, nor a folder that can be read",
+            );
+            None
+        }
+    }
+}
+
+fn sorted<'a>(path: &'a str, names: Vec<String>, answer: &mut Answer) -> Option<Folder<'a>> {
+    let mut names = names;
+    if names.sort().is_err() {
+        answer.fail();
+        return None;
+    }
+    Some(Folder { path, names })
+}
+
+impl<'a> Folder<'a> {
+    /// The path of a file of this name in the folder.
+    pub fn path_of(&self, alloc: Global, name: &str, answer: &mut Answer) -> Option<String> {
+        let path = self.path;
+        let made = if path.is_empty() || path.ends_with('/') {
+            format!(in alloc; "{path}{name}")
+        } else {
+            format!(in alloc; "{path}/{name}")
+        };
+        match made {
+            Ok(path) => Some(path),
+            Err(_) => {
+                answer.fail();
+                None
+            }
+        }
+    }
+
+    /// Whether a file has this name.
+    pub fn has(&self, name: &str) -> bool {
+        for other in self.names.iter() {
+            if other.as_str() == name {
+                return true;
+            }
+        }
+        false
+    }
+
+    /// Whether a name is that of a memory text for the source `STEM.nova`: it begins with STEM and ends in `.mem`, and no other
+    /// source with a longer name has it.
+    pub fn is_memory_of(&self, stem: &str, name: &str) -> bool {
+        match name.strip_suffix(".mem") {
+            Some(base) => base.starts_with(stem) && !self.has_nearer(stem, base),
+            None => false,
+        }
+    }
+
+    fn has_nearer(&self, stem: &str, base: &str) -> bool {
+        for other in self.names.iter() {
+            if let Some(other) = other.as_str().strip_suffix(".nova") {
+                if other.len() > stem.len() && base.starts_with(other) {
+                    return true;
+                }
+            }
+        }
+        false
+    }
+}
+
+/// A path as that of its folder, which is empty where it has none, and the name in it.
+pub fn split_path(path: &str) -> (&str, &str) {
+    match path.rsplit_once('/') {
+        Some((folder, name)) => (if folder.is_empty() { "/" } else { folder }, name),
+        None => ("", path),
+    }
+}

@@ -1,0 +1,163 @@
+//! The command `run`.
+ghost use Rattle.std.specs.Prelude.{◌≡◌, ◌≤◌, length};
+ghost use Rattle.novac_words.specs.Limits.{object_limit, memory_limit};
+
+use crate::compiled::object_of_source;
+use nova_show::{
+    Answer, Ending, Saving, Visits, load, push_profile, push_refusal, save_counts, visits_of,
+};
+use nova_words::Run;
+use novac_machine::run_bytes;
+use novac_words::limits::{MEMORY_LIMIT, OBJECT_LIMIT};
+use novac_words::{Reply, Status};
+use nv_outside::Files;
+use std::alloc::Global;
+use uc_object::{Object, decode};
+
+/// Runs an object, or the code of a source, on a memory text, says how many steps it took, and gives the files that are to be
+/// saved.
+pub fn simulate_program<F: Files>(
+    alloc: Global,
+    files: &mut F,
+    words: Run,
+    answer: &mut Answer,
+) -> Vec<Saving>
+    requires steps { words.steps ≤ 100000000 }
+    ensures held { F.held files.new ≡ F.held files.old }
+{
+    let mut savings = Vec::new(alloc);
+    simulate_on(alloc, files, words, &mut savings, answer);
+    savings
+}
+
+fn simulate_on<F: Files>(
+    alloc: Global,
+    files: &mut F,
+    words: Run,
+    savings: &mut Vec<Saving>,
+    answer: &mut Answer,
+)
+    requires steps { words.steps ≤ 100000000 }
+    ensures held { F.held files.new ≡ F.held files.old }
+{
+    if !check_names(words, answer) {
+        return;
+    }
+    let Some(program) = load(alloc, files, words.program, OBJECT_LIMIT, answer) else {
+        return;
+    };
+    let Some(memory) = load(alloc, files, words.memory, MEMORY_LIMIT, answer) else {
+        return;
+    };
+    if let Some(object) = object_for(alloc, words.program, program, answer) {
+        run_object(alloc, words, &object, &memory, savings, answer);
+    }
+}
+
+// Refuses to save over an input.
+fn check_names(words: Run, answer: &mut Answer) -> bool {
+    match words.counts {
+        Some(name) if name == words.program || name == words.memory || name.is_empty() => {
+            answer.fault("nova", "`--counts` would replace an input, or has no name");
+            answer.ending = Ending::BadWords;
+            false
+        }
+        _ => true,
+    }
+}
+
+/// The bytes of an object, which these are or which is that of the source that they are.
+pub fn object_for(
+    alloc: Global,
+    name: &str,
+    bytes: Vec<u8>,
+    answer: &mut Answer,
+) -> Option<Vec<u8>> {
+    if bytes.starts_with(b"NVO") {
+        Some(bytes)
+    } else {
+        object_of_source(alloc, name, &bytes, answer)
+    }
+}
+
+/// Runs the code of the object that the bytes are on a memory text, and says how many steps it took.
+pub fn run_object(
+    alloc: Global,
+    words: Run,
+    object: &[u8],
+    memory: &[u8],
+    savings: &mut Vec<Saving>,
+    answer: &mut Answer,
+)
+    requires steps { words.steps ≤ 100000000 }
+    requires memory { length memory.now ≤ memory_limit }
+{
+    if object.len() as u64 > OBJECT_LIMIT {
+        return answer.fault(words.program, "the object is too long");
+    }
+    match run_bytes(alloc, object, memory, u64::from(words.steps)) {
+        Ok(reply) => {
+            push_reply(reply, answer);
+            push_visits(alloc, words, object, memory, savings, answer)
+        }
+        Err(refusal) => push_refusal(words.program, words.memory, refusal, answer),
+    }
+}
+
+// The text of an outcome; only a run that ended is done.
+fn push_reply(reply: Reply, answer: &mut Answer) {
+    let Reply { status, text } = reply;
+    answer.out.bytes(&text);
+    if status != Status::Done {
+        answer.ending = Ending::Failed;
+    }
+}
+
+// What the same run comes to, step by step.
+fn push_visits(
+    alloc: Global,
+    words: Run,
+    object: &[u8],
+    memory: &[u8],
+    savings: &mut Vec<Saving>,
+    answer: &mut Answer,
+)
+    requires object { length object.now ≤ object_limit }
+    requires memory { length memory.now ≤ memory_limit }
+{
+    let Ok(object) = decode(alloc, object) else {
+        return answer.fail();
+    };
+    if let Some(visits) = visits_of(alloc, object.code(), memory, words.steps) {
+        push_all(alloc, words, &object, &visits, savings, answer);
+    } else {
+        answer.fail();
+    }
+    drop(object)
+}
+
+fn push_all(
+    alloc: Global,
+    words: Run,
+    object: &Object,
+    visits: &Visits,
+    savings: &mut Vec<Saving>,
+    answer: &mut Answer,
+) {
+    push_steps(words, visits.steps, answer);
+    if words.has_profile {
+        push_profile(alloc, &mut answer.err, object, visits);
+    }
+    if let Some(name) = words.counts {
+        save_counts(alloc, name, object, visits, savings, answer);
+    }
+}
+
+fn push_steps(words: Run, steps: u32, answer: &mut Answer) {
+    answer.err.counted(u64::from(steps), "step");
+    if steps < words.steps {
+        answer.err.line("")
+    } else {
+        answer.err.line(", which are all that were allowed (`--steps N` allows more)")
+    }
+}

@@ -1,0 +1,123 @@
+//! The top call.
+ghost use Rattle.std.specs.Prelude.{◌≡◌, []};
+ghost use Rattle.nova_words.specs.Limits.{HasLimits, MaySave, Saves};
+
+use crate::build::build;
+use crate::check::check;
+use crate::folders::Folders;
+use crate::forms::print_forms;
+use crate::listing::list;
+use crate::page::make_page;
+use crate::simulation::simulate_program;
+use crate::testing::test;
+use nova_show::{
+    Answer, Ending, Saving, VERSION, print, push_help, push_page_on, push_word_fault, save_all,
+};
+use nova_words::{Command, command_of};
+use nv_base::NoMemory;
+use nv_lines::Message;
+use nv_outside::{Files, Sink};
+use std::alloc::Global;
+
+/// Does what the words of a command line say, which are those after the program's name. Prints on `out` what the command is
+/// asked for, and on `err` faults and remarks.
+pub fn run<F: Files, D: Folders, K: Sink, E: Sink>(
+    alloc: Global,
+    words: &Vec<String>,
+    files: &mut F,
+    folders: &mut D,
+    out: &mut K,
+    err: &mut E,
+) -> Ending
+    // Only `build`, `run` and `page` change files.
+    ensures { (MaySave words.now.items → ⊥) → F.held files.new ≡ F.held files.old }
+{
+    let mut answer = Answer::new(alloc);
+    let savings = savings_of(alloc, words, files, folders, &mut answer);
+    finish(answer, &savings, files, out, err)
+}
+
+// Does what the words say, but for saving and printing.
+fn savings_of<F: Files, D: Folders>(
+    alloc: Global,
+    words: &[String],
+    files: &mut F,
+    folders: &mut D,
+    answer: &mut Answer,
+) -> Vec<Saving>
+    ensures held { F.held files.new ≡ F.held files.old }
+    ensures none { (MaySave words.now → ⊥) → result.items ≡ [] }
+{
+    match command_of(alloc, words) {
+        Ok(command) => perform(alloc, files, folders, command, answer),
+        Err(fault) => {
+            push_word_fault(alloc, fault, answer);
+            Vec::new(alloc)
+        }
+    }
+}
+
+fn perform<F: Files, D: Folders>(
+    alloc: Global,
+    files: &mut F,
+    folders: &mut D,
+    command: Command,
+    answer: &mut Answer,
+) -> Vec<Saving>
+    requires limits { HasLimits command }
+    ensures held { F.held files.new ≡ F.held files.old }
+    ensures none { (Saves command.entry → ⊥) → result.items ≡ [] }
+{
+    match command {
+        Command::Build(words) => return build(alloc, files, words, answer),
+        Command::Run(words) => return simulate_program(alloc, files, words, answer),
+        Command::Page(words) => return make_page(alloc, files, words, answer),
+        Command::List(name) => list(alloc, files, name, answer),
+        Command::Forms(words) => print_forms(alloc, files, words, answer),
+        Command::Check(words) => {
+            check(alloc, files, &words, answer);
+            drop(words)
+        }
+        Command::Test(words) => {
+            test(alloc, files, folders, &words, answer);
+            drop(words)
+        }
+        Command::Explain(words) => push_page_on(alloc, words, answer),
+        Command::Help(verb) => push_help(&mut answer.out, verb),
+        Command::Version => answer.out.line(VERSION),
+    }
+    Vec::new(alloc)
+}
+
+// Saves the files, and prints both texts.
+fn finish<F: Files, K: Sink, E: Sink>(
+    answer: Answer,
+    savings: &[Saving],
+    files: &mut F,
+    out: &mut K,
+    err: &mut E,
+) -> Ending
+    ensures { savings.now ≡ [] → F.held files.new ≡ F.held files.old }
+{
+    let (ending, output, remarks) = answer.into_parts();
+    match texts_of(output, remarks) {
+        Ok((output, remarks)) => {
+            let is_done = save_all(savings, files, out, err) && print(out, &output);
+            if print(err, &remarks) && is_done {
+                ending
+            } else {
+                Ending::Failed
+            }
+        }
+        Err(NoMemory) => {
+            let _ = err.put(b"nova: error: out of memory\n");
+            Ending::Failed
+        }
+    }
+}
+
+fn texts_of(output: Message, remarks: Message) -> Result<(Vec<u8>, Vec<u8>), NoMemory> {
+    let output = output.into_bytes()?;
+    let remarks = remarks.into_bytes()?;
+    Ok((output, remarks))
+}

@@ -1,9 +1,0 @@
-use Rattle.std.proofs.Common.{take}
-use Rattle.command_line.specs.inner.Read.{inputs_as}
-use Rattle.nova_commands.specs.inner.Contents.{contents_of}
-use Rattle.nova_commands.proofs.Loads.{HasLoaded}
-use Rattle.nova_commands.proofs.load.load_all.Given as goal
-
-abbrev pub invariant-loop-input : goal.invariant-loop-input
-invariant-loop-input g l =
-    HasLoaded g.F.Files.tells g.F.Files.held g.F.Files.history g.F.Files.load_faults g.F.Files.save_faults l.fn.files l.files (inputs_as (take l.input-index l.inputs)) (contents_of l.contents.items)

@@ -1,5 +1,0 @@
-use Rattle.std.proofs.Common.{◌≡◌}
-use Rattle.nova_door.proofs.testing.test_folder.Given as goal
-
-abbrev pub invariant-loop-name : goal.invariant-loop-name
-invariant-loop-name g l = g.F.Files.held l.files ≡ g.F.Files.held l.fn.files

@@ -1,5 +1,0 @@
-use Rattle.std.proofs.Common.{◌≡◌}
-use Rattle.nova_door.proofs.testing.test_program.Given as goal
-
-abbrev pub invariant-loop-memory : goal.invariant-loop-memory
-invariant-loop-memory g l = g.F.Files.held l.files ≡ g.F.Files.held l.fn.files

@@ -1,0 +1,103 @@
+//! What a command answers.
+
+use diag_text::finding::{Finding, Form, Severity, Source};
+use nv_lines::Message;
+use std::alloc::Global;
+
+/// How a call of the program ended.
+#[derive(Clone, Copy, Debug, PartialEq, Eq)]
+pub enum Ending {
+    /// It did what the words say.
+    Done,
+    /// It was refused, or failed.
+    Failed,
+    /// The words are no command.
+    BadWords,
+}
+
+impl Ending {
+    /// The number that the program ends with.
+    pub fn code(self) -> u8 {
+        match self {
+            Ending::Done => 0,
+            Ending::Failed => 1,
+            Ending::BadWords => 2,
+        }
+    }
+}
+
+/// What a command prints on the standard output, and what on the standard error.
+#[derive(Drop)]
+pub struct Answer {
+    pub ending: Ending,
+    pub out: Message,
+    pub err: Message,
+    /// How faults are printed.
+    pub form: Form,
+    alloc: Global,
+}
+
+impl Answer {
+    /// Nothing yet.
+    pub fn new(alloc: Global) -> Answer {
+        Answer {
+            ending: Ending::Done,
+            out: Message::new(alloc),
+            err: Message::new(alloc),
+            form: Form::Text,
+            alloc,
+        }
+    }
+
+    /// A fault of which nothing is said yet.
+    pub fn finding(&self) -> Finding {
+        Finding::new(self.alloc, Severity::Error)
+    }
+
+    /// Appends a fault of a file.
+    pub fn push(&mut self, name: &str, finding: Finding) {
+        self.ending = Ending::Failed;
+        let source = Source { name, bytes: b"" };
+        finding.push(self.alloc, &mut self.err, self.form, source);
+        drop(finding)
+    }
+
+    /// Appends a fault of a file, of one sentence.
+    pub fn fault(&mut self, name: &str, text: &str) {
+        let mut it = self.finding();
+        it.title.put(text);
+        self.push(name, it)
+    }
+
+    /// Appends a fault of a line of a file.
+    pub fn line_fault(&mut self, name: &str, line: u32, text: &str) {
+        if !self.form.is_text() {
+            return self.line_object(name, line, text);
+        }
+        self.ending = Ending::Failed;
+        self.err.put(name);
+        self.err.put(":");
+        self.err.number(u64::from(line));
+        self.err.put(":1: error: ");
+        self.err.line(text)
+    }
+
+    fn line_object(&mut self, name: &str, line: u32, text: &str) {
+        let mut it = self.finding();
+        it.title.put("line ");
+        it.title.number(u64::from(line));
+        it.title.put(": ");
+        it.title.put(text);
+        self.push(name, it)
+    }
+
+    /// How the call ended, and what it prints.
+    pub fn into_parts(self) -> (Ending, Message, Message) {
+        (self.ending, self.out, self.err)
+    }
+
+    /// Memory ran out.
+    pub fn fail(&mut self) {
+        self.err.fail()
+    }
+}

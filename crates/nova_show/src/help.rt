@@ -1,0 +1,169 @@
+//! The texts of help.
+
+use nova_words::Verb;
+use nv_lines::Message;
+
+/// The version of the program.
+pub const VERSION: &str = "nova 1.0";
+
+/// Appends the commands, each in a line.
+pub fn push_usage(out: &mut Message) {
+    for line in USAGE {
+        out.line(line);
+    }
+}
+
+/// Appends the help on one command, or on all.
+pub fn push_help(out: &mut Message, verb: Option<Verb>) {
+    match verb {
+        None => push_usage(out),
+        Some(Verb::Build) => push_lines(out, &BUILD),
+        Some(Verb::Run) => push_lines(out, &RUN),
+        Some(Verb::List) => push_lines(out, &LIST),
+        Some(Verb::Check) => push_lines(out, &CHECK),
+        Some(Verb::Test) => push_lines(out, &TEST),
+        Some(Verb::Page) => push_lines(out, &PAGE),
+        Some(Verb::Forms) => push_lines(out, &FORMS),
+        Some(Verb::Explain) => push_lines(out, &EXPLAIN),
+        Some(Verb::Help) => out.line(
+            "nova help [COMMAND]: prints the options of a command, or all commands.",
+        ),
+        Some(Verb::Version) => out.line(
+            "nova version: prints the version, as `nova --version` does.",
+        ),
+    }
+}
+
+fn push_lines(out: &mut Message, lines: &[&str]) {
+    for line in lines {
+        out.line(line);
+    }
+}
+
+const USAGE: [&str; 21] = [
+    "nova compiles, runs, tests and explains programs of Nova, a language for packets.",
+    "",
+    "  nova build SRC [-o OBJ] ..     compiles a source and saves its object",
+    "  nova run OBJ-or-SRC MEM ..     runs an object, or the code of a source, on a memory text",
+    "  nova list OBJ-or-SRC           lists code with its labels, moves and spills",
+    "  nova check SRC ..              prints where sources are refused, what may be wrong with them, and how large they are",
+    "  nova test SRC-or-FOLDER ..     runs sources on the memory texts beside them, and compares the outcomes",
+    "  nova page SRC [MEM]            makes a page of HTML on a source and its code",
+    "  nova forms SRC [FORM]          prints the forms between the source and its code",
+    "  nova explain CODE              prints what a refusal means, as `nova explain type 14`",
+    "  nova help [COMMAND]            prints the options of a command",
+    "  nova --version                 prints the version",
+    "",
+    "Options come before or after names, as `--steps 100` or `--steps=100`; after `--` each word is a name.",
+    "As an input `-` is the standard input, as an output the standard output; a file called `-` is written `./-`.",
+    "Faults go to the standard error, as `SRC:LINE:COLUMN: error: ..`.",
+    "",
+    "Status  0  done; of `run`, the run ended; of `test`, all passed",
+    "        1  refused or failed; of `run`, an exception, a fault of an access, or all steps were taken",
+    "        2  the words are no command",
+    "`novac` is the compiler for programs that call it: its words, lines and statuses are fixed.",
+];
+
+const BUILD: [&str; 16] = [
+    "nova build SRC [-o OBJ] [--report FILE] [--slots N] [--budget N] [--store N] [--weights FILE]",
+    "",
+    "Compiles the source SRC, saves the object, and prints how many instructions it has, what its moves between banks cost,",
+    "and whether a choice of banks may be cheaper. `optimal` means that none is. It says nothing of the other instructions.",
+    "",
+    "  -o OBJ           where the object is saved; by default SRC with `.obj` in place of `.nova`",
+    "  --report FILE    saves the report on the banks with its certificate, which `novac check FILE` checks",
+    "  --slots N        words of scratch for spilled values, 0 to 128; by default 128",
+    "  --budget N       branches of the search for banks, 1 to 1000000; by default 2000",
+    "  --store N        instructions of the code, 1 to 1048576; by default 2048",
+    "  --weights FILE   how often each label is entered: moves there cost that much more",
+    "  --json           prints each fault as an object of JSON on a line",
+    "",
+    "A move between banks costs 1, an access to a slot 16, each times the weight of its label, which is 1 by default.",
+    "Two things are printed of the cost: that of the choice of banks, and how many instructions the code has of each kind.",
+    "These may be fewer, since needless ones are removed.",
+];
+
+const RUN: [&str; 12] = [
+    "nova run OBJ-or-SRC MEM [--steps N] [--profile] [--counts FILE]",
+    "",
+    "Runs the code of an object, or of a source compiled as `nova build SRC` does it, on the memories and arguments",
+    "of the memory text MEM. Prints the outcome, and on the standard error how many steps it took.",
+    "",
+    "  --steps N        how many steps it may take, 1 to 100000000; by default 1000000",
+    "  --profile        prints on the standard error how many steps it took in each label, and how often it was entered",
+    "  --counts FILE    saves how often each label was entered: `nova build --weights FILE` of the same source takes",
+    "                   that into account",
+    "",
+    "The status is 0 where the program ended; 1 where it raised an exception that no handler takes, accessed an address",
+    "outside of a memory, or had not ended after all steps.",
+];
+
+const LIST: [&str; 5] = [
+    "nova list OBJ-or-SRC",
+    "",
+    "Lists the code of an object, or of a source compiled as `nova build SRC` does it: the index of each instruction,",
+    "the labels at their starts, and which instructions are moves, literals or accesses to slots. Of a source, each label",
+    "is followed by the lines of the single-use form that its instructions come from.",
+];
+
+const CHECK: [&str; 10] = [
+    "nova check SRC .. [--verbose] [--json]",
+    "",
+    "Prints on the standard error where each source is refused, with line and column, what is wrong and what helps: the",
+    "first type fault of each function. Of a source without a fault it warns of what may be a mistake, as of an unused",
+    "variable, and prints on the standard output how large it is.",
+    "",
+    "  --verbose        prints the sizes of all its parts",
+    "  --json           prints each fault and each warning as an object of JSON on a line, and no sizes",
+    "",
+    "The status is 1 where a source is refused. A warning doesn't change it.",
+];
+
+const TEST: [&str; 13] = [
+    "nova test SRC-or-FOLDER .. [--steps N]",
+    "",
+    "Runs each source NAME.nova on the memory texts NAME*.mem in its folder, by the interpreter and by its compiled code.",
+    "Both have to print the same outcome. Where a memory text X.mem has an outcome text X.out beside it, they have to",
+    "print that. Of a FOLDER each source in it is tested.",
+    "",
+    "  --steps N        how many steps the code, and how many calls the interpreter may take, 1 to 100000000; by default",
+    "                   1000000",
+    "",
+    "Prints a line for each memory text, the first line that differs where one failed, and how many passed and failed.",
+    "A memory text belongs to the source with the longest name that it begins with.",
+    "The status is 0 where all passed, and 1 where one failed, a source is refused, or there is no memory text.",
+    "`novac exec SRC MEM steps=N` prints an outcome text.",
+];
+
+const PAGE: [&str; 11] = [
+    "nova page SRC [MEM] [-o FILE] [--steps N]",
+    "",
+    "Compiles the source SRC as `nova build` does it, and saves a page of HTML that needs no other file: the source, its sizes,",
+    "its labels as a graph, how many values are live at each point, the banks of each value, and the listing with moves,",
+    "literals and spills in colours.",
+    "On a memory text MEM it also runs the code, and shows the outcome and how often each label was entered.",
+    "",
+    "  -o FILE          where the page is saved; by default SRC with `.html` in place of `.nova`",
+    "  --steps N        how many steps the run may take, 1 to 100000000; by default 1000000",
+    "",
+    "The status is 1 where the source or the memory text is refused. How the run ended doesn't change it.",
+];
+
+const FORMS: [&str; 9] = [
+    "nova forms SRC [FORM]",
+    "",
+    "Prints the forms that the compiler makes of the source SRC one after the other, or one of them: `flat` (words and",
+    "functions), `lowered` (each place that code goes on to has a label), `inlined` (one function), `closed` (labels that see",
+    "their parameters alone), `contracted` (labels are merged), `simplified` (after all passes on flows), `single` (each value",
+    "is used once; beside each line are its point and what is live there), or `measures` (the points of the single-use form,",
+    "and its greatest numbers).",
+    "",
+    "The status is 1 where the source is refused.",
+];
+
+const EXPLAIN: [&str; 4] = [
+    "nova explain CODE",
+    "",
+    "Prints the page on a refusal, by the name in brackets at the end of a fault: `nova explain type 14`, and so",
+    "`syntax deep` and the like; `nova explain status 9` explains a status of novac.",
+];

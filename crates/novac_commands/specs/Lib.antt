@@ -1,0 +1,14 @@
+pub mod Exits
+pub mod Loading
+pub mod Calling
+pub mod Reading
+pub mod Headline
+pub mod Executing
+pub mod Entries
+pub mod Generating
+pub mod Tracing
+pub mod Checking
+pub mod Answers
+pub mod inner
+pub mod Weighing
+pub mod Counting

@@ -1,5 +1,0 @@
-use Rattle.nv_parser.proofs.MadeExpr.{raise_made}
-use Rattle.nv_parser.proofs.nodes.raise.Goals as goal
-
-pub returns : goal.returns
-returns c = raise_made c.args.span c.args.exception c.args.arguments

@@ -1,5 +1,0 @@
-use Rattle.nv_parser.proofs.MadeExpr.{tuple_made}
-use Rattle.nv_parser.proofs.nodes.tuple.Goals as goal
-
-pub returns : goal.returns
-returns c = tuple_made c.args.span c.args.parts

@@ -1,0 +1,10 @@
+pub mod Named
+pub mod Cells
+pub mod Rows
+pub mod Store
+pub mod Lists
+pub mod Knowing
+pub mod Faulty
+pub mod Costs
+pub mod Layouts
+pub mod Needs

@@ -1,7 +1,0 @@
-use Rattle.std.proofs.Common.{◌≡◌, ℕ, List, bytes_eq, drop, map}
-use Rattle.std.specs.HashMap.{get_by}
-use Rattle.nv_values.specs.inner.Tables.{place_from, or_else}
-use Rattle.nv_values.proofs.table.function_places.Given as goal
-
-abbrev pub invariant-loop-i : goal.invariant-loop-i
-invariant-loop-i t = (y : List ℕ) → or_else (get_by (λ key. bytes_eq y key.now) t.places) (place_from t.i y (map (λ f. f.now.name) (drop t.i t.functions))) ≡ place_from 0 y (map (λ f. f.now.name) t.functions)

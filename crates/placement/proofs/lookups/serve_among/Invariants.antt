@@ -1,6 +1,0 @@
-use Rattle.std.proofs.Common.{◌≡◌, drop}
-use Rattle.placement.specs.Plan.{serve_in}
-use Rattle.placement.proofs.lookups.serve_among.Given as goal
-
-abbrev pub invariant-loop-s : goal.invariant-loop-s
-invariant-loop-s l = serve_in l.serves l.k l.i ≡ serve_in (drop l.s-index l.serves) l.k l.i

@@ -1,7 +1,0 @@
-use Rattle.std.proofs.Common.{◌≡◌, false, take}
-use Rattle.placement.specs.Fits.{is_slot}
-use Rattle.std.specs.List.{list_any}
-use Rattle.placement_checks.proofs.registers.has_slot.Given as goal
-
-abbrev pub invariant-loop-q : goal.invariant-loop-q
-invariant-loop-q l = list_any is_slot (take l.q-index l.qs) ≡ false

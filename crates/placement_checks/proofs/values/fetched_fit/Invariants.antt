@@ -1,8 +1,0 @@
-use Rattle.std.proofs.Common.{◌≡◌, drop}
-use Rattle.placement.specs.Plan.{plan_view}
-use Rattle.ssu_ir.specs.View.{labels_view}
-use Rattle.placement_checks.specs.inner.Checks as checks
-use Rattle.placement_checks.proofs.values.fetched_fit.Given as goal
-
-abbrev pub invariant-loop-i : goal.invariant-loop-i
-invariant-loop-i l = checks.fetched_fit (checks.found (labels_view l.s) (plan_view l.p)) (plan_view l.p) l.m l.first 0 l.xs ≡ checks.fetched_fit (checks.found (labels_view l.s) (plan_view l.p)) (plan_view l.p) l.m l.first l.i (drop l.i l.xs)

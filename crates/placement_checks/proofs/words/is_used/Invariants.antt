@@ -1,9 +1,0 @@
-use Rattle.std.proofs.Common.{◌≡◌, false, take, map}
-use Rattle.placement_checks.specs.inner.NodeLookups.{found_use}
-use Rattle.ssu_ir.specs.View.{labels_view}
-use Rattle.std.specs.List.{list_any}
-use Rattle.placement_checks.specs.inner.Checks as checks
-use Rattle.placement_checks.proofs.words.is_used.Given as goal
-
-abbrev pub invariant-loop-serve : goal.invariant-loop-serve
-invariant-loop-serve l = list_any (checks.is_of l.x) (map (found_use (labels_view l.s)) (take l.serve-index l.p.serves.items)) ≡ false

@@ -1,0 +1,2 @@
+mod Wished
+mod Telling

@@ -1,4 +1,0 @@
-use Rattle.register_hints.proofs.hinted.wished_numbers.Goals as goal
-
-pub returns-then-branch : goal.returns-then-branch
-returns-then-branch c = c.in_ok-are_apart.ensures.0 c.if-branch.true

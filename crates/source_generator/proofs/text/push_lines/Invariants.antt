@@ -1,6 +1,0 @@
-use Rattle.std.proofs.Common.{◌≡◌, ◌++◌, ◌-◌}
-use Rattle.source_generator.specs.Made.{lines_text, lines_from}
-use Rattle.source_generator.proofs.text.push_lines.Given as goal
-
-abbrev pub invariant-loop-i : goal.invariant-loop-i
-invariant-loop-i l = l.out.items ++ lines_text l.i (lines_from (l.size - l.i) l.i l.draws.state) ≡ l.initial.out.items ++ lines_text 0 (lines_from l.size 0 l.seed)

@@ -1,7 +1,0 @@
-use Rattle.std.proofs.Common.{◌≡◌, take}
-use Rattle.type_table.specs.inner.Cells.{still}
-use Rattle.type_costs.proofs.Sums.{sum_of}
-use Rattle.type_costs.proofs.shapes.total_bits.Given as goal
-
-abbrev pub invariant-loop-m : goal.invariant-loop-m
-invariant-loop-m l = l.total ≡ still (sum_of (λ m. m.bits) (take l.m-index l.members))

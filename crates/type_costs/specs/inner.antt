@@ -1,4 +1,0 @@
-pub mod Faulty
-pub mod Costs
-pub mod Layouts
-pub mod Needs

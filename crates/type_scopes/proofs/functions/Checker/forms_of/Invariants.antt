@@ -1,6 +1,0 @@
-use Rattle.std.proofs.Common.{◌≡◌, take}
-use Rattle.type_scopes.proofs.Shaping.{form_entries}
-use Rattle.type_scopes.proofs.functions.Checker.forms_of.Given as goal
-
-abbrev pub invariant-loop-m : goal.invariant-loop-m
-invariant-loop-m l = l.forms.items ≡ form_entries (take l.m-index l.members)

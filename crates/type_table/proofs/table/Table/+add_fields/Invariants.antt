@@ -1,4 +1,0 @@
-use Rattle.type_table.proofs.table.Table.+add_fields.Given as goal
-
-abbrev pub decreases-add_fields : goal.decreases-add_fields
-decreases-add_fields l = l.list

@@ -1,4 +1,0 @@
-use Rattle.type_table.proofs.table.Table.+meets_in.Given as goal
-
-abbrev pub decreases-meets_in : goal.decreases-meets_in
-decreases-meets_in l = l.list

@@ -1,5 +1,0 @@
-use Rattle.type_table.proofs.Growing.{grows_after}
-use Rattle.type_table.proofs.table.Table.words.Goals as goal
-
-pub returns-clause-grows : goal.returns-clause-grows
-returns-clause-grows c = grows_after c.args.self.now _ c.tuple.new.self c.tuple.result c.in_ok-list.ensures.grows c.tuple.ensures.grows

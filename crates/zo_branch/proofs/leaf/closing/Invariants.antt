@@ -1,6 +1,0 @@
-use Rattle.zo_model.specs.Program.{columns}
-use Rattle.zo_proof.specs.inner.Leaf.{IsClear}
-use Rattle.zo_branch.proofs.leaf.closing.Given as goal
-
-abbrev pub invariant-loop-denominator : goal.invariant-loop-denominator
-invariant-loop-denominator l = IsClear (columns l.z) l.weights

@@ -1,0 +1,196 @@
+//! The column to branch on: of the columns in doubt that stand in rows that aren't met, the one whose probe gains most.
+//!
+//! At the first branch all are probed, or evenly as many as the work allows. Later they are probed in the order of their old
+//! scores, until the best score is at least the next old one; and first the column of the last node of this depth, which is
+//! kept while its score holds. Where no probe gains, a core names the column.
+
+use crate::tree::{FRACTION_LIMIT, Hint, Tree};
+use std::alloc::Global;
+use zo_model::ZeroOne;
+use zo_solve_relaxation::{ONE, put, quotient};
+
+/// The probes at the first branch visit so much.
+const WORK: u64 = 60_000_000;
+/// So many of them tell what one visits.
+const SAMPLE: usize = 16;
+/// At each later branch N columns are probed at the most.
+const PROBES: u32 = 200;
+/// A column that is nearer to 0 or 1 than this isn't kept for a neighbouring node.
+const MIDDLE: i64 = ONE / 5;
+/// Where the best score is less, a core is looked for.
+const LITTLE: i64 = (ONE / 32) * (ONE / 32) / 1_024;
+
+impl Tree {
+    /// Puts the columns in doubt of a row after the others.
+    fn add_fractional(&mut self, terms: &[(u32, i32)], columns: &mut Vec<u32>) {
+        for (j, _) in terms {
+            if let Some(seen) = self.seen.get_mut(*j as usize) {
+                if *seen != self.stamp && self.rounds.is_free(*j) {
+                    *seen = self.stamp;
+                    if self.rounds.fractionality(*j) >= FRACTION_LIMIT {
+                        put(columns, *j);
+                    }
+                }
+            }
+        }
+    }
+
+    /// The columns in doubt that stand in rows that aren't met.
+    fn fractional(&mut self, alloc: Global, z: &ZeroOne) -> Vec<u32> {
+        self.stamp = self.stamp.wrapping_add(1);
+        let mut columns = Vec::new(alloc);
+        for (i, row) in z.rows.iter().enumerate() {
+            if !self.rounds.is_row_met(i) {
+                self.add_fractional(&row.terms, &mut columns);
+            }
+        }
+        self.rounds.spend(z.rows.len());
+        columns
+    }
+
+    /// The column that the last node of this depth branched on, where its score holds.
+    fn hinted(&mut self, z: &ZeroOne, need: i128) -> Option<u32> {
+        let Some(hint) = self.hints.get(self.depth()).copied() else {
+            return None;
+        };
+        if !self.rounds.is_free(hint.column) || self.rounds.fractionality(hint.column) < MIDDLE {
+            return None;
+        }
+        let score = self.probe(z, hint.column, need);
+        if score >= quotient(hint.score, 4).wrapping_mul(3) {
+            return Some(hint.column);
+        }
+        None
+    }
+
+    /// The columns by these keys, the least first.
+    fn ordered(&self, alloc: Global, columns: &[u32], by_score: bool) -> Vec<u32> {
+        let mut keys: Vec<(i64, usize, u32)> = Vec::new(alloc);
+        for (k, j) in columns.iter().enumerate() {
+            let key = if by_score {
+                self.score_of(*j)
+            } else {
+                self.rounds.fractionality(*j)
+            };
+            put(&mut keys, (key.wrapping_neg(), k, *j));
+        }
+        keys.sort_unstable();
+        let mut columns = Vec::new(alloc);
+        for key in &keys {
+            put(&mut columns, key.2);
+        }
+        columns
+    }
+
+    /// Probes the columns for the first time, the most doubtful first, or evenly as many as the work allows.
+    fn probe_first(&mut self, alloc: Global, z: &ZeroOne, columns: &[u32], need: i128) {
+        let columns = self.ordered(alloc, columns, false);
+        let begun = self.rounds.work;
+        let end = begun.saturating_add(WORK);
+        let mut step: usize = 1;
+        let mut wait: usize = 0;
+        for (k, column) in columns.iter().enumerate() {
+            if k == SAMPLE {
+                let each = (self.rounds.work.saturating_sub(begun) / 16).saturating_add(1);
+                let all = each.saturating_mul(columns.len() as u64) / WORK;
+                step = usize::try_from(all).unwrap_or(1).max(1);
+            }
+            if self.rounds.work > end {
+                return;
+            }
+            if wait == 0 {
+                let score = self.probe(z, *column, need);
+                if let Some(it) = self.scores.get_mut(*column as usize) {
+                    *it = score;
+                }
+                wait = step;
+            }
+            wait = wait.saturating_sub(1);
+        }
+    }
+
+    /// The column whose probe gains most, probed in the order of old scores.
+    fn best_probed(&mut self, z: &ZeroOne, columns: &[u32], need: i128) -> Option<Hint> {
+        let mut best: Option<Hint> = None;
+        let mut left = PROBES;
+        for column in columns {
+            if let Some(hint) = &best {
+                let is_last = left == 0 || !self.may_go_on();
+                if is_last || hint.score >= self.score_of(*column) {
+                    break;
+                }
+            }
+            left = left.saturating_sub(1);
+            let score = self.probe(z, *column, need);
+            self.score(*column, score);
+            let is_best = match &best {
+                Some(hint) => score > hint.score,
+                None => true,
+            };
+            if is_best {
+                best = Some(Hint {
+                    column: *column,
+                    score,
+                });
+            }
+        }
+        best
+    }
+
+    /// Notes the column that a node of this depth branched on.
+    fn note(&mut self, hint: Hint) {
+        let depth = self.depth();
+        for _ in self.hints.len()..depth.saturating_add(1) {
+            put(
+                &mut self.hints,
+                Hint {
+                    column: u32::MAX,
+                    score: 0,
+                },
+            );
+        }
+        if let Some(it) = self.hints.get_mut(depth) {
+            *it = hint;
+        }
+    }
+
+    /// Some unfixed column of the first row that isn't met, if there is one.
+    fn wanted(&mut self, z: &ZeroOne) -> Option<u32> {
+        let row = z.rows.get(self.rounds.first_unmet()?)?;
+        for (j, _) in &row.terms {
+            if self.rounds.is_free(*j) {
+                return Some(*j);
+            }
+        }
+        None
+    }
+
+    /// The column to branch on where the rounds stand; none where they don't tell.
+    pub fn pick(&mut self, alloc: Global, z: &ZeroOne, need: i128) -> Option<u32> {
+        if !self.may_go_on() {
+            return self.wanted(z);
+        }
+        let columns = self.fractional(alloc, z);
+        if columns.is_empty() {
+            return self.wanted(z);
+        }
+        if let Some(column) = self.hinted(z, need) {
+            return Some(column);
+        }
+        if !self.has_scores {
+            self.has_scores = true;
+            self.probe_first(alloc, z, &columns, need);
+        }
+        let columns = self.ordered(alloc, &columns, true);
+        let Some(mut best) = self.best_probed(z, &columns, need) else {
+            return self.wanted(z);
+        };
+        if best.score < LITTLE {
+            if let Some(column) = self.core_column(alloc, z, need) {
+                best.column = column;
+            }
+        }
+        self.note(best);
+        Some(best.column)
+    }
+}
