@@ -16,7 +16,7 @@ use Rattle.place_plan.proofs.Sound.{Each}
 use Rattle.zo_model.specs.Program.{cost_where}
 use Rattle.bank_prog_form.specs.declared.column.Bank.{Bank}
 use Rattle.bank_prog_form.specs.declared.column.Bank.TheVariants.{A, B, M, T, L, A15, W}
-use Rattle.bank_prog_form.specs.declared.column.Column.TheVariants.{Serve}
+use Rattle.bank_prog_form.specs.declared.column.Column.TheVariants.{Serve as ServeColumn}
 use Rattle.bank_prog_form.specs.declared.column.Service.{Service}
 use Rattle.bank_prog_form.specs.Columns.{origin_in, origin_of, is_fetched, services, has_bank, srv_columns}
 use Rattle.bank_prog_form.specs.Rows.{dir, ear, early, is_written}
@@ -173,19 +173,19 @@ prices labels on numbers u (Ending i) e =
 
 -- ---- which service is taken
 
-service-taken : (on : Chosen) (u : Use) (ss : List Service) (s : Service) → service_on on u ss ≡ Some s → In s ss × (on (Serve u.point u.operand s.from s.at) ≡ true)
+service-taken : (on : Chosen) (u : Use) (ss : List Service) (s : Service) → service_on on u ss ≡ Some s → In s ss × (on (ServeColumn u.point u.operand s.from s.at) ≡ true)
 service-taken on u [] s e = absurd (cc)
-service-taken on u (t ∷ ss) s e = by (λ f. service-taken on u ss s f) (on (Serve u.point u.operand t.from t.at)) refl e
+service-taken on u (t ∷ ss) s e = by (λ f. service-taken on u ss s f) (on (ServeColumn u.point u.operand t.from t.at)) refl e
   where
-    by : (service_on on u ss ≡ Some s → In s ss × (on (Serve u.point u.operand s.from s.at) ≡ true)) → (b : Bool) → on (Serve u.point u.operand t.from t.at) ≡ b → (if b then Some t else service_on on u ss) ≡ Some s → In s (t ∷ ss) × (on (Serve u.point u.operand s.from s.at) ≡ true)
-    by f true g h = let same : t ≡ s = cc in (inl same, subst (λ (z : Service). on (Serve u.point u.operand z.from z.at) ≡ true) same g)
+    by : (service_on on u ss ≡ Some s → In s ss × (on (ServeColumn u.point u.operand s.from s.at) ≡ true)) → (b : Bool) → on (ServeColumn u.point u.operand t.from t.at) ≡ b → (if b then Some t else service_on on u ss) ≡ Some s → In s (t ∷ ss) × (on (ServeColumn u.point u.operand s.from s.at) ≡ true)
+    by f true g h = let same : t ≡ s = cc in (inl same, subst (λ (z : Service). on (ServeColumn u.point u.operand z.from z.at) ≡ true) same g)
     by f false g h = let w = f h in (inr w.0, w.1)
 
-pub none-taken : (on : Chosen) (u : Use) (ss : List Service) → service_on on u ss ≡ None → count on (map (λ (s : Service). Serve u.point u.operand s.from s.at) ss) ≡ 0
+pub none-taken : (on : Chosen) (u : Use) (ss : List Service) → service_on on u ss ≡ None → count on (map (λ (s : Service). ServeColumn u.point u.operand s.from s.at) ss) ≡ 0
 none-taken on u [] e = refl
-none-taken on u (t ∷ ss) e = by (λ f. none-taken on u ss f) (on (Serve u.point u.operand t.from t.at)) e
+none-taken on u (t ∷ ss) e = by (λ f. none-taken on u ss f) (on (ServeColumn u.point u.operand t.from t.at)) e
   where
-    by : (service_on on u ss ≡ None → count on (map (λ (s : Service). Serve u.point u.operand s.from s.at) ss) ≡ 0) → (b : Bool) → (if b then Some t else service_on on u ss) ≡ None → cost_where b 1 + count on (map (λ (s : Service). Serve u.point u.operand s.from s.at) ss) ≡ 0
+    by : (service_on on u ss ≡ None → count on (map (λ (s : Service). ServeColumn u.point u.operand s.from s.at) ss) ≡ 0) → (b : Bool) → (if b then Some t else service_on on u ss) ≡ None → cost_where b 1 + count on (map (λ (s : Service). ServeColumn u.point u.operand s.from s.at) ss) ≡ 0
     by f true h = absurd (cc)
     by f false h = let w = f h in omega (arith, w)
 
@@ -215,8 +215,8 @@ use-bounded labels on numbers u (Some s) e f =
     let price = each-in (Price labels on numbers u u.role) s (services u.role) (prices labels on numbers u u.role refl) w.0 (in-read labels on u.value s.from i) in
     let read = is_fetched (origin_of labels u.value) in
     let kept = kept-in (λ (s : Service). has_bank read s.from) s (services u.role) w.0 (has labels on u.value s.from i) in
-    let column : In (Serve u.point u.operand s.from s.at, s.cost) (srv_columns labels u) = map-in (λ (s : Service). (Serve u.point u.operand s.from s.at, s.cost)) s (filter (λ (s : Service). has_bank read s.from) (services u.role)) kept in
-    let paid : s.cost ≤ named_cost on (srv_columns labels u) = cost-one on (Serve u.point u.operand s.from s.at, s.cost) (srv_columns labels u) column w.1 in
+    let column : In (ServeColumn u.point u.operand s.from s.at, s.cost) (srv_columns labels u) = map-in (λ (s : Service). (ServeColumn u.point u.operand s.from s.at, s.cost)) s (filter (λ (s : Service). has_bank read s.from) (services u.role)) kept in
+    let paid : s.cost ≤ named_cost on (srv_columns labels u) = cost-one on (ServeColumn u.point u.operand s.from s.at, s.cost) (srv_columns labels u) column w.1 in
     omega (arith, price, paid)
 use-bounded labels on numbers u None e f =
     let off = none-taken on u (services u.role) e in

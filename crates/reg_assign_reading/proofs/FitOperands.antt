@@ -13,7 +13,7 @@ use Rattle.place_plan.specs.Fits.{read_place, different_groups, AreApart}
 use Rattle.place_plan.proofs.Sound.{Each}
 use Rattle.bank_prog_form.specs.declared.column.Bank.{Bank}
 use Rattle.bank_prog_form.specs.declared.column.Bank.TheVariants.{A, B, T, L, A15}
-use Rattle.bank_prog_form.specs.declared.column.Column.TheVariants.{Serve}
+use Rattle.bank_prog_form.specs.declared.column.Column.TheVariants.{Serve as ServeColumn}
 use Rattle.bank_prog_form.specs.declared.column.Service.{Service}
 use Rattle.bank_prog_form.specs.Columns.{services}
 use Rattle.bank_prog_form.specs.Rows.{dir, ear, srv, early, is_written, two_operands}
@@ -99,10 +99,10 @@ operands-grouped labels on numbers u = (
 record Fetch (labels : List Label) (on : Chosen) (numbers : Numbers) (u : Use) : Type 0 where
   from : Bank
   at : Bank
-  chosen : on (Serve u.point u.operand from at) ≡ true
+  chosen : on (ServeColumn u.point u.operand from at) ≡ true
   group : InGroup at (use_serve labels on numbers u).at
 
-operand-at : (labels : List Label) (on : Chosen) (numbers : Numbers) (u : Use) → u.role ≡ Operand → UseFacts labels on u → ((p : Bank) → on (Serve u.point u.operand T p) ≡ true → IsReadPlace (place_in on (values labels) u.value)) → Fetch labels on numbers u
+operand-at : (labels : List Label) (on : Chosen) (numbers : Numbers) (u : Use) → u.role ≡ Operand → UseFacts labels on u → ((p : Bank) → on (ServeColumn u.point u.operand T p) ≡ true → IsReadPlace (place_in on (values labels) u.value)) → Fetch labels on numbers u
 operand-at labels on numbers u e f read = pick (service_on on u (services u.role)) refl
   where
     pick : (o : Option Service) → service_on on u (services u.role) ≡ o → Fetch labels on numbers u
@@ -115,7 +115,7 @@ operand-at labels on numbers u e f read = pick (service_on on u (services u.role
           from = s.from;
           at = s.at;
           chosen = w.1;
-          group = subst (InGroup s.at) (sym is) (w.0 (λ t. read s.at (subst (λ h. on (Serve u.point u.operand h s.at) ≡ true) t w.1)));
+          group = subst (InGroup s.at) (sym is) (w.0 (λ t. read s.at (subst (λ h. on (ServeColumn u.point u.operand h s.at) ≡ true) t w.1)));
         }
     pick None g =
         let one = f.once in
@@ -126,9 +126,9 @@ operand-at labels on numbers u e f read = pick (service_on on u (services u.role
 -- ---- two operands
 
 abbrev pub IsFetched : List Label → Chosen → Use → Type 0
-IsFetched labels on u = (p : Bank) → on (Serve u.point u.operand T p) ≡ true → IsReadPlace (place_in on (values labels) u.value)
+IsFetched labels on u = (p : Bank) → on (ServeColumn u.point u.operand T p) ≡ true → IsReadPlace (place_in on (values labels) u.value)
 
-two-apart : (labels : List Label) (slots : ℕ) (on : Chosen) (numbers : Numbers) (hs : List Home) (k : ℕ) (xs : List ℕ) (rs : List Role) → 2 ≤ length xs → ((h p i j : Bank) → on (Serve k 0 h p) ≡ true → on (Serve k 1 i j) ≡ true → same_group p j ≡ false)
+two-apart : (labels : List Label) (slots : ℕ) (on : Chosen) (numbers : Numbers) (hs : List Home) (k : ℕ) (xs : List ℕ) (rs : List Role) → 2 ≤ length xs → ((h p i j : Bank) → on (ServeColumn k 0 h p) ≡ true → on (ServeColumn k 1 i j) ≡ true → same_group p j ≡ false)
     → Each (IsFound labels on numbers (uses labels)) (uses_at k 0 xs (Operand ∷ Operand ∷ rs)) → Each (UseFacts labels on) (uses_at k 0 xs (Operand ∷ Operand ∷ rs)) → Each (IsFetched labels on) (uses_at k 0 xs (Operand ∷ Operand ∷ rs))
     → different_groups (serve (read_off labels slots on numbers hs) k 0).at (serve (read_off labels slots on numbers hs) k 1).at ≡ true
 two-apart labels slots on numbers hs k [] rs l d f g r = absurd (omega arith)
@@ -142,7 +142,7 @@ two-apart labels slots on numbers hs k (x ∷ y ∷ xs) rs l d f g r =
     ∙ ap (λ (s : Serve). different_groups (use_serve labels on numbers u).at s.at) f.1.0
     ∙ groups-apart a.at b.at (use_serve labels on numbers u).at (use_serve labels on numbers v).at a.group b.group (d a.from a.at b.from b.at a.chosen b.chosen)
 
-pub operands-apart : (labels : List Label) (slots : ℕ) (on : Chosen) (numbers : Numbers) (hs : List Home) (k : ℕ) (rs : List Role) (xs : List ℕ) → length rs ≡ length xs → (two_operands rs ≡ true → (h p i j : Bank) → on (Serve k 0 h p) ≡ true → on (Serve k 1 i j) ≡ true → same_group p j ≡ false)
+pub operands-apart : (labels : List Label) (slots : ℕ) (on : Chosen) (numbers : Numbers) (hs : List Home) (k : ℕ) (rs : List Role) (xs : List ℕ) → length rs ≡ length xs → (two_operands rs ≡ true → (h p i j : Bank) → on (ServeColumn k 0 h p) ≡ true → on (ServeColumn k 1 i j) ≡ true → same_group p j ≡ false)
     → Each (IsFound labels on numbers (uses labels)) (uses_at k 0 xs rs) → Each (UseFacts labels on) (uses_at k 0 xs rs) → Each (IsFetched labels on) (uses_at k 0 xs rs) → AreApart rs (read_off labels slots on numbers hs) k
 operands-apart labels slots on numbers hs k [] xs e d f g r = tt
 operands-apart labels slots on numbers hs k (Address ∷ rs) xs e d f g r = tt

@@ -14,7 +14,7 @@ use Rattle.place_plan.specs.Uses.{ValueOrigin, Parameter, Result, Fetched, Value
 use Rattle.place_plan.specs.Fits.{read_place, is_write_register, is_home, IsOperandAt, IsAddressAt, parameter, word_register, IsServedAt, IsServed, is_result}
 use Rattle.bank_prog_form.specs.declared.column.Bank.{Bank}
 use Rattle.bank_prog_form.specs.declared.column.Bank.TheVariants.{A, B, M, T, L, A15, W}
-use Rattle.bank_prog_form.specs.declared.column.Column.TheVariants.{Def, Fill, Serve}
+use Rattle.bank_prog_form.specs.declared.column.Column.TheVariants.{Def, Fill, Serve as ServeColumn}
 use Rattle.bank_prog_form.specs.declared.column.Service.{Service}
 use Rattle.bank_prog_form.specs.Columns.{services, is_fetched}
 use Rattle.bank_prog_form.specs.Rows.{def, srv, early, is_written, is_parameter}
@@ -134,15 +134,15 @@ address-own Scratch n = IsAddressAt.from_l
 
 -- what is known of a use of this role
 pub record Wanted (labels : List Label) (slots : ℕ) (on : Chosen) (numbers : Numbers) (hs : List Home) (u : Use) (role : Role) : Type 0 where
-  pub offered : (h p : Bank) → on (Serve u.point u.operand h p) ≡ true → is_home (read_off labels slots on numbers hs) u.value (bank_place labels on numbers u h) ≡ true
-  pub read : (p : Bank) → on (Serve u.point u.operand T p) ≡ true → IsReadPlace (place_in on (values labels) u.value)
-  pub passed : (p : Bank) → on (Serve u.point u.operand M p) ≡ true → (pass (read_off labels slots on numbers hs) u.point).l ≡ Some (unwrap_or (pass_l on u.point) 0)
+  pub offered : (h p : Bank) → on (ServeColumn u.point u.operand h p) ≡ true → is_home (read_off labels slots on numbers hs) u.value (bank_place labels on numbers u h) ≡ true
+  pub read : (p : Bank) → on (ServeColumn u.point u.operand T p) ≡ true → IsReadPlace (place_in on (values labels) u.value)
+  pub passed : (p : Bank) → on (ServeColumn u.point u.operand M p) ≡ true → (pass (read_off labels slots on numbers hs) u.point).l ≡ Some (unwrap_or (pass_l on u.point) 0)
   pub word : word_register (read_off labels slots on numbers hs) u ≡ word_place on u
-  pub argument : (l i : ℕ) → role ≡ Argument l i → (h p : Bank) → is_home_bank p ≡ true → on (Serve u.point u.operand h p) ≡ true → (home (read_off labels slots on numbers hs) (parameter labels l i)).defined ≡ home_place numbers p (parameter labels l i)
+  pub argument : (l i : ℕ) → role ≡ Argument l i → (h p : Bank) → is_home_bank p ≡ true → on (ServeColumn u.point u.operand h p) ≡ true → (home (read_off labels slots on numbers hs) (parameter labels l i)).defined ≡ home_place numbers p (parameter labels l i)
 
 abbrev pub IsWellServed : List Label → ℕ → Chosen → Numbers → List Home → Use → Role → Service → Type 0
 IsWellServed labels slots on numbers hs u role s =
-    on (Serve u.point u.operand s.from s.at) ≡ true
+    on (ServeColumn u.point u.operand s.from s.at) ≡ true
     → IsServedAt labels (read_off labels slots on numbers hs) u (record { point = u.point; operand = u.operand; from = bank_place labels on numbers u s.from; at = target labels on numbers u s.at role }) role
 
 pub well-served : (labels : List Label) (slots : ℕ) (on : Chosen) (numbers : Numbers) (hs : List Home) (u : Use) (role : Role) → Wanted labels slots on numbers hs u role → Each (IsWellServed labels slots on numbers hs u role) (services role)

@@ -14,7 +14,7 @@ use Rattle.place_plan.proofs.Slotted.{read-no-slot}
 use Rattle.place_plan.proofs.Spilled.{used-wants}
 use Rattle.bank_prog_form.specs.declared.column.Bank.{Bank}
 use Rattle.bank_prog_form.specs.declared.column.Bank.TheVariants.{A, B, M, T, L, A15, W}
-use Rattle.bank_prog_form.specs.declared.column.Column.TheVariants.{Stay, Serve}
+use Rattle.bank_prog_form.specs.declared.column.Column.TheVariants.{Stay, Serve as ServeColumn}
 use Rattle.bank_prog_form.specs.declared.column.Service.{Service}
 use Rattle.bank_prog_form.specs.Columns.{eight, origin_of, is_fetched, services}
 use Rattle.bank_prog_form.specs.Rows.{homes, srv, early, is_written}
@@ -87,10 +87,10 @@ slot-bank labels on numbers u W s r e = absurd (false≢true s)
 -- a use is served from this bank
 record IsFrom (on : Chosen) (u : Use) (h : Bank) : Type 0 where
   at : Bank
-  chosen : on (Serve u.point u.operand h at) ≡ true
+  chosen : on (ServeColumn u.point u.operand h at) ≡ true
 
-from-bank : (on : Chosen) (u : Use) (h g p : Bank) → h ≡ g → on (Serve u.point u.operand h p) ≡ true → IsFrom on u g
-from-bank on u h g p e o = record { at = p; chosen = subst (λ b. on (Serve u.point u.operand b p) ≡ true) e o }
+from-bank : (on : Chosen) (u : Use) (h g p : Bank) → h ≡ g → on (ServeColumn u.point u.operand h p) ≡ true → IsFrom on u g
+from-bank on u h g p e o = record { at = p; chosen = subst (λ b. on (ServeColumn u.point u.operand b p) ≡ true) e o }
 
 from-read : (labels : List Label) (on : Chosen) (numbers : Numbers) (u : Use) → is_read_register (use_serve labels on numbers u).from ≡ true → IsFrom on u T
 from-read labels on numbers u r = pick (service_on on u (services u.role)) refl r
@@ -151,18 +151,18 @@ staying labels slots on numbers hs g x e =
 
 -- ---- a use that is served from a slot
 
-pub from-slot : (labels : List Label) (slots : ℕ) (on : Chosen) (numbers : Numbers) (hs : List Home) → Reading labels slots on numbers hs → (u : Use) → In u (uses labels) → is_slot (use_serve labels on numbers u).from ≡ true → (p : Bank) × (on (Serve u.point u.operand M p) ≡ true)
+pub from-slot : (labels : List Label) (slots : ℕ) (on : Chosen) (numbers : Numbers) (hs : List Home) → Reading labels slots on numbers hs → (u : Use) → In u (uses labels) → is_slot (use_serve labels on numbers u).from ≡ true → (p : Bank) × (on (ServeColumn u.point u.operand M p) ≡ true)
 from-slot labels slots on numbers hs g u i r = pick (service_on on u (services u.role)) refl r
   where
     facts : UseFacts labels on u
     facts = use-facts-of labels slots on numbers hs g u i
 
-    pick : (o : Option Service) → service_on on u (services u.role) ≡ o → is_slot (serve_by labels on numbers u o).from ≡ true → (p : Bank) × (on (Serve u.point u.operand M p) ≡ true)
+    pick : (o : Option Service) → service_on on u (services u.role) ≡ o → is_slot (serve_by labels on numbers u o).from ≡ true → (p : Bank) × (on (ServeColumn u.point u.operand M p) ≡ true)
     pick (Some s) e f =
         let w = service-each on u (λ (t : Service). is_source t.from ≡ true) (services u.role) s (all-sources u.role) e in
         let read : s.from ≡ T → IsReadPlace (place_in on (values labels) u.value) = λ t.
-        read-place labels slots on numbers hs g u.value (each-in (λ (z : Use). IsValue labels z.value) u (uses labels) g.used i) (facts.served T s.at (subst (λ b. on (Serve u.point u.operand b s.at) ≡ true) t w.1)).0 in
-        (s.at, subst (λ b. on (Serve u.point u.operand b s.at) ≡ true) (slot-bank labels on numbers u s.from w.0 read f) w.1)
+        read-place labels slots on numbers hs g u.value (each-in (λ (z : Use). IsValue labels z.value) u (uses labels) g.used i) (facts.served T s.at (subst (λ b. on (ServeColumn u.point u.operand b s.at) ≡ true) t w.1)).0 in
+        (s.at, subst (λ b. on (ServeColumn u.point u.operand b s.at) ≡ true) (slot-bank labels on numbers u s.from w.0 read f) w.1)
     pick None e f =
         let one = facts.once in
         let z : count on (srv u) ≡ 0 = service-none on u (services u.role) e in

@@ -10,7 +10,7 @@ use Rattle.place_plan.specs.Uses.{ValueOrigin, Parameter, Result, Fetched, Value
 use Rattle.place_plan.specs.Fits.{write_place, is_write_register, role_register, word_register, is_early, early_uses}
 use Rattle.zo_model.specs.Program.{cost_where}
 use Rattle.bank_prog_form.specs.declared.column.Column.{Column}
-use Rattle.bank_prog_form.specs.declared.column.Column.TheVariants.{Serve}
+use Rattle.bank_prog_form.specs.declared.column.Column.TheVariants.{Serve as ServeColumn}
 use Rattle.bank_prog_form.specs.declared.column.Service.{Service}
 use Rattle.bank_prog_form.specs.Columns.{services}
 use Rattle.bank_prog_form.specs.Rows.{dir, ear, srv, early, is_written}
@@ -38,31 +38,31 @@ map-same f g (x ∷ xs) h = ap (λ y. y ∷ map f xs) (h x) ∙ ap (λ l. g x �
 -- ---- services
 
 abbrev pub service_columns : Use → List Service → List Column
-service_columns u ss = map (λ s. Serve u.point u.operand s.from s.at) ss
+service_columns u ss = map (λ s. ServeColumn u.point u.operand s.from s.at) ss
 
-pub service-each : (on : Chosen) (u : Use) (P : Service → Type 0) (ss : List Service) (s : Service) → Each P ss → service_on on u ss ≡ Some s → P s × (on (Serve u.point u.operand s.from s.at) ≡ true)
+pub service-each : (on : Chosen) (u : Use) (P : Service → Type 0) (ss : List Service) (s : Service) → Each P ss → service_on on u ss ≡ Some s → P s × (on (ServeColumn u.point u.operand s.from s.at) ≡ true)
 service-each on u P [] s h e = absurd (cc)
-service-each on u P (r ∷ ss) s h e = pick (on (Serve u.point u.operand r.from r.at)) refl (λ k. service-each on u P ss s h.1 k) e
+service-each on u P (r ∷ ss) s h e = pick (on (ServeColumn u.point u.operand r.from r.at)) refl (λ k. service-each on u P ss s h.1 k) e
   where
-    pick : (b : Bool) → on (Serve u.point u.operand r.from r.at) ≡ b → (service_on on u ss ≡ Some s → P s × (on (Serve u.point u.operand s.from s.at) ≡ true)) → (if b then Some r else service_on on u ss) ≡ Some s → P s × (on (Serve u.point u.operand s.from s.at) ≡ true)
-    pick true g rest k = let same : r ≡ s = cc in (subst P same h.0, ap (λ (t : Service). on (Serve u.point u.operand t.from t.at)) (sym same) ∙ g)
+    pick : (b : Bool) → on (ServeColumn u.point u.operand r.from r.at) ≡ b → (service_on on u ss ≡ Some s → P s × (on (ServeColumn u.point u.operand s.from s.at) ≡ true)) → (if b then Some r else service_on on u ss) ≡ Some s → P s × (on (ServeColumn u.point u.operand s.from s.at) ≡ true)
+    pick true g rest k = let same : r ≡ s = cc in (subst P same h.0, ap (λ (t : Service). on (ServeColumn u.point u.operand t.from t.at)) (sym same) ∙ g)
     pick false g rest k = rest k
 
 pub service-some : (on : Chosen) (u : Use) (ss : List Service) (s : Service) → service_on on u ss ≡ Some s → 1 ≤ count on (service_columns u ss)
 service-some on u [] s e = absurd (cc)
-service-some on u (r ∷ ss) s e = pick (on (Serve u.point u.operand r.from r.at)) refl (λ k. service-some on u ss s k) e
+service-some on u (r ∷ ss) s e = pick (on (ServeColumn u.point u.operand r.from r.at)) refl (λ k. service-some on u ss s k) e
   where
-    pick : (b : Bool) → on (Serve u.point u.operand r.from r.at) ≡ b → (service_on on u ss ≡ Some s → 1 ≤ count on (service_columns u ss)) → (if b then Some r else service_on on u ss) ≡ Some s → 1 ≤ count on (service_columns u (r ∷ ss))
-    pick true g rest k = let o = on-one (on (Serve u.point u.operand r.from r.at)) g in omega arith
+    pick : (b : Bool) → on (ServeColumn u.point u.operand r.from r.at) ≡ b → (service_on on u ss ≡ Some s → 1 ≤ count on (service_columns u ss)) → (if b then Some r else service_on on u ss) ≡ Some s → 1 ≤ count on (service_columns u (r ∷ ss))
+    pick true g rest k = let o = on-one (on (ServeColumn u.point u.operand r.from r.at)) g in omega arith
     pick false g rest k = let l = rest k in omega arith
 
 pub service-none : (on : Chosen) (u : Use) (ss : List Service) → service_on on u ss ≡ None → count on (service_columns u ss) ≡ 0
 service-none on u [] e = refl
-service-none on u (r ∷ ss) e = pick (on (Serve u.point u.operand r.from r.at)) refl (λ k. service-none on u ss k) e
+service-none on u (r ∷ ss) e = pick (on (ServeColumn u.point u.operand r.from r.at)) refl (λ k. service-none on u ss k) e
   where
-    pick : (b : Bool) → on (Serve u.point u.operand r.from r.at) ≡ b → (service_on on u ss ≡ None → count on (service_columns u ss) ≡ 0) → (if b then Some r else service_on on u ss) ≡ None → count on (service_columns u (r ∷ ss)) ≡ 0
+    pick : (b : Bool) → on (ServeColumn u.point u.operand r.from r.at) ≡ b → (service_on on u ss ≡ None → count on (service_columns u ss) ≡ 0) → (if b then Some r else service_on on u ss) ≡ None → count on (service_columns u (r ∷ ss)) ≡ 0
     pick true g rest k = absurd (cc)
-    pick false g rest k = let z : cost_where (on (Serve u.point u.operand r.from r.at)) 1 ≡ 0 = ap (λ b. cost_where b 1) g in let l = rest k in omega arith
+    pick false g rest k = let z : cost_where (on (ServeColumn u.point u.operand r.from r.at)) 1 ≡ 0 = ap (λ b. cost_where b 1) g in let l = rest k in omega arith
 
 -- ---- which words are put early
 

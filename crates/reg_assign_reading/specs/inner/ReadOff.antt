@@ -14,7 +14,7 @@ use Rattle.place_plan.specs.Uses.{Access, accesses, ValueOrigin, Parameter, Resu
 use Rattle.place_plan.specs.Fits.{read_place, write_place, parameter, wants_home, Rises}
 use Rattle.bank_prog_form.specs.declared.column.Bank.{Bank}
 use Rattle.bank_prog_form.specs.declared.column.Bank.TheVariants.{A, B, M, T, L, A15, W}
-use Rattle.bank_prog_form.specs.declared.column.Column.TheVariants.{Def, Fill, First, Serve, ReadVia, WriteVia}
+use Rattle.bank_prog_form.specs.declared.column.Column.TheVariants.{Def, Fill, First, Serve as ServeColumn, ReadVia, WriteVia}
 use Rattle.bank_prog_form.specs.declared.column.Service.{Service}
 use Rattle.bank_prog_form.specs.Columns.{eight, services}
 use Rattle.bank_prog_form.specs.Rows.{homes, early, is_parameter}
@@ -57,7 +57,7 @@ def_bank on x = if on (Def x A) then Some A else (if on (Def x B) then Some B el
 -- how a use is served
 abbrev pub service_on : Chosen → Use → List Service → Option Service
 service_on on u [] = None
-service_on on u (s ∷ ss) = if on (Serve u.point u.operand s.from s.at) then Some s else service_on on u ss
+service_on on u (s ∷ ss) = if on (ServeColumn u.point u.operand s.from s.at) then Some s else service_on on u ss
 
 -- ---- places
 
