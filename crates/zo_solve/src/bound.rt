@@ -95,7 +95,7 @@ pub fn lower_bound(alloc: Global, z: &ZeroOne, order: &Order) -> Result<Bounded,
 {
     let mut weights = vec![in alloc; 0i128; z.costs.len()]?;
     let path = Path::new(alloc, z)?;
-    let leaf = order.root_leaf(alloc, z)?;
+    let leaf = order.root_leaf(alloc)?;
     let (least, node) = root_bound(alloc, z, &path, &mut weights, leaf);
     let mut nodes = Vec::new(alloc);
     nodes.push(node)?;

@@ -6,7 +6,6 @@
 
 use crate::tree::Tree;
 use std::alloc::Global;
-use std::mem;
 use zo_model::ZeroOne;
 use zo_solve_relaxation::{ONE, put};
 
@@ -35,11 +34,10 @@ impl Tree {
     /// The columns fixed behind so many whose reduced costs made the bound, the dearest first.
     fn members(&self, alloc: Global, from: usize) -> Vec<Member> {
         let mut core = Vec::new(alloc);
-        for k in from..self.rounds.trail.len() {
-            let column = self.rounds.trail.get(k).copied().unwrap_or(u32::MAX);
-            if let Some(it) = self.rounds.columns.get(column as usize) {
-                let over = it.price.wrapping_sub(it.pull);
-                let value = it.place == Some(true);
+        for k in from..self.rounds.fixed_count() {
+            if let Some(column) = self.rounds.fixed(k) {
+                let over = self.rounds.reduced_cost(column);
+                let value = self.rounds.place_of(column) == Some(true);
                 let dearness = if value { over.wrapping_neg() } else { over };
                 if dearness < 0 {
                     put(&mut core, (dearness, column, value));
@@ -51,72 +49,57 @@ impl Tree {
     }
 
     /// Fixes one column more as a dive does. Whether the dive goes on.
-    fn dive_on(&mut self, z: &ZeroOne, need: i128) -> bool {
-        if self.rounds.bound > need || self.rounds.work >= self.rounds.limit {
+    fn dive_on(&mut self, need: i128) -> bool {
+        if self.rounds.bound() > need || self.rounds.is_spent() {
             return false;
         }
         let Some(row) = self.rounds.first_unmet() else {
-            self.rounds.run(z, LAST);
+            self.rounds.run(LAST);
             return false;
         };
-        let Some(column) = self.rounds.likeliest(z, row) else {
+        let Some(column) = self.rounds.likeliest(row) else {
             return false;
         };
         self.rounds.fix(column, true);
-        if !self.rounds.propagate(z) {
-            self.rounds.run(z, 2 * NEXT);
+        if !self.rounds.propagate() {
+            self.rounds.run(2 * NEXT);
             return false;
         }
-        self.rounds.run(z, NEXT);
+        self.rounds.run(NEXT);
         true
     }
 
     /// A dive until the bound is above `need`.
     fn dive_closed(&mut self, z: &ZeroOne, need: i128) {
         for _ in 0..z.costs.len() {
-            if !self.dive_on(z, need) {
+            if !self.dive_on(need) {
                 return;
             }
         }
     }
 
     /// Whether the bound gets above `need` with these columns fixed alone.
-    fn test(
-        &mut self,
-        z: &ZeroOne,
-        core: &[Member],
-        trail: usize,
-        mark: usize,
-        need: i128,
-    ) -> bool {
+    fn test(&mut self, core: &[Member], trail: usize, mark: usize, need: i128) -> bool {
         self.rounds.undo(trail);
-        self.rounds.roll_back(z, mark);
+        self.rounds.roll_back(mark);
         for (_, column, value) in core {
             self.rounds.fix(*column, *value);
         }
         self.rounds.clear_queue();
         for _ in 0..TEST_ROUNDS {
-            if self.rounds.is_still() || self.rounds.bound > need {
+            if self.rounds.is_still() || self.rounds.bound() > need {
                 break;
             }
-            self.rounds.round(z);
+            self.rounds.round();
         }
-        self.rounds.bound > need
+        self.rounds.bound() > need
     }
 
     /// Tests the core without its last columns, and keeps what closes; else these go to the front.
-    fn cut_once(
-        &mut self,
-        alloc: Global,
-        z: &ZeroOne,
-        cut: &mut Cut,
-        trail: usize,
-        mark: usize,
-        need: i128,
-    ) {
+    fn cut_once(&mut self, alloc: Global, cut: &mut Cut, trail: usize, mark: usize, need: i128) {
         let keep = cut.core.len().saturating_sub(cut.chunk).max(1);
         let kept = cut.core.get(..keep).unwrap_or(&[]);
-        if self.test(z, kept, trail, mark, need) {
+        if self.test(kept, trail, mark, need) {
             let smaller = self.members(alloc, trail);
             if smaller.is_empty() {
                 cut.core.truncate(keep);
@@ -147,7 +130,7 @@ impl Tree {
             if cut.core.len() <= 1 || cut.chunk == 0 {
                 break;
             }
-            self.cut_once(alloc, z, &mut cut, trail, mark, need);
+            self.cut_once(alloc, &mut cut, trail, mark, need);
         }
         let Cut { core, .. } = cut;
         core
@@ -156,16 +139,14 @@ impl Tree {
     /// The dearest column of a core, if there is one.
     pub fn core_column(&mut self, alloc: Global, z: &ZeroOne, need: i128) -> Option<u32> {
         self.rounds.set_aside();
-        let tolerance = mem::replace(&mut self.rounds.tolerance, TOLERANCE);
+        let tolerance = self.rounds.set_tolerance(TOLERANCE);
         let mark = self.rounds.log_mark();
-        let trail = self.rounds.trail.len();
-        let first = self.rounds.first;
+        let trail = self.rounds.fixed_count();
         self.rounds.clear_queue();
         let core = self.cut(alloc, z, trail, mark, need);
         self.rounds.undo(trail);
-        self.rounds.roll_back(z, mark);
-        self.rounds.first = first;
-        self.rounds.tolerance = tolerance;
+        self.rounds.roll_back(mark);
+        self.rounds.set_tolerance(tolerance);
         self.rounds.take_aside();
         self.rounds.log_mark();
         match core.first() {

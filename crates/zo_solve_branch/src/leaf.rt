@@ -27,11 +27,11 @@ impl Tree {
     /// The greatest power of two, at most `ONE`, over which all multipliers fit.
     fn finest(&self) -> i64 {
         let mut top: i64 = 0;
-        for dual in &self.rounds.duals {
-            top = top.max(dual.value);
+        for row in 0..self.rounds.rows() {
+            top = top.max(self.rounds.multiplier(row));
         }
         let mut denominator = ONE;
-        let mut m = i128::from(top).wrapping_mul(i128::from(self.rounds.divisor));
+        let mut m = i128::from(top).wrapping_mul(i128::from(self.rounds.divisor()));
         for _ in 0..22 {
             if m >> 32 != 0 {
                 m /= 2;
@@ -50,9 +50,10 @@ impl Tree {
         factor: i64,
     ) -> Result<Option<Vec<(u32, u32)>>, AllocError> {
         let mut list = Vec::new(alloc);
-        for (i, dual) in self.rounds.duals.iter().enumerate() {
-            if dual.value != 0 {
-                let rounded = quotient(dual.value.wrapping_mul(d).wrapping_add(half), ONE);
+        for i in 0..self.rounds.rows() {
+            let value = self.rounds.multiplier(i);
+            if value != 0 {
+                let rounded = quotient(value.wrapping_mul(d).wrapping_add(half), ONE);
                 let m = rounded.wrapping_mul(factor);
                 let (Ok(row), Ok(m)) = (u32::try_from(i), u32::try_from(m)) else {
                     return Ok(None);
@@ -82,7 +83,11 @@ impl Tree {
         } else {
             (i64::from(denominator), ONE / 2)
         };
-        let factor = if has_cost { self.rounds.divisor } else { 1 };
+        let factor = if has_cost {
+            i64::from(self.rounds.divisor())
+        } else {
+            1
+        };
         let size = self.rounds.size();
         self.rounds.spend(size);
         let (Some(list), Ok(d)) = (self.multipliers(alloc, d, half, factor)?, u32::try_from(d))
@@ -97,15 +102,11 @@ impl Tree {
     }
 
     /// The leaf of the multipliers at the root, if they fit.
-    pub fn root_leaf(
-        &mut self,
-        alloc: Global,
-        z: &ZeroOne,
-    ) -> Result<Option<CertNode>, AllocError> {
-        if !self.rounds.has_prices {
+    pub fn root_leaf(&mut self, alloc: Global) -> Result<Option<CertNode>, AllocError> {
+        if !self.rounds.has_prices() {
             return Ok(None);
         }
-        self.go_to_root(z);
+        self.go_to_root();
         self.candidate(alloc, &Claim::Least(0), 0)
     }
 }
@@ -178,7 +179,7 @@ pub fn leaf_of(
     ensures closes { IfOk result (λ leaf. IfSome leaf (λ n. ClosesLeaf z.now claim.now (current path.now.fixings) n)) }
     ensures within { IfOk result (λ leaf. IfSome leaf IsNode) }
 {
-    if order.shows(z, claim, &path.fixed().at) {
+    if order.shows(claim, &path.fixed().at) {
         if let Some(leaf) = closing(alloc, z, claim, path, weights, order)? {
             order.note_leaf(&leaf);
             return Ok(Some(leaf));

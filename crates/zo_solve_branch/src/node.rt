@@ -170,7 +170,7 @@ pub fn step<F: Fn(&ZeroOne, &Fixed) -> u32>(
     ensures weaker { IfOk result (λ _. IsWeaker best.old.claim best.new.claim) }
     ensures steps { IfOk result (λ rest. Steps (IsGood z.now best.new.start (Answers (F.post pick.now.choose) z.now) best.new.claim) path.old.fixings path.new.fixings nodes.old.items nodes.new.items left rest) }
 {
-    order.exchange_again(alloc, z, best)?;
+    order.improve(alloc, z, best)?;
     step_on(
         alloc, z, pick, left, best, sums, order, weights, path, nodes,
     )

@@ -11,7 +11,7 @@ use std::alloc::{AllocError, Global};
 use std::cell::RefCell;
 use zo_cert_tree::{CertNode, Claim, Fixed};
 use zo_model::{Assignment, NoMemory, ZeroOne};
-use zo_solve_dive::{begin, improve_again};
+use zo_solve_dive::begin;
 use zo_solve_state::Best;
 use zo_solve_state::pick::least_free;
 
@@ -64,9 +64,9 @@ impl Order {
     }
 
     /// Whether the rounds' multipliers show the claim with these columns fixed.
-    pub(crate) fn shows(&self, z: &ZeroOne, claim: &Claim, fixed: &[Option<bool>]) -> bool {
+    pub(crate) fn shows(&self, claim: &Claim, fixed: &[Option<bool>]) -> bool {
         match self.tree.try_borrow_mut() {
-            Ok(mut tree) => tree.shows(z, claim, fixed),
+            Ok(mut tree) => tree.shows(claim, fixed),
             Err(_) => false,
         }
     }
@@ -85,9 +85,9 @@ impl Order {
     }
 
     /// The leaf of the multipliers at the root, as a bound on the cost of every vector, if they fit.
-    pub fn root_leaf(&self, alloc: Global, z: &ZeroOne) -> Result<Option<CertNode>, AllocError> {
+    pub fn root_leaf(&self, alloc: Global) -> Result<Option<CertNode>, AllocError> {
         match self.tree.try_borrow_mut() {
-            Ok(mut tree) => tree.root_leaf(alloc, z),
+            Ok(mut tree) => tree.root_leaf(alloc),
             Err(_) => Ok(None),
         }
     }
@@ -129,8 +129,8 @@ impl Order {
         }
     }
 
-    /// Takes the exchanges up again where it is time.
-    pub(crate) fn exchange_again(
+    /// Makes the best vector cheaper where it is time to try.
+    pub(crate) fn improve(
         &self,
         alloc: Global,
         z: &ZeroOne,
@@ -145,11 +145,12 @@ impl Order {
         match self.tree.try_borrow_mut() {
             Ok(mut tree) => {
                 if tree.is_later() {
-                    tree.open = tree.open.saturating_add(1);
-                    let lower = tree.lower;
-                    improve_again(alloc, z, best, &mut tree.rounds, lower)?;
+                    tree.exchange_again(alloc, z, best)
+                } else if tree.is_dive_due() {
+                    tree.dive(alloc, z, best)
+                } else {
+                    Ok(())
                 }
-                Ok(())
             }
             Err(_) => Ok(()),
         }

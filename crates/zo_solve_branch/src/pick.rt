@@ -4,6 +4,7 @@
 //! scores, until the best score is at least the next old one; and first the column of the last node of this depth, which is
 //! kept while its score holds. Where no probe gains, a core names the column.
 
+use crate::probe::Probe;
 use crate::tree::{FRACTION_LIMIT, Hint, Tree};
 use std::alloc::Global;
 use zo_model::ZeroOne;
@@ -22,13 +23,18 @@ const LITTLE: i64 = (ONE / 32) * (ONE / 32) / 1_024;
 
 impl Tree {
     /// Puts the columns in doubt of a row after the others.
-    fn add_fractional(&mut self, terms: &[(u32, i32)], columns: &mut Vec<u32>) {
-        for (j, _) in terms {
-            if let Some(seen) = self.seen.get_mut(*j as usize) {
-                if *seen != self.stamp && self.rounds.is_free(*j) {
+    fn add_fractional(&mut self, row: u32, columns: &mut Vec<u32>) {
+        let terms = self.rounds.row(row);
+        for k in 0..terms.len() {
+            let column = match terms.get(k) {
+                Some((column, _)) => column,
+                None => u32::MAX,
+            };
+            if let Some(seen) = self.seen.get_mut(column as usize) {
+                if *seen != self.stamp && self.rounds.is_free(column) {
                     *seen = self.stamp;
-                    if self.rounds.fractionality(*j) >= FRACTION_LIMIT {
-                        put(columns, *j);
+                    if self.rounds.fractionality(column) >= FRACTION_LIMIT {
+                        put(columns, column);
                     }
                 }
             }
@@ -36,27 +42,28 @@ impl Tree {
     }
 
     /// The columns in doubt that stand in rows that aren't met.
-    fn fractional(&mut self, alloc: Global, z: &ZeroOne) -> Vec<u32> {
+    fn fractional(&mut self, alloc: Global) -> Vec<u32> {
         self.stamp = self.stamp.wrapping_add(1);
         let mut columns = Vec::new(alloc);
-        for (i, row) in z.rows.iter().enumerate() {
+        let rows = self.rounds.rows();
+        for i in 0..rows {
             if !self.rounds.is_row_met(i) {
-                self.add_fractional(&row.terms, &mut columns);
+                self.add_fractional(u32::try_from(i).unwrap_or(u32::MAX), &mut columns);
             }
         }
-        self.rounds.spend(z.rows.len());
+        self.rounds.spend(rows);
         columns
     }
 
     /// The column that the last node of this depth branched on, where its score holds.
-    fn hinted(&mut self, z: &ZeroOne, need: i128) -> Option<u32> {
+    fn hinted(&mut self, need: i128) -> Option<u32> {
         let Some(hint) = self.hints.get(self.depth()).copied() else {
             return None;
         };
         if !self.rounds.is_free(hint.column) || self.rounds.fractionality(hint.column) < MIDDLE {
             return None;
         }
-        let score = self.probe(z, hint.column, need);
+        let score = self.probe(hint.column, need).score;
         if score >= quotient(hint.score, 4).wrapping_mul(3) {
             return Some(hint.column);
         }
@@ -82,35 +89,50 @@ impl Tree {
         columns
     }
 
-    /// Probes the columns for the first time, the most doubtful first, or evenly as many as the work allows.
-    fn probe_first(&mut self, alloc: Global, z: &ZeroOne, columns: &[u32], need: i128) {
+    /// Probes a column, and keeps its score for the whole tree.
+    fn probe_at_root(&mut self, column: u32, need: i128) -> Probe {
+        let told = self.probe(column, need);
+        if let Some(it) = self.scores.get_mut(column as usize) {
+            *it = told.score;
+        }
+        told
+    }
+
+    /// Probes the columns for the first time, the most doubtful first, or evenly as many as the work allows; up to one that
+    /// closes both arms.
+    fn probe_first(&mut self, alloc: Global, columns: &[u32], need: i128) -> Option<Hint> {
         let columns = self.ordered(alloc, columns, false);
-        let begun = self.rounds.work;
+        let begun = self.rounds.work();
         let end = begun.saturating_add(WORK);
         let mut step: usize = 1;
         let mut wait: usize = 0;
+        let mut gain: i64 = 0;
         for (k, column) in columns.iter().enumerate() {
             if k == SAMPLE {
-                let each = (self.rounds.work.saturating_sub(begun) / 16).saturating_add(1);
+                let each = (self.rounds.work().saturating_sub(begun) / 16).saturating_add(1);
                 let all = each.saturating_mul(columns.len() as u64) / WORK;
                 step = usize::try_from(all).unwrap_or(1).max(1);
             }
-            if self.rounds.work > end {
-                return;
+            if self.rounds.work() > end {
+                break;
             }
             if wait == 0 {
-                let score = self.probe(z, *column, need);
-                if let Some(it) = self.scores.get_mut(*column as usize) {
-                    *it = score;
+                let told = self.probe_at_root(*column, need);
+                gain = gain.max(told.least);
+                if told.is_closing {
+                    return Some(told.hint(*column));
                 }
                 wait = step;
             }
             wait = wait.saturating_sub(1);
         }
+        let lack = need.wrapping_sub(self.rounds.bound());
+        self.note_gains(lack, gain);
+        None
     }
 
     /// The column whose probe gains most, probed in the order of old scores.
-    fn best_probed(&mut self, z: &ZeroOne, columns: &[u32], need: i128) -> Option<Hint> {
+    fn best_probed(&mut self, columns: &[u32], need: i128) -> Option<Hint> {
         let mut best: Option<Hint> = None;
         let mut left = PROBES;
         for column in columns {
@@ -121,17 +143,17 @@ impl Tree {
                 }
             }
             left = left.saturating_sub(1);
-            let score = self.probe(z, *column, need);
-            self.score(*column, score);
+            let told = self.probe(*column, need);
+            self.score(*column, told.score);
+            if told.is_closing {
+                return Some(told.hint(*column));
+            }
             let is_best = match &best {
-                Some(hint) => score > hint.score,
+                Some(hint) => told.score > hint.score,
                 None => true,
             };
             if is_best {
-                best = Some(Hint {
-                    column: *column,
-                    score,
-                });
+                best = Some(told.hint(*column));
             }
         }
         best
@@ -155,11 +177,14 @@ impl Tree {
     }
 
     /// Some unfixed column of the first row that isn't met, if there is one.
-    fn wanted(&mut self, z: &ZeroOne) -> Option<u32> {
-        let row = z.rows.get(self.rounds.first_unmet()?)?;
-        for (j, _) in &row.terms {
-            if self.rounds.is_free(*j) {
-                return Some(*j);
+    fn wanted(&mut self) -> Option<u32> {
+        let row = self.rounds.first_unmet()?;
+        let terms = self.rounds.row(row);
+        for k in 0..terms.len() {
+            if let Some((column, _)) = terms.get(k) {
+                if self.rounds.is_free(column) {
+                    return Some(column);
+                }
             }
         }
         None
@@ -168,22 +193,25 @@ impl Tree {
     /// The column to branch on where the rounds stand; none where they don't tell.
     pub fn pick(&mut self, alloc: Global, z: &ZeroOne, need: i128) -> Option<u32> {
         if !self.may_go_on() {
-            return self.wanted(z);
+            return self.wanted();
         }
-        let columns = self.fractional(alloc, z);
+        let columns = self.fractional(alloc);
         if columns.is_empty() {
-            return self.wanted(z);
+            return self.wanted();
         }
-        if let Some(column) = self.hinted(z, need) {
+        if let Some(column) = self.hinted(need) {
             return Some(column);
         }
         if !self.has_scores {
             self.has_scores = true;
-            self.probe_first(alloc, z, &columns, need);
+            if let Some(hint) = self.probe_first(alloc, &columns, need) {
+                self.note(hint);
+                return Some(hint.column);
+            }
         }
         let columns = self.ordered(alloc, &columns, true);
-        let Some(mut best) = self.best_probed(z, &columns, need) else {
-            return self.wanted(z);
+        let Some(mut best) = self.best_probed(&columns, need) else {
+            return self.wanted();
         };
         if best.score < LITTLE {
             if let Some(column) = self.core_column(alloc, z, need) {

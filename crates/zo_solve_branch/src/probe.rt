@@ -1,8 +1,6 @@
 //! Probing: what a branch on a column would gain, by some coarse rounds in both of its arms, which are undone.
 
-use crate::tree::Tree;
-use std::mem;
-use zo_model::ZeroOne;
+use crate::tree::{Hint, Tree};
 use zo_solve_relaxation::ONE;
 
 /// So many rounds go in an arm, by moves of this size.
@@ -14,16 +12,37 @@ const MOST: i128 = 1 << 40;
 /// A smaller gain counts as this.
 const LITTLE: i64 = ONE >> 10;
 
+/// What a probe told of a column.
+#[derive(Clone, Copy, Drop)]
+pub struct Probe {
+    /// The product of what both arms of a branch on it gain.
+    pub score: i64,
+    /// The lesser of the two gains.
+    pub least: i64,
+    /// Whether both are closed.
+    pub is_closing: bool,
+}
+
+impl Probe {
+    /// The column of the probe, with its score.
+    pub fn hint(&self, column: u32) -> Hint {
+        Hint {
+            column,
+            score: self.score,
+        }
+    }
+}
+
 impl Tree {
     /// The best bound of some rounds.
-    fn best_bound(&mut self, z: &ZeroOne, need: i128) -> i128 {
-        let mut top = self.rounds.bound;
+    fn best_bound(&mut self, need: i128) -> i128 {
+        let mut top = self.rounds.bound();
         for _ in 0..ROUNDS {
             if self.rounds.is_still() {
                 return top;
             }
-            self.rounds.round(z);
-            top = top.max(self.rounds.bound);
+            self.rounds.round();
+            top = top.max(self.rounds.bound());
             if top > need {
                 return top;
             }
@@ -32,15 +51,15 @@ impl Tree {
     }
 
     /// What the bound gains with the column fixed at this; an arm that is closed gains half a unit more than is missing.
-    fn gain(&mut self, z: &ZeroOne, column: u32, value: bool, need: i128) -> i64 {
-        let before = self.rounds.bound;
+    fn gain(&mut self, column: u32, value: bool, need: i128) -> (i64, bool) {
+        let before = self.rounds.bound();
         let mark = self.rounds.log_mark();
-        let trail = self.rounds.trail.len();
+        let trail = self.rounds.fixed_count();
         self.rounds.clear_queue();
         self.rounds.fix(column, value);
         let mut top = need.wrapping_add(1);
-        if self.rounds.propagate(z) {
-            top = self.best_bound(z, need);
+        if self.rounds.propagate() {
+            top = self.best_bound(need);
         }
         let gain = if top > need {
             need.wrapping_sub(before)
@@ -50,21 +69,26 @@ impl Tree {
             top.wrapping_sub(before)
         };
         self.rounds.undo(trail);
-        self.rounds.roll_back(z, mark);
+        self.rounds.roll_back(mark);
         self.rounds.clear_due();
-        i64::try_from(gain.min(MOST)).unwrap_or(0)
+        let gain = i64::try_from(gain.min(MOST)).unwrap_or(0);
+        (gain.max(LITTLE), top > need)
     }
 
-    /// The product of what both arms of a branch on the column gain.
-    pub fn probe(&mut self, z: &ZeroOne, column: u32, need: i128) -> i64 {
+    /// What a branch on the column gains.
+    pub fn probe(&mut self, column: u32, need: i128) -> Probe {
         self.rounds.set_aside();
-        let tolerance = mem::replace(&mut self.rounds.tolerance, TOLERANCE);
-        let zero = self.gain(z, column, false, need).max(LITTLE);
-        let one = self.gain(z, column, true, need).max(LITTLE);
-        self.rounds.tolerance = tolerance;
+        let tolerance = self.rounds.set_tolerance(TOLERANCE);
+        let (zero, is_closed) = self.gain(column, false, need);
+        let (one, is_also_closed) = self.gain(column, true, need);
+        self.rounds.set_tolerance(tolerance);
         self.rounds.take_aside();
         self.rounds.log_mark();
         let product = i128::from(zero).wrapping_mul(i128::from(one)) / 1_024;
-        i64::try_from(product).unwrap_or(i64::MAX)
+        Probe {
+            score: i64::try_from(product).unwrap_or(i64::MAX),
+            least: zero.min(one),
+            is_closing: is_closed && is_also_closed,
+        }
     }
 }

@@ -1,24 +1,49 @@
 //! What a search tree keeps beside the rounds: the branches above the node, and what was learnt of columns.
 
+ghost use Rattle.std.specs.Prelude.{◌≡◌, IfOk};
+ghost use Rattle.zo_model.specs.Program.{IsValid};
+ghost use Rattle.zo_solve_state.specs.inner.Better.{IsBest, IsWeaker};
+
 use std::alloc::{AllocError, Global};
 use zo_cert_tree::{CertNode, Claim};
 use zo_model::ZeroOne;
-use zo_solve_dive::needed;
+use zo_solve_dive::{dive_below, improve_again, needed};
 use zo_solve_relaxation::{ONE, Rounds, put};
+use zo_solve_state::Best;
 
 /// The rounds of the tree visit N columns, rows and terms; after that nodes are closed without multipliers.
 const WORK: u64 = 1_000_000_000;
 /// All leaves have so many multipliers, so that a report stays loadable.
 const MULTIPLIERS: usize = 4_000_000;
-/// So many rounds go at the root, and at each other node; a window of them; and the part of what is missing that a window has
-/// to gain.
+/// So many rounds go at the root, and in a window.
 const ROOT_ROUNDS: u32 = 400;
-
-const NODE_ROUNDS: u32 = 200;
 
 const WINDOW: u32 = 80;
 
-const PACE: i128 = 50;
+/// How far the rounds go at a node.
+#[derive(Clone, Copy, Drop)]
+struct Effort {
+    rounds: u32,
+    /// The part of what is missing that a window has to gain.
+    pace: i128,
+    /// Smaller moves of columns are left out.
+    tolerance: i64,
+}
+
+/// The first open nodes have their rounds go until they converge, the others only a little.
+const FINE_NODES: u64 = 16;
+
+const FINE: Effort = Effort {
+    rounds: 2_000,
+    pace: 1_000,
+    tolerance: ONE >> 16,
+};
+
+const COARSE: Effort = Effort {
+    rounds: 200,
+    pace: 50,
+    tolerance: ONE >> 12,
+};
 /// A bound that no multipliers reach.
 const FAR: i128 = 1 << 100;
 /// After so many branches the exchanges are taken up again.
@@ -27,6 +52,21 @@ const LATER: u64 = 16;
 const HOPE_WORK: u64 = 100_000_000;
 
 const HOPE_EVERY: u64 = 256;
+/// So often, whatever the work, where the probes at the root leave doubt: where less is gained by each of so many branches
+/// in a row, beside those that the budget allows side by side.
+const DOUBT_EVERY: u64 = 32;
+
+const DOUBT_LEVELS: u32 = 5;
+/// The least gain that tells.
+const DOUBT_GAIN: i64 = ONE / 4;
+/// A dive goes from the first open nodes, and from each so many, in a part of the tree's work and of so much before it.
+const FIRST_DIVES: u64 = 8;
+
+const DIVE_EVERY: u64 = 8;
+
+const DIVE_SHARE: u64 = 3;
+
+const DIVE_START: u64 = 30_000_000;
 
 /// A branch above the node, and how long the logs were before it.
 #[derive(Clone, Copy, Drop)]
@@ -75,6 +115,10 @@ pub struct Tree {
     pub multipliers: usize,
     pub budget: u64,
     pub is_off: bool,
+    is_doubtful: bool,
+    // whether the last node is open, and the work of the dives from such nodes
+    is_open: bool,
+    dive_work: u64,
 }
 
 /// What is learnt of columns.
@@ -113,6 +157,9 @@ impl Tree {
             multipliers: 0,
             budget: 0,
             is_off: false,
+            is_doubtful: false,
+            is_open: false,
+            dive_work: 0,
         })
     }
 
@@ -138,20 +185,20 @@ impl Tree {
             self.begin(0);
         }
         let need = self.need;
-        if self.follow(z, fixed) {
-            self.runs(z, need);
+        if self.follow(fixed) {
+            self.runs(need);
         }
         self.pick(alloc, z, need)
     }
 
     /// Whether rounds may still go.
     pub fn may_go_on(&self) -> bool {
-        !self.is_off && self.rounds.work < self.rounds.limit && self.multipliers < MULTIPLIERS
+        !self.is_off && !self.rounds.is_spent() && self.multipliers < MULTIPLIERS
     }
 
     /// Whether the exchanges are to be taken up again.
     pub fn is_later(&self) -> bool {
-        self.open == LATER && self.may_go_on()
+        self.open == LATER && self.rounds.has_prices() && self.may_go_on()
     }
 
     /// How many of the branches above the node still stand with these columns fixed.
@@ -189,12 +236,21 @@ impl Tree {
         }
     }
 
+    /// Fixes the columns of all branches above the node, or unfixes them.
+    fn place_arms(&mut self, is_fixed: bool) {
+        for arm in &self.arms {
+            let place = if is_fixed { Some(arm.value) } else { None };
+            self.rounds.place(arm.column, place);
+        }
+        self.rounds.clear_queue();
+    }
+
     /// Goes back above the last branch.
-    fn leave(&mut self, z: &ZeroOne) {
+    fn leave(&mut self) {
         if let Some(arm) = self.arms.pop() {
             self.rounds.place(arm.column, None);
             self.rounds.clear_queue();
-            self.rounds.roll_back(z, arm.log);
+            self.rounds.roll_back(arm.log);
             self.unscore(arm.scores);
         }
     }
@@ -216,11 +272,11 @@ impl Tree {
     }
 
     /// Goes to the node with these columns fixed. Whether it was elsewhere.
-    pub fn follow(&mut self, z: &ZeroOne, fixed: &[Option<bool>]) -> bool {
+    pub fn follow(&mut self, fixed: &[Option<bool>]) -> bool {
         let standing = self.standing(fixed);
         let mut is_moved = false;
         for _ in standing..self.arms.len() {
-            self.leave(z);
+            self.leave();
             is_moved = true;
         }
         for (j, place) in fixed.iter().enumerate() {
@@ -235,61 +291,109 @@ impl Tree {
     }
 
     /// Goes back above all branches. Where the rounds haven't begun, they do.
-    pub fn go_to_root(&mut self, z: &ZeroOne) {
+    pub fn go_to_root(&mut self) {
         for _ in 0..self.arms.len() {
-            self.leave(z);
+            self.leave();
         }
         if !self.has_begun {
             self.begin(0);
-            self.runs(z, FAR);
+            self.runs(FAR);
         }
     }
 
     /// Some rounds, until the bound is above `need` or a window gains too little. Whether it is.
-    pub fn runs(&mut self, z: &ZeroOne, need: i128) -> bool {
+    pub fn runs(&mut self, need: i128) -> bool {
+        let effort = if self.open < FINE_NODES { FINE } else { COARSE };
         let rounds = if self.arms.is_empty() {
             ROOT_ROUNDS
         } else {
-            NODE_ROUNDS
+            effort.rounds
         };
-        let mut was = self.rounds.bound;
+        self.rounds.set_tolerance(effort.tolerance);
+        let mut was = self.rounds.bound();
         self.rounds.begin_means();
         for k in 1..rounds.saturating_add(1) {
             if self.rounds.is_still() {
                 break;
             }
-            self.rounds.round(z);
-            if self.rounds.bound > need {
+            self.rounds.round();
+            if self.rounds.bound() > need {
                 break;
             }
             if k % WINDOW == 0 {
-                self.rounds.end_window(z, false);
-                let gain = self.rounds.bound.wrapping_sub(was);
-                was = self.rounds.bound;
-                if gain.wrapping_mul(PACE) < need.wrapping_sub(was) {
+                self.rounds.end_window(false);
+                let gain = self.rounds.bound().wrapping_sub(was);
+                was = self.rounds.bound();
+                if gain.wrapping_mul(effort.pace) < need.wrapping_sub(was) {
                     break;
                 }
             }
         }
-        self.rounds.has_means = false;
-        self.rounds.bound > need
+        self.rounds.end_means();
+        self.rounds.bound() > need
     }
 
     /// Whether the rounds' multipliers show the claim at the node with these columns fixed.
-    pub fn shows(&mut self, z: &ZeroOne, claim: &Claim, fixed: &[Option<bool>]) -> bool {
-        self.follow(z, fixed);
-        if let (Claim::Least(_), false) = (claim, self.rounds.has_prices) {
-            self.rounds.restart(z, true);
+    pub fn shows(&mut self, claim: &Claim, fixed: &[Option<bool>]) -> bool {
+        self.follow(fixed);
+        if let (Claim::Least(_), false) = (claim, self.rounds.has_prices()) {
+            self.rounds.restart(true);
         }
         let need = needed(&self.rounds, claim);
         self.need = need;
         if !self.may_go_on() {
             return false;
         }
-        if self.rounds.bound > need {
+        if self.rounds.bound() > need {
             return true;
         }
-        self.runs(z, need)
+        self.runs(need)
+    }
+
+    /// Whether a dive from the open node is due: at the first ones, then at each so many, within its share of the work.
+    pub fn is_dive_due(&self) -> bool {
+        let spent = WORK.saturating_sub(self.rounds.left());
+        self.is_open
+            && (self.open <= FIRST_DIVES || self.open % DIVE_EVERY == 0)
+            && self.dive_work.saturating_mul(DIVE_SHARE) <= spent.saturating_add(DIVE_START)
+            && self.may_go_on()
+    }
+
+    /// Makes the best vector cheaper by a dive from the node.
+    pub fn dive(&mut self, alloc: Global, z: &ZeroOne, best: &mut Best) -> Result<(), AllocError>
+        requires valid { IsValid z.now }
+        requires best { IsBest z.now best.old }
+        ensures best { IfOk result (λ _. IsBest z.now best.new) }
+        ensures start { IfOk result (λ _. best.new.start ≡ best.old.start) }
+        ensures weaker { IfOk result (λ _. IsWeaker best.old.claim best.new.claim) }
+    {
+        let before = self.rounds.work();
+        self.is_open = false;
+        let done = dive_below(alloc, z, best, &mut self.rounds);
+        let work = self.rounds.work().saturating_sub(before);
+        self.dive_work = self.dive_work.saturating_add(work);
+        done
+    }
+
+    /// Makes the best vector cheaper with no column fixed, and comes back.
+    pub fn exchange_again(
+        &mut self,
+        alloc: Global,
+        z: &ZeroOne,
+        best: &mut Best,
+    ) -> Result<(), AllocError>
+        requires valid { IsValid z.now }
+        requires best { IsBest z.now best.old }
+        ensures best { IfOk result (λ _. IsBest z.now best.new) }
+        ensures start { IfOk result (λ _. best.new.start ≡ best.old.start) }
+        ensures weaker { IfOk result (λ _. IsWeaker best.old.claim best.new.claim) }
+    {
+        self.open = self.open.saturating_add(1);
+        self.place_arms(false);
+        let lower = self.lower;
+        let done = improve_again(alloc, z, best, &mut self.rounds, lower);
+        self.place_arms(true);
+        done
     }
 
     /// The share of the tree that lies before the node, in parts of 2^40.
@@ -307,19 +411,37 @@ impl Tree {
 
     /// A leaf was closed.
     pub fn note_leaf(&mut self, leaf: &CertNode) {
+        self.is_open = false;
         self.leaves = self.leaves.saturating_add(1);
         if let CertNode::Bound(_, rows) | CertNode::Clash(rows) = leaf {
             self.multipliers = self.multipliers.saturating_add(rows.len());
         }
     }
 
+    /// Notes what is missing at the root, and the best of what the weaker arms gain there.
+    pub fn note_gains(&mut self, lack: i128, gain: i64) {
+        let levels = 64_u32
+            .saturating_sub(self.budget.leading_zeros())
+            .saturating_add(DOUBT_LEVELS);
+        let most = i128::from(gain).wrapping_mul(i128::from(levels));
+        self.is_doubtful = gain >= DOUBT_GAIN && lack > most;
+    }
+
+    /// Whether it is time to ask for hope.
+    fn is_hope_due(&self) -> bool {
+        let work = WORK.saturating_sub(self.rounds.left());
+        if self.is_doubtful {
+            return self.open % DOUBT_EVERY == 0;
+        }
+        self.open % HOPE_EVERY == 0 && work > HOPE_WORK
+    }
+
     /// The node wasn't closed. Where a quarter of the budget can't close the tree by the share that is closed so far, the rounds
     /// end.
     pub fn leave_open(&mut self) {
         self.open = self.open.saturating_add(1);
-        let begun = self.rounds.limit.saturating_sub(WORK);
-        let work = self.rounds.work.saturating_sub(begun);
-        if self.open % HOPE_EVERY == 0 && work > HOPE_WORK {
+        self.is_open = true;
+        if self.is_hope_due() {
             let budget = u128::from(self.budget).wrapping_mul(4);
             let hope = u128::from(self.share()).wrapping_mul(budget);
             if hope < u128::from(self.open).wrapping_mul(1 << 40) {

@@ -6,7 +6,7 @@
 //! all this: what is found is tested before it is taken.
 
 use std::alloc::{AllocError, Global};
-use zo_model::{Assignment, ZeroOne};
+use zo_model::ZeroOne;
 use zo_solve_relaxation::{ONE, Rounds};
 
 /// A column of at least this isn't doubtful.
@@ -40,40 +40,40 @@ fn limit(way: Way) -> i128 {
 }
 
 /// Fixes a column at 1 with what that forces, and lets the rounds go on where it was doubtful. Whether it may stay.
-fn try_one(z: &ZeroOne, rounds: &mut Rounds, column: u32, way: Way, is_watched: bool) -> bool {
+fn try_one(rounds: &mut Rounds, column: u32, way: Way, is_watched: bool) -> bool {
     let is_doubtful = rounds.value(column) < SURE;
     rounds.fix(column, true);
-    if !rounds.propagate(z) {
+    if !rounds.propagate() {
         return false;
     }
     if is_doubtful {
-        rounds.run(z, way.next);
-        return !is_watched || rounds.bound <= limit(way);
+        rounds.run(way.next);
+        return !is_watched || rounds.bound() <= limit(way);
     }
     true
 }
 
 /// Fixes a column at 0 with what that forces, and lets the rounds go on. Whether there may be a way on.
-fn turn_back(z: &ZeroOne, rounds: &mut Rounds, column: u32, way: Way, is_watched: bool) -> bool {
+fn turn_back(rounds: &mut Rounds, column: u32, way: Way, is_watched: bool) -> bool {
     rounds.fix(column, false);
-    if !rounds.propagate(z) {
+    if !rounds.propagate() {
         return false;
     }
-    rounds.run(z, way.next);
-    !is_watched || rounds.bound <= limit(way)
+    rounds.run(way.next);
+    !is_watched || rounds.bound() <= limit(way)
 }
 
 /// Fixes a column at 1, or at 0 where that fails. Whether there may be a way on.
-fn decide(z: &ZeroOne, rounds: &mut Rounds, column: u32, way: Way, turns: &mut Turns) -> bool {
+fn decide(rounds: &mut Rounds, column: u32, way: Way, turns: &mut Turns) -> bool {
     let is_watched = turns.repairs > 0 && rounds.value(column) < SURE;
-    let before = rounds.trail.len();
+    let before = rounds.fixed_count();
     let mark = if is_watched {
         rounds.set_log(true);
         rounds.log_mark()
     } else {
         0
     };
-    if try_one(z, rounds, column, way, is_watched) {
+    if try_one(rounds, column, way, is_watched) {
         rounds.forget();
         rounds.set_log(false);
         return true;
@@ -81,19 +81,19 @@ fn decide(z: &ZeroOne, rounds: &mut Rounds, column: u32, way: Way, turns: &mut T
     rounds.undo(before);
     turns.wrong = turns.wrong.saturating_add(1);
     if is_watched {
-        rounds.roll_back(z, mark);
+        rounds.roll_back(mark);
         turns.repairs = turns.repairs.saturating_sub(1);
     }
     rounds.set_log(false);
     if turns.wrong > WRONG_LIMIT {
         return false;
     }
-    turn_back(z, rounds, column, way, is_watched)
+    turn_back(rounds, column, way, is_watched)
 }
 
 /// Goes on from what is fixed until every row is met, or there is no way on. Whether every row is met below the cutoff.
 pub fn run_dive(z: &ZeroOne, rounds: &mut Rounds, way: Way) -> bool {
-    if !rounds.propagate(z) {
+    if !rounds.propagate() {
         return false;
     }
     let mut turns = Turns {
@@ -101,33 +101,29 @@ pub fn run_dive(z: &ZeroOne, rounds: &mut Rounds, way: Way) -> bool {
         repairs: way.repairs,
     };
     for _ in 0..z.costs.len() {
-        if rounds.spent >= way.cutoff {
+        if rounds.spent() >= way.cutoff {
             return false;
         }
         let Some(row) = rounds.first_unmet() else {
             return true;
         };
-        let Some(column) = rounds.likeliest(z, row) else {
+        let Some(column) = rounds.likeliest(row) else {
             return false;
         };
-        if !decide(z, rounds, column, way, &mut turns) {
+        if !decide(rounds, column, way, &mut turns) {
             rounds.set_log(false);
             return false;
         }
     }
-    rounds.unmet == 0 && rounds.spent < way.cutoff
-}
-
-/// Whether a column is fixed at 1.
-fn is_one(place: Option<bool>) -> bool {
-    place == Some(true)
+    rounds.is_met() && rounds.spent() < way.cutoff
 }
 
 /// The vector of the columns that are fixed at 1.
-pub fn vector(alloc: Global, rounds: &Rounds) -> Result<Vec<bool>, AllocError> {
-    let mut on = Vec::new(alloc);
-    for column in &rounds.columns {
-        on.push(is_one(column.place))?;
+pub fn vector(alloc: Global, z: &ZeroOne, rounds: &Rounds) -> Result<Vec<bool>, AllocError> {
+    let mut on = Vec::with_capacity(alloc, z.costs.len())?;
+    for j in 0..z.costs.len() {
+        let place = rounds.place_of(u32::try_from(j).unwrap_or(u32::MAX));
+        on.push(place == Some(true))?;
     }
     Ok(on)
 }

@@ -35,7 +35,7 @@ pub struct Exchange {
 impl Exchange {
     /// Whether the exchanges end.
     fn is_done(&self, rounds: &Rounds) -> bool {
-        self.cost <= self.lower || rounds.work > self.end
+        self.cost <= self.lower || rounds.work() > self.end
     }
 
     /// Frees the columns of a region.
@@ -49,15 +49,11 @@ impl Exchange {
     /// Takes the columns of a region as they are fixed.
     fn take(&mut self, rounds: &Rounds, columns: &[u32]) {
         for column in columns {
-            let place = match rounds.columns.get(*column as usize) {
-                Some(column) => column.place,
-                None => None,
-            };
             if let Some(on) = self.on.get_mut(*column as usize) {
-                *on = place == Some(true);
+                *on = rounds.place_of(*column) == Some(true);
             }
         }
-        self.cost = rounds.spent;
+        self.cost = rounds.spent();
     }
 
     /// Fixes the columns of a region again as the vector has them.
@@ -91,7 +87,7 @@ impl Exchange {
     ) -> bool {
         self.add_far(rounds, region);
         self.free(rounds, &region.columns);
-        rounds.run(z, first);
+        rounds.run(first);
         let way = Way {
             next: 40,
             cutoff: self.cost,
@@ -108,11 +104,11 @@ impl Exchange {
     /// A dive without this column in which the region is free. Whether every row is met, for no more.
     fn dive_without(&self, z: &ZeroOne, rounds: &mut Rounds, column: u32, size: usize) -> bool {
         rounds.fix(column, false);
-        if !rounds.propagate(z) {
+        if !rounds.propagate() {
             return false;
         }
-        rounds.run(z, u32::try_from(40 + size / 20).unwrap_or(40));
-        if rounds.bound > i128::from(self.cost).wrapping_mul(i128::from(ONE)) {
+        rounds.run(u32::try_from(40 + size / 20).unwrap_or(40));
+        if rounds.bound() > i128::from(self.cost).wrapping_mul(i128::from(ONE)) {
             return false;
         }
         let way = Way {
@@ -133,7 +129,7 @@ impl Exchange {
         size: usize,
         pass: usize,
     ) -> bool {
-        region.grow(z, rounds, column, &self.on, size, pass);
+        region.grow(rounds, column, &self.on, size, pass);
         self.free(rounds, &region.columns);
         let was = self.cost;
         if self.dive_without(z, rounds, column, size) {
@@ -230,11 +226,11 @@ impl Exchange {
         still: u32,
     ) -> Result<(), AllocError> {
         rounds.undo(0);
-        rounds.set_all_activities(&self.on);
-        self.cost = rounds.spent;
-        rounds.run(z, 20);
+        rounds.place_all(&self.on);
+        self.cost = rounds.spent();
+        rounds.run(20);
         self.passes(alloc, z, rounds, from, still)?;
-        rounds.set_all_activities(&[]);
+        rounds.place_all(&[]);
         Ok(())
     }
 }

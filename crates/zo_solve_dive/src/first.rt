@@ -7,14 +7,13 @@ ghost use Rattle.zo_solve_state.specs.Vector.{IsVector, cost_at, start_cost};
 
 use crate::dive::{Way, run_dive, vector};
 use crate::exchange::Exchange;
+use crate::fixing::fix_decided;
 use crate::needless::drop_needless;
 use std::alloc::{AllocError, Global};
-use std::mem;
 use zo_cert_tree::Claim;
 use zo_model::{Assignment, ZeroOne, feasible};
 use zo_solve_relaxation::long::Length;
-use zo_solve_relaxation::matrix::Matrix;
-use zo_solve_relaxation::{ONE, Rounds, quotient};
+use zo_solve_relaxation::{Log, ONE, Rounds, quotient};
 use zo_solve_state::Best;
 
 /// A bound that no multipliers reach.
@@ -27,19 +26,16 @@ const TOLERANCE: i64 = ONE >> 12;
 const FIRST: Length = Length {
     rounds: 400,
     most: 2_000,
-    stalls: false,
 };
 
 const SECOND: Length = Length {
     rounds: 4_000,
     most: 0,
-    stalls: true,
 };
 
 const CLASH: Length = Length {
     rounds: 2_000,
     most: 0,
-    stalls: false,
 };
 /// The dives have nothing to beat. The second one has more rounds after each doubtful choice.
 const WAY: Way = Way {
@@ -53,7 +49,15 @@ const SECOND_WAY: Way = Way {
     cutoff: i64::MAX,
     repairs: 0,
 };
-/// The work of the first run, of each dive, and of the second run.
+/// The dives among cheaper vectors, at the most so many. Two fifths of the columns have to be fixed before them.
+const FIXED_REPAIRS: u32 = 60;
+
+const FIXED_DIVES: u32 = 8;
+/// The dive below the best vector.
+const BELOW_ROUNDS: u32 = 20;
+
+const BELOW_REPAIRS: u32 = 20;
+/// The work of the first run, of each dive, and of the second run, with the dive behind it.
 const FIRST_WORK: u64 = 250_000_000;
 
 const DIVE_WORK: u64 = 250_000_000;
@@ -69,7 +73,10 @@ const LAST_WORK: u64 = 40_000_000;
 /// A claim's cost, in units of the costs' divisor.
 fn cost_in_units(rounds: &Rounds, claim: &Claim) -> i64 {
     match claim {
-        Claim::Least(t) => quotient(i64::try_from(*t).unwrap_or(i64::MAX), rounds.divisor),
+        Claim::Least(t) => {
+            let cost = i64::try_from(*t).unwrap_or(i64::MAX);
+            quotient(cost, i64::from(rounds.divisor()))
+        }
         Claim::Nothing => i64::MAX,
     }
 }
@@ -80,9 +87,9 @@ pub fn needed(rounds: &Rounds, claim: &Claim) -> i128 {
         Claim::Least(t) => i128::from(*t)
             .wrapping_sub(1)
             .wrapping_mul(i128::from(ONE))
-            .checked_div(i128::from(rounds.divisor))
+            .checked_div(i128::from(rounds.divisor()))
             .unwrap_or(FAR),
-        Claim::Nothing if rounds.has_prices => FAR,
+        Claim::Nothing if rounds.has_prices() => FAR,
         Claim::Nothing => 0,
     }
 }
@@ -117,14 +124,82 @@ fn dived(
     rounds.limit_to(DIVE_WORK);
     rounds.enqueue_all();
     let is_found = run_dive(z, rounds, way);
-    let mut on = vector(alloc, rounds)?;
-    drop_needless(alloc, z, &rounds.matrix, &mut on)?;
+    let mut on = vector(alloc, z, rounds)?;
+    drop_needless(alloc, z, rounds, &mut on)?;
     rounds.undo(0);
-    rounds.give_back(z);
+    rounds.give_back();
     if is_found {
         return Ok(Some(Assignment { on }));
     }
     Ok(None)
+}
+
+/// What dives among the cheaper vectors told.
+#[derive(Drop)]
+struct Below {
+    /// Whether there may be a cheaper vector.
+    may_be: bool,
+    /// What the best one costs, in units of the divisor.
+    cost: i64,
+    x: Option<Assignment>,
+}
+
+/// A vector that costs less than this, by a dive. Columns that have one place in all such vectors are fixed.
+fn dive_fixed(
+    alloc: Global,
+    z: &ZeroOne,
+    rounds: &mut Rounds,
+    cost: i64,
+) -> Result<Below, AllocError> {
+    let need = i128::from(cost)
+        .wrapping_sub(1)
+        .wrapping_mul(i128::from(ONE));
+    let way = Way {
+        next: WAY.next,
+        cutoff: cost,
+        repairs: FIXED_REPAIRS,
+    };
+    rounds.limit_to(DIVE_WORK);
+    let may_be = fix_decided(rounds, z.costs.len(), need);
+    let is_many = rounds.fixed_count() >= z.costs.len() / 5 * 2;
+    let is_found = may_be && is_many && run_dive(z, rounds, way);
+    let cost = rounds.spent();
+    let mut on = vector(alloc, z, rounds)?;
+    drop_needless(alloc, z, rounds, &mut on)?;
+    rounds.undo(0);
+    rounds.give_back();
+    let x = if is_found {
+        Some(Assignment { on })
+    } else {
+        None
+    };
+    Ok(Below { may_be, cost, x })
+}
+
+/// A vector by dives among those that are cheaper than the best one, as long as they find one.
+fn dived_fixed(
+    alloc: Global,
+    z: &ZeroOne,
+    best: &Best,
+    rounds: &mut Rounds,
+) -> Result<Below, AllocError> {
+    let mut last = Below {
+        may_be: true,
+        cost: cost_in_units(rounds, &best.claim),
+        x: None,
+    };
+    if best.x.is_none() {
+        return Ok(last);
+    }
+    for _ in 0..FIXED_DIVES {
+        let next = dive_fixed(alloc, z, rounds, last.cost)?;
+        if next.x.is_none() {
+            last.may_be = next.may_be;
+            return Ok(last);
+        }
+        last = next;
+    }
+    Ok(last)
 }
 
 /// A vector by a second dive, where the best one may not be the cheapest.
@@ -163,7 +238,7 @@ fn exchanged(
         on: Vec::from_slice(alloc, &x.on)?,
         cost,
         lower,
-        end: rounds.work.saturating_add(work),
+        end: rounds.work().saturating_add(work),
     };
     exchange_all(alloc, z, rounds, &mut exchange, is_later)?;
     let Exchange { on, .. } = exchange;
@@ -178,61 +253,111 @@ fn exchange_all(
     exchange: &mut Exchange,
     is_later: bool,
 ) -> Result<(), AllocError> {
-    drop_needless(alloc, z, &rounds.matrix, &mut exchange.on)?;
+    drop_needless(alloc, z, rounds, &mut exchange.on)?;
     let (from, still) = if is_later { (2, 10) } else { (0, 2) };
     exchange.run(alloc, z, rounds, from, still)?;
-    drop_needless(alloc, z, &rounds.matrix, &mut exchange.on)?;
-    rounds.give_back(z);
+    drop_needless(alloc, z, rounds, &mut exchange.on)?;
+    rounds.give_back();
     Ok(())
 }
 
-/// Takes the vector, where there is one that meets the rows and is better.
-fn take_some(z: &ZeroOne, best: &mut Best, x: Option<Assignment>)
+/// Takes the vector, where there is one that meets the rows and is better. Whether it was taken.
+fn take_some(z: &ZeroOne, best: &mut Best, x: Option<Assignment>) -> bool
     requires valid { IsValid z.now }
     requires best { IsBest z.now best.old }
     ensures best { IsBest z.now best.new }
     ensures start { best.new.start ≡ best.old.start }
     ensures weaker { IsWeaker best.old.claim best.new.claim }
 {
-    if let Some(x) = x {
-        take(z, best, x);
+    match x {
+        Some(x) => take(z, best, x),
+        None => false,
     }
 }
 
 /// The first run of rounds; what it shows that every vector costs.
-fn run_first(z: &ZeroOne, best: &Best, rounds: &mut Rounds) -> i64 {
-    rounds.tolerance = FIRST_TOLERANCE;
+fn run_first(best: &Best, rounds: &mut Rounds) -> i64 {
+    rounds.set_tolerance(FIRST_TOLERANCE);
     rounds.limit_to(FIRST_WORK);
     let need = needed(rounds, &best.claim);
-    rounds.run_long(z, need, FIRST);
+    rounds.run_long(need, FIRST);
     rounds.keep();
-    rounds.tolerance = TOLERANCE;
+    rounds.set_tolerance(TOLERANCE);
     rounds.lower()
 }
 
 /// The second run, with the weight that the first one ended with; where no vector is known, without the costs.
-fn run_second(z: &ZeroOne, best: &Best, rounds: &mut Rounds) {
-    rounds.tolerance = 1;
+fn run_second(best: &Best, rounds: &mut Rounds) {
+    rounds.set_tolerance(1);
     rounds.limit_to(SECOND_WORK);
     if best.x.is_none() {
-        rounds.restart(z, false);
-        rounds.run_long(z, 0, CLASH);
+        rounds.restart(false);
+        rounds.run_long(0, CLASH);
     } else {
         let need = needed(rounds, &best.claim);
-        if rounds.bound <= need {
-            rounds.run_long(z, need, SECOND);
+        if rounds.bound() <= need {
+            rounds.run_long(need, SECOND);
         }
     }
-    rounds.weight = rounds.first_weight;
-    rounds.tolerance = TOLERANCE;
+    rounds.reset_weight();
+    rounds.set_tolerance(TOLERANCE);
 }
 
 /// Whether the rounds show that the best vector is best.
 fn is_shown(rounds: &Rounds, best: &Best) -> bool {
-    rounds.bound > needed(rounds, &best.claim)
+    rounds.bound() > needed(rounds, &best.claim)
+}
+
+/// Vectors by dives and exchanges, after the first run.
+fn improve_first(
+    alloc: Global,
+    z: &ZeroOne,
+    best: &mut Best,
+    rounds: &mut Rounds,
+    lower: i64,
+) -> Result<(), AllocError>
+    requires valid { IsValid z.now }
+    requires best { IsBest z.now best.old }
+    ensures best { IfOk result (λ _. IsBest z.now best.new) }
+    ensures start { IfOk result (λ _. best.new.start ≡ best.old.start) }
+{
+    let x = dived(alloc, z, rounds, WAY)?;
+    take_some(z, best, x);
+    let Below { may_be, x, .. } = dived_fixed(alloc, z, best, rounds)?;
+    take_some(z, best, x);
+    if may_be {
+        let x = dived_again(alloc, z, best, rounds, lower)?;
+        take_some(z, best, x);
+        let x = exchanged(alloc, z, best, rounds, lower, false)?;
+        take_some(z, best, x);
+    }
+    Ok(())
 }
 
 /// The first rounds and vectors.
+fn improve_by_runs(
+    alloc: Global,
+    z: &ZeroOne,
+    best: &mut Best,
+    rounds: &mut Rounds,
+) -> Result<(), AllocError>
+    requires valid { IsValid z.now }
+    requires best { IsBest z.now best.old }
+    ensures best { IfOk result (λ _. IsBest z.now best.new) }
+    ensures start { IfOk result (λ _. best.new.start ≡ best.old.start) }
+{
+    let lower = run_first(best, rounds);
+    let weight = rounds.reset_weight();
+    if !is_shown(rounds, best) {
+        improve_first(alloc, z, best, rounds, lower)?;
+    }
+    rounds.set_weight(weight);
+    run_second(best, rounds);
+    rounds.limit_to(SECOND_WORK);
+    Ok(())
+}
+
+/// The rounds before the tree, and the vectors by them.
 fn improve(
     alloc: Global,
     z: &ZeroOne,
@@ -244,19 +369,52 @@ fn improve(
     ensures best { IfOk result (λ _. IsBest z.now best.new) }
     ensures start { IfOk result (λ _. best.new.start ≡ best.old.start) }
 {
-    let lower = run_first(z, best, rounds);
-    let weight = rounds.weight;
-    rounds.weight = rounds.first_weight;
-    if !is_shown(rounds, best) {
-        let x = dived(alloc, z, rounds, WAY)?;
-        take_some(z, best, x);
-        let x = dived_again(alloc, z, best, rounds, lower)?;
-        take_some(z, best, x);
-        let x = exchanged(alloc, z, best, rounds, lower, false)?;
-        take_some(z, best, x);
+    improve_by_runs(alloc, z, best, rounds)?;
+    dive_below(alloc, z, best, rounds)
+}
+
+/// A vector by a dive from where the rounds stand, cheaper than the best one. The rounds come back to where they stood.
+fn dived_below(
+    alloc: Global,
+    z: &ZeroOne,
+    best: &Best,
+    rounds: &mut Rounds,
+) -> Result<Option<Assignment>, AllocError> {
+    if best.x.is_none() || !rounds.has_prices() || is_shown(rounds, best) {
+        return Ok(None);
     }
-    rounds.weight = weight;
-    run_second(z, best, rounds);
+    let way = Way {
+        next: BELOW_ROUNDS,
+        cutoff: cost_in_units(rounds, &best.claim),
+        repairs: BELOW_REPAIRS,
+    };
+    rounds.keep_best();
+    let log = rounds.replace_log(Log::new(alloc));
+    rounds.clear_queue();
+    let is_found = run_dive(z, rounds, way);
+    let on = vector(alloc, z, rounds);
+    rounds.undo(0);
+    rounds.give_best();
+    rounds.replace_log(log);
+    let x = Assignment { on: on? };
+    Ok(if is_found { Some(x) } else { None })
+}
+
+/// Makes the best vector cheaper by a dive from where the rounds stand, if that finds one.
+pub fn dive_below(
+    alloc: Global,
+    z: &ZeroOne,
+    best: &mut Best,
+    rounds: &mut Rounds,
+) -> Result<(), AllocError>
+    requires valid { IsValid z.now }
+    requires best { IsBest z.now best.old }
+    ensures best { IfOk result (λ _. IsBest z.now best.new) }
+    ensures start { IfOk result (λ _. best.new.start ≡ best.old.start) }
+    ensures weaker { IfOk result (λ _. IsWeaker best.old.claim best.new.claim) }
+{
+    let x = dived_below(alloc, z, best, rounds)?;
+    take_some(z, best, x);
     Ok(())
 }
 
@@ -277,29 +435,31 @@ pub fn begin(
     Ok(best)
 }
 
-/// Exchanges on rounds of their own, that begin with what others keep and borrow their matrix.
+/// Exchanges that begin with what was kept. The rounds come back to where they stood.
 fn exchanged_again(
     alloc: Global,
     z: &ZeroOne,
     best: &Best,
-    others: &mut Rounds,
+    rounds: &mut Rounds,
     lower: i64,
 ) -> Result<Option<Assignment>, AllocError> {
-    let matrix = mem::replace(&mut others.matrix, Matrix::none(alloc));
-    let mut rounds = Rounds::over(alloc, z, matrix)?;
-    rounds.tolerance = TOLERANCE;
-    rounds.take_kept(others, z);
-    let x = exchanged(alloc, z, best, &mut rounds, lower, true)?;
-    mem::swap(&mut others.matrix, &mut rounds.matrix);
-    Ok(x)
+    rounds.keep_best();
+    let log = rounds.replace_log(Log::new(alloc));
+    let left = rounds.left();
+    rounds.give_back();
+    let x = exchanged(alloc, z, best, rounds, lower, true);
+    rounds.limit_to(left);
+    rounds.give_best();
+    rounds.replace_log(log);
+    x
 }
 
-/// Makes the best vector cheaper, if more exchanges can.
+/// Makes the best vector cheaper, if more exchanges can. No column is fixed before.
 pub fn improve_again(
     alloc: Global,
     z: &ZeroOne,
     best: &mut Best,
-    others: &mut Rounds,
+    rounds: &mut Rounds,
     lower: i64,
 ) -> Result<(), AllocError>
     requires valid { IsValid z.now }
@@ -308,7 +468,7 @@ pub fn improve_again(
     ensures start { IfOk result (λ _. best.new.start ≡ best.old.start) }
     ensures weaker { IfOk result (λ _. IsWeaker best.old.claim best.new.claim) }
 {
-    let x = exchanged_again(alloc, z, best, others, lower)?;
+    let x = exchanged_again(alloc, z, best, rounds, lower)?;
     take_some(z, best, x);
     Ok(())
 }

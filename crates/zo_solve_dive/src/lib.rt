@@ -4,8 +4,9 @@
 mod dive;
 mod exchange;
 mod first;
+mod fixing;
 mod needless;
 mod region;
 
 pub use dive::Way;
-pub use first::{begin, improve_again, needed};
+pub use first::{begin, dive_below, improve_again, needed};

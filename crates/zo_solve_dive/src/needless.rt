@@ -2,7 +2,7 @@
 
 use std::alloc::{AllocError, Global};
 use zo_model::{Row, ZeroOne};
-use zo_solve_relaxation::matrix::Matrix;
+use zo_solve_relaxation::{Rounds, Terms};
 
 /// The low half of a word.
 const LOW: u64 = 0xffff_ffff;
@@ -45,11 +45,13 @@ fn sums_of(alloc: Global, z: &ZeroOne, on: &[bool]) -> Result<Vec<i64>, AllocErr
 }
 
 /// Whether each row of the column holds without it.
-fn is_needless(z: &ZeroOne, sums: &[i64], terms: &[(u32, i32)]) -> bool {
-    for (i, a) in terms {
-        if let (Some(row), Some(sum)) = (z.rows.get(*i as usize), sums.get(*i as usize)) {
-            if sum.wrapping_sub(i64::from(*a)) < i64::from(row.least) {
-                return false;
+fn is_needless(z: &ZeroOne, sums: &[i64], terms: Terms<'_>) -> bool {
+    for k in 0..terms.len() {
+        if let Some((i, a)) = terms.get(k) {
+            if let (Some(row), Some(sum)) = (z.rows.get(i as usize), sums.get(i as usize)) {
+                if sum.wrapping_sub(a) < i64::from(row.least) {
+                    return false;
+                }
             }
         }
     }
@@ -57,10 +59,12 @@ fn is_needless(z: &ZeroOne, sums: &[i64], terms: &[(u32, i32)]) -> bool {
 }
 
 /// Takes the column out of the sums of its rows.
-fn drop_column(sums: &mut [i64], terms: &[(u32, i32)]) {
-    for (i, a) in terms {
-        if let Some(sum) = sums.get_mut(*i as usize) {
-            *sum = sum.wrapping_sub(i64::from(*a));
+fn drop_column(sums: &mut [i64], terms: Terms<'_>) {
+    for k in 0..terms.len() {
+        if let Some((i, a)) = terms.get(k) {
+            if let Some(sum) = sums.get_mut(i as usize) {
+                *sum = sum.wrapping_sub(a);
+            }
         }
     }
 }
@@ -69,13 +73,13 @@ fn drop_column(sums: &mut [i64], terms: &[(u32, i32)]) {
 pub fn drop_needless(
     alloc: Global,
     z: &ZeroOne,
-    matrix: &Matrix,
+    rounds: &Rounds,
     on: &mut [bool],
 ) -> Result<(), AllocError> {
     let mut sums = sums_of(alloc, z, on)?;
     let dear = costly(alloc, z, on)?;
     for column in &dear {
-        let terms = matrix.terms(*column);
+        let terms = rounds.column(*column);
         if is_needless(z, &sums, terms) {
             drop_column(&mut sums, terms);
             if let Some(place) = on.get_mut(*column as usize) {

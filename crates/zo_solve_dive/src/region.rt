@@ -3,7 +3,7 @@
 
 use std::alloc::{AllocError, Global};
 use zo_model::ZeroOne;
-use zo_solve_relaxation::{Rounds, put};
+use zo_solve_relaxation::{Rounds, Terms, put};
 
 /// A row of more terms is long.
 const SHORT: usize = 12;
@@ -61,19 +61,21 @@ impl Region {
     }
 
     /// Puts the columns of a short row in.
-    fn add_short(&mut self, terms: &[(u32, i32)]) {
-        for (j, _) in terms {
-            self.add(*j);
+    fn add_short(&mut self, terms: Terms<'_>) {
+        for k in 0..terms.len() {
+            if let Some((j, _)) = terms.get(k) {
+                self.add(j);
+            }
         }
     }
 
     /// Puts a few columns of a long row in that are 1, from a place on.
-    fn add_long(&mut self, terms: &[(u32, i32)], on: &[bool], from: usize) {
+    fn add_long(&mut self, terms: Terms<'_>, on: &[bool], from: usize) {
         let mut left = FEW;
         for k in 0..terms.len() {
             let at = from.wrapping_add(k).checked_rem(terms.len()).unwrap_or(0);
             if let Some((j, _)) = terms.get(at) {
-                if left > 0 && on.get(*j as usize).copied() == Some(true) && self.add(*j) {
+                if left > 0 && on.get(j as usize).copied() == Some(true) && self.add(j) {
                     left = left.saturating_sub(1);
                     self.room = self.room.saturating_sub(1);
                 }
@@ -90,37 +92,26 @@ impl Region {
     }
 
     /// Looks at a row of the column at a place of the list.
-    fn visit(
-        &mut self,
-        z: &ZeroOne,
-        rounds: &mut Rounds,
-        row: u32,
-        on: &[bool],
-        from: usize,
-        is_head: bool,
-    ) {
-        let Some(it) = z.rows.get(row as usize) else {
-            return;
-        };
-        let is_short = it.terms.len() <= SHORT;
+    fn visit(&mut self, rounds: &mut Rounds, row: u32, on: &[bool], from: usize, is_head: bool) {
+        let count = rounds.row(row).len();
+        let is_short = count <= SHORT;
         if !self.is_new(row) || (!is_short && !(is_head && self.room > 0 && rounds.is_tight(row))) {
             return;
         }
         if let Some(seen) = self.seen.get_mut(row as usize) {
             *seen = self.stamp;
         }
-        rounds.spend(it.terms.len());
+        rounds.spend(count);
         if is_short {
-            self.add_short(&it.terms);
+            self.add_short(rounds.row(row));
         } else {
-            self.add_long(&it.terms, on, from);
+            self.add_long(rounds.row(row), on, from);
         }
     }
 
     /// The columns round this one, some so many.
     pub fn grow(
         &mut self,
-        z: &ZeroOne,
         rounds: &mut Rounds,
         column: u32,
         on: &[bool],
@@ -140,9 +131,9 @@ impl Region {
             let Some(next) = self.columns.get(head).copied() else {
                 return;
             };
-            for k in 0..rounds.matrix.terms(next).len() {
-                if let Some((row, _)) = rounds.matrix.terms(next).get(k).copied() {
-                    self.visit(z, rounds, row, on, from, head < HEAD);
+            for k in 0..rounds.column(next).len() {
+                if let Some((row, _)) = rounds.column(next).get(k) {
+                    self.visit(rounds, row, on, from, head < HEAD);
                 }
             }
         }

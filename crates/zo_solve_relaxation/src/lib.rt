@@ -1,13 +1,19 @@
 //! Rounds of a first-order method for the linear relaxation of a 0-1 program, with the sums of its rows while columns are fixed.
 #![tactic(auto)]
 
-pub mod activities;
-pub mod column;
-pub mod dual;
+mod activities;
+mod column;
+mod dual;
+mod due;
 pub mod long;
-pub mod matrix;
-pub mod rounds;
-pub mod undo;
-pub mod window;
+mod matrix;
+mod places;
+mod rounds;
+mod terms;
+mod undo;
+mod window;
 
-pub use rounds::{ONE, Rounds, put, quotient};
+pub use due::put;
+pub use rounds::{ONE, Rounds, quotient};
+pub use terms::Terms;
+pub use undo::Log;

@@ -4,18 +4,19 @@
 //! and stay out of the rounds. Where the difference of two rows always holds, the second one implies the first. A row is compared
 //! with those near it in the shortest of its columns.
 
+use crate::terms::Lists;
 use std::alloc::{AllocError, Global};
 use zo_model::{Row, ZeroOne};
 
 /// A row is compared with N rows before it and after it.
 const NEAR: usize = 8;
 
-/// Each column's terms in the rows that count: `entries[starts[j]..starts[j + 1]]`, the rows rising.
+/// The rows that count, and the terms in them by rows and by columns.
 #[derive(Drop)]
 pub struct Matrix {
-    pub counts: Vec<bool>,
-    starts: Vec<usize>,
-    entries: Vec<(u32, i32)>,
+    counts: Vec<bool>,
+    pub rows: Lists,
+    pub columns: Lists,
 }
 
 /// Whether some 0-1 vector misses the row.
@@ -36,9 +37,41 @@ fn failing(alloc: Global, z: &ZeroOne) -> Result<Vec<bool>, AllocError> {
     Ok(counts)
 }
 
+/// Whether a coefficient of a row isn't 1 or -1.
+fn is_sized(row: &Row) -> bool {
+    for (_, a) in &row.terms {
+        if a.wrapping_abs() != 1 {
+            return true;
+        }
+    }
+    false
+}
+
+/// Whether a coefficient of a row that counts isn't 1 or -1.
+fn has_sizes(z: &ZeroOne, counts: &[bool]) -> bool {
+    for (row, is_counted) in z.rows.iter().zip(counts) {
+        if *is_counted && is_sized(row) {
+            return true;
+        }
+    }
+    false
+}
+
+/// Adds to each count those before it, and puts the sum after them.
+fn add_up(starts: &mut Vec<u32>) -> Result<(), AllocError> {
+    let mut sum: u32 = 0;
+    for start in starts.iter_mut() {
+        let count = *start;
+        *start = sum;
+        sum = sum.wrapping_add(count);
+    }
+    starts.push(sum)?;
+    Ok(())
+}
+
 /// For each column how many terms in rows that count stand before it.
-fn starts_of(alloc: Global, z: &ZeroOne, counts: &[bool]) -> Result<Vec<usize>, AllocError> {
-    let mut starts: Vec<usize> = vec![in alloc; 0; z.costs.len()]?;
+fn column_starts(alloc: Global, z: &ZeroOne, counts: &[bool]) -> Result<Vec<u32>, AllocError> {
+    let mut starts: Vec<u32> = vec![in alloc; 0; z.costs.len()]?;
     for (row, is_counted) in z.rows.iter().zip(counts) {
         if *is_counted {
             for (j, _) in &row.terms {
@@ -48,46 +81,60 @@ fn starts_of(alloc: Global, z: &ZeroOne, counts: &[bool]) -> Result<Vec<usize>, 
             }
         }
     }
-    let mut sum: usize = 0;
-    for start in starts.iter_mut() {
-        let count = *start;
-        *start = sum;
-        sum = sum.wrapping_add(count);
+    add_up(&mut starts)?;
+    Ok(starts)
+}
+
+/// For each row how many terms in rows that count stand before it.
+fn row_starts(alloc: Global, z: &ZeroOne, counts: &[bool]) -> Result<Vec<u32>, AllocError> {
+    let mut starts: Vec<u32> = Vec::with_capacity(alloc, z.rows.len())?;
+    for (row, is_counted) in z.rows.iter().zip(counts) {
+        let count = if *is_counted { row.terms.len() } else { 0 };
+        starts.push(u32::try_from(count).unwrap_or(0))?;
     }
-    starts.push(sum)?;
+    add_up(&mut starts)?;
     Ok(starts)
 }
 
 /// Puts the terms of a row where their columns' next ones go.
-fn put_terms(entries: &mut [(u32, i32)], next: &mut [usize], row: u32, terms: &[(u32, i32)]) {
+fn put_terms(lists: &mut Lists, next: &mut [u32], row: u32, terms: &[(u32, i32)]) {
     for (j, a) in terms {
         if let Some(at) = next.get_mut(*j as usize) {
-            if let Some(entry) = entries.get_mut(*at) {
-                *entry = (row, *a);
-            }
+            lists.set(*at as usize, row, *a);
             *at = at.wrapping_add(1);
         }
     }
 }
 
 /// The columns' terms in rows that count.
-fn by_columns(alloc: Global, z: &ZeroOne, counts: Vec<bool>) -> Result<Matrix, AllocError> {
-    let starts = starts_of(alloc, z, &counts)?;
-    let total = starts.last().copied().unwrap_or(0);
-    let mut entries: Vec<(u32, i32)> = vec![in alloc; (0, 0); total]?;
+fn by_columns(alloc: Global, z: &ZeroOne, counts: &[bool]) -> Result<Lists, AllocError> {
+    let starts = column_starts(alloc, z, counts)?;
     let mut next = Vec::from_slice(alloc, &starts)?;
-    for (i, (row, is_counted)) in z.rows.iter().zip(&counts).enumerate() {
+    let mut lists = Lists::with_starts(alloc, starts, has_sizes(z, counts))?;
+    for (i, (row, is_counted)) in z.rows.iter().zip(counts).enumerate() {
         if *is_counted {
             if let Ok(i) = u32::try_from(i) {
-                put_terms(&mut entries, &mut next, i, &row.terms);
+                put_terms(&mut lists, &mut next, i, &row.terms);
             }
         }
     }
-    Ok(Matrix {
-        counts,
-        starts,
-        entries,
-    })
+    Ok(lists)
+}
+
+/// The terms of the rows that count.
+fn by_rows(alloc: Global, z: &ZeroOne, counts: &[bool]) -> Result<Lists, AllocError> {
+    let starts = row_starts(alloc, z, counts)?;
+    let mut lists = Lists::with_starts(alloc, starts, has_sizes(z, counts))?;
+    let mut at: usize = 0;
+    for (row, is_counted) in z.rows.iter().zip(counts) {
+        if *is_counted {
+            for (j, a) in &row.terms {
+                lists.set(at, *j, *a);
+                at = at.wrapping_add(1);
+            }
+        }
+    }
+    Ok(lists)
 }
 
 /// A place in one of two lists of terms.
@@ -137,10 +184,18 @@ fn is_implied(row: &Row, by: &Row) -> bool {
     at.least >= room
 }
 
+/// The rows that may count, and their terms by columns.
+#[derive(Drop)]
+struct Candidates {
+    counts: Vec<bool>,
+    columns: Lists,
+}
+
 /// Which rows count.
 fn counted(alloc: Global, z: &ZeroOne) -> Result<Vec<bool>, AllocError> {
     let counts = failing(alloc, z)?;
-    let mut all = by_columns(alloc, z, counts)?;
+    let columns = by_columns(alloc, z, &counts)?;
+    let mut all = Candidates { counts, columns };
     for i in 0..z.rows.len() {
         if all.is_repeated(z, i) {
             if let Some(counts) = all.counts.get_mut(i) {
@@ -148,41 +203,37 @@ fn counted(alloc: Global, z: &ZeroOne) -> Result<Vec<bool>, AllocError> {
             }
         }
     }
-    let Matrix { counts, .. } = all;
+    let Candidates { counts, .. } = all;
     Ok(counts)
 }
 
 impl Matrix {
-    /// No row and no column.
-    pub fn none(alloc: Global) -> Matrix {
-        Matrix {
-            counts: Vec::new(alloc),
-            starts: Vec::new(alloc),
-            entries: Vec::new(alloc),
-        }
-    }
-
-    /// The rows that count, and the columns' terms in them.
+    /// The rows that count, and their terms.
     pub fn new(alloc: Global, z: &ZeroOne) -> Result<Matrix, AllocError> {
         let counts = counted(alloc, z)?;
-        by_columns(alloc, z, counts)
-    }
-
-    /// The rows that count of a column, each with the coefficient there.
-    pub fn terms(&self, column: u32) -> &[(u32, i32)] {
-        let j = column as usize;
-        let from = self.starts.get(j).copied().unwrap_or(0);
-        let to = self.starts.get(j.wrapping_add(1)).copied().unwrap_or(0);
-        self.entries.get(from..to).unwrap_or(&[])
+        let rows = by_rows(alloc, z, &counts)?;
+        let columns = by_columns(alloc, z, &counts)?;
+        Ok(Matrix {
+            counts,
+            rows,
+            columns,
+        })
     }
 
     /// How many terms there are.
     pub fn len(&self) -> usize {
-        self.entries.len()
+        self.columns.len()
     }
 
     /// Whether the row is there and counts.
     pub fn is_counted(&self, row: usize) -> bool {
+        self.counts.get(row).copied().unwrap_or(false)
+    }
+}
+
+impl Candidates {
+    /// Whether the row is there and may count.
+    fn is_counted(&self, row: usize) -> bool {
         self.counts.get(row).copied().unwrap_or(false)
     }
 
@@ -191,7 +242,7 @@ impl Matrix {
         let mut best: u32 = 0;
         let mut fewest = usize::MAX;
         for (j, _) in &row.terms {
-            let count = self.terms(*j).len();
+            let count = self.columns.list(*j).len();
             if count < fewest {
                 best = *j;
                 fewest = count;
@@ -200,12 +251,12 @@ impl Matrix {
         best
     }
 
-    /// Whether the other row counts and implies this one.
-    fn implies(&self, z: &ZeroOne, other: Option<&(u32, i32)>, i: usize, row: &Row) -> bool {
+    /// Whether the other row may count and implies this one.
+    fn implies(&self, z: &ZeroOne, other: Option<(u32, i64)>, i: usize, row: &Row) -> bool {
         let Some((s, _)) = other else {
             return false;
         };
-        let s = *s as usize;
+        let s = s as usize;
         if s == i || !self.is_counted(s) {
             return false;
         }
@@ -215,7 +266,7 @@ impl Matrix {
         }
     }
 
-    /// Whether a row near it that counts implies it.
+    /// Whether a row near it that may count implies it.
     fn is_repeated(&self, z: &ZeroOne, i: usize) -> bool {
         if !self.is_counted(i) {
             return false;
@@ -223,8 +274,8 @@ impl Matrix {
         let Some(row) = z.rows.get(i) else {
             return false;
         };
-        let near = self.terms(self.shortest(row));
-        let at = near.partition_point(|term| (term.0 as usize) < i);
+        let near = self.columns.list(self.shortest(row));
+        let at = near.count_before(i);
         for off in 1..NEAR + 1 {
             if off <= at && self.implies(z, near.get(at.wrapping_sub(off)), i, row) {
                 return true;

@@ -8,95 +8,74 @@
 //!
 //! Nothing rests on the rounds: a leaf counts only by the bound that is computed as the checker does.
 
-use crate::column::{Column, Weight};
+use crate::column::{Column, Pace, Weight};
 use crate::dual::Dual;
+use crate::due::{Due, Marks};
 use crate::matrix::Matrix;
-use crate::undo::{History, LoggedValue};
+use crate::places::Places;
+use crate::terms::Terms;
+use crate::undo::{ColumnPast, DualPast, History, Log};
+use crate::window::Window;
 use std::alloc::{AllocError, Global};
 use std::mem;
-use zo_model::{Row, ZeroOne};
+use zo_model::ZeroOne;
 
 /// A whole column, and a multiplier of 1.
 pub const ONE: i64 = 1 << 22;
-/// The log has at most so many moves.
-const LOG_LIMIT: usize = 1 << 23;
-
-/// A row's sums with the columns that are fixed.
-#[derive(Clone, Copy, Drop)]
-pub struct RowActivity {
-    // the most that it can still be
-    pub reach: i64,
-    // with 0 for all unfixed columns
-    pub ones: i64,
-    pub least: i64,
-    pub is_queued: bool,
-}
 
 /// The state of the rounds, with the columns that are fixed.
 #[derive(Drop)]
 pub struct Rounds {
-    pub matrix: Matrix,
-    pub columns: Vec<Column>,
-    pub duals: Vec<Dual>,
+    pub(crate) matrix: Matrix,
+    // what each column costs, over the divisor
+    costs: Vec<u32>,
+    pub(crate) columns: Vec<Column>,
+    pub(crate) duals: Vec<Dual>,
     // what each column, and each row, was
-    pub column_histories: Vec<History>,
-    pub dual_histories: Vec<History>,
-    pub activities: Vec<RowActivity>,
-    // the columns and the rows that the next round looks at, and those that are set aside
-    pub due_columns: Vec<u32>,
-    pub due_rows: Vec<u32>,
-    pub next_columns: Vec<u32>,
-    pub next_rows: Vec<u32>,
-    pub aside_columns: Vec<u32>,
-    pub aside_rows: Vec<u32>,
+    pub(crate) column_histories: Vec<History>,
+    pub(crate) dual_histories: Vec<History>,
+    pub(crate) column_pasts: Vec<ColumnPast>,
+    pub(crate) dual_pasts: Vec<DualPast>,
+    pub(crate) due_columns: Due,
+    pub(crate) due_duals: Due,
+    pub(crate) places: Places,
+    pub(crate) log: Log,
+    pub(crate) window: Window,
     // the greatest common divisor of the costs
-    pub divisor: i64,
-    pub first_weight: Weight,
-    pub weight: Weight,
-    // smaller moves of columns are left out
-    pub tolerance: i64,
-    // what the multipliers prove that every vector costs, in units of the divisor / `ONE`
-    pub bound: i128,
-    pub has_prices: bool,
-    // whether the means over a window are kept, the rounds since they are, and when this window began
-    pub has_means: bool,
-    pub clock: i64,
-    pub window: i64,
-    // what to undo
-    pub log: Vec<LoggedValue>,
-    pub has_log: bool,
-    pub stamp: u64,
-    // the columns that are fixed, in the order in which they were, and the rows that may force others
-    pub trail: Vec<u32>,
-    pub queue: Vec<u32>,
-    // all rows before this one are met; how many aren't, and how many can't be
-    pub first: usize,
-    pub unmet: i64,
-    pub unreachable: i64,
-    // what the columns fixed at 1 cost, in units of the divisor
-    pub spent: i64,
+    divisor: u32,
+    pub(crate) first_weight: Weight,
+    pub(crate) weight: Weight,
+    tolerance: i64,
+    pub(crate) bound: i128,
+    has_prices: bool,
     // how many columns, rows and terms were visited, and at how many the rounds end
-    pub work: u64,
-    pub limit: u64,
-}
-
-/// Puts something after a list, where there is room for it.
-///
-/// Lists of columns and rows have room from the start. Nothing rests on what is put there.
-pub fn put<T: Drop>(list: &mut Vec<T>, it: T) {
-    let _ = list.push(it);
-}
-
-/// Puts a move after the log. One for which there is no room isn't undone.
-fn note(log: &mut Vec<LoggedValue>, was: LoggedValue) {
-    if log.len() < LOG_LIMIT {
-        put(log, was);
-    }
+    work: u64,
+    limit: u64,
 }
 
 /// `a / b`, or 0 where there is no such number.
 pub fn quotient(a: i64, b: i64) -> i64 {
     a.checked_div(b).unwrap_or(0)
+}
+
+/// The product with a reciprocal, shifted down, rounded towards 0.
+pub(crate) fn scaled(a: i64, reciprocal: u32, shift: u32) -> i64 {
+    let product = i128::from(a.wrapping_abs()).wrapping_mul(i128::from(reciprocal));
+    let part = product.checked_shr(shift).unwrap_or(0);
+    let part = i64::try_from(part).unwrap_or(i64::MAX);
+    if a < 0 { part.wrapping_neg() } else { part }
+}
+
+/// 2^32 over the sum of the sizes of the coefficients; 0 where there is none.
+fn reciprocal_of(terms: Terms<'_>) -> u32 {
+    let mut size: u64 = 0;
+    for k in 0..terms.len() {
+        if let Some((_, a)) = terms.get(k) {
+            size = size.wrapping_add(u64::try_from(a.wrapping_abs()).unwrap_or(0));
+        }
+    }
+    let all: u64 = 1 << 32;
+    u32::try_from(all.checked_div(size).unwrap_or(0)).unwrap_or(u32::MAX)
 }
 
 /// The greatest common divisor.
@@ -115,12 +94,12 @@ fn divisor_of(a: u32, b: u32) -> u32 {
 }
 
 /// The least e of 0 or more with a mean positive cost of at most 16 times 2^e.
-fn exponent_of(costs: &[u32], divisor: i64) -> i64 {
+fn exponent_of(costs: &[u32]) -> i64 {
     let mut sum: i64 = 0;
     let mut count: i64 = 0;
     for cost in costs {
         if *cost > 0 {
-            sum = sum.wrapping_add(quotient(i64::from(*cost), divisor));
+            sum = sum.wrapping_add(i64::from(*cost));
             count = count.wrapping_add(1);
         }
     }
@@ -136,124 +115,85 @@ fn exponent_of(costs: &[u32], divisor: i64) -> i64 {
     exponent
 }
 
+/// The costs over their divisor.
+fn costs_of(alloc: Global, z: &ZeroOne, divisor: u32) -> Result<Vec<u32>, AllocError> {
+    let mut costs = Vec::with_capacity(alloc, z.costs.len())?;
+    for cost in &z.costs {
+        costs.push(cost.checked_div(divisor).unwrap_or(0))?;
+    }
+    Ok(costs)
+}
+
 /// A column each, at 0, unfixed.
-fn columns_of(
-    alloc: Global,
-    z: &ZeroOne,
-    matrix: &Matrix,
-    divisor: i64,
-) -> Result<Vec<Column>, AllocError> {
+fn columns_of(alloc: Global, z: &ZeroOne, matrix: &Matrix) -> Result<Vec<Column>, AllocError> {
     let mut columns = Vec::with_capacity(alloc, z.costs.len())?;
-    for (j, cost) in z.costs.iter().enumerate() {
-        let mut size: i64 = 0;
-        for (_, a) in matrix.terms(u32::try_from(j).unwrap_or(u32::MAX)) {
-            size = size.wrapping_add(i64::from(*a).wrapping_abs());
-        }
+    for j in 0..z.costs.len() {
+        let terms = matrix.columns.list(u32::try_from(j).unwrap_or(u32::MAX));
         columns.push(Column {
+            pull: 0,
             value: 0,
             ahead: 0,
-            pull: 0,
             price: 0,
-            size,
-            cost: quotient(i64::from(*cost), divisor),
+            reciprocal: reciprocal_of(terms),
             place: None,
-            is_due: false,
         })?;
     }
     Ok(columns)
 }
 
-/// The multiplier of a row, at 0.
-fn dual_of(row: &Row, is_counted: bool) -> Dual {
-    let mut size: i64 = 0;
-    if is_counted {
-        for (_, a) in &row.terms {
-            size = size.wrapping_add(i64::from(*a).wrapping_abs());
-        }
-    }
-    Dual {
-        value: 0,
-        act: 0,
-        least: i64::from(row.least),
-        size,
-        free: i64::try_from(row.terms.len()).unwrap_or(0),
-        is_due: false,
-    }
-}
-
 /// A multiplier each, at 0.
 fn duals_of(alloc: Global, z: &ZeroOne, matrix: &Matrix) -> Result<Vec<Dual>, AllocError> {
     let mut duals = Vec::with_capacity(alloc, z.rows.len())?;
-    for (row, is_counted) in z.rows.iter().zip(&matrix.counts) {
-        duals.push(dual_of(row, *is_counted))?;
+    for (i, row) in z.rows.iter().enumerate() {
+        let terms = matrix.rows.list(u32::try_from(i).unwrap_or(u32::MAX));
+        duals.push(Dual {
+            value: 0,
+            act: 0,
+            least: row.least,
+            reciprocal: reciprocal_of(terms),
+            free: u32::try_from(terms.len()).unwrap_or(0),
+        })?;
     }
     Ok(duals)
 }
 
-/// The sums of a row with no column fixed.
-fn activity_of(row: &Row) -> RowActivity {
-    let mut reach: i64 = 0;
-    for (_, a) in &row.terms {
-        reach = reach.wrapping_add(i64::from(*a).max(0));
-    }
-    RowActivity {
-        reach,
-        ones: 0,
-        least: i64::from(row.least),
-        is_queued: false,
-    }
-}
-
-/// The sums of each row with no column fixed.
-fn activities_of(alloc: Global, z: &ZeroOne) -> Result<Vec<RowActivity>, AllocError> {
-    let mut activities = Vec::with_capacity(alloc, z.rows.len())?;
-    for row in &z.rows {
-        activities.push(activity_of(row))?;
-    }
-    Ok(activities)
-}
-
 /// Moves the sums of a column's rows, and has the rows looked at.
-fn push_acts(duals: &mut [Dual], due: &mut Vec<u32>, terms: &[(u32, i32)], step: i64) {
-    for (i, a) in terms {
-        if let Some(dual) = duals.get_mut(*i as usize) {
-            dual.act = dual.act.wrapping_add(step.wrapping_mul(i64::from(*a)));
-            if !dual.is_due {
-                dual.is_due = true;
-                put(due, *i);
+fn push_acts(duals: &mut [Dual], due: &mut Marks, terms: Terms<'_>, step: i64) {
+    for k in 0..terms.len() {
+        if let Some((i, a)) = terms.get(k) {
+            if let Some(dual) = duals.get_mut(i as usize) {
+                dual.act = dual.act.wrapping_add(step.wrapping_mul(a));
+                due.add(i);
             }
         }
     }
 }
 
 /// Moves what the multipliers say of a row's columns, and has these looked at. By how much the bound changes.
-fn price_columns(
-    columns: &mut [Column],
-    due: &mut Vec<u32>,
-    terms: &[(u32, i32)],
-    step: i64,
-) -> i64 {
+fn price_columns(columns: &mut [Column], due: &mut Marks, terms: Terms<'_>, step: i64) -> i64 {
     let mut change: i64 = 0;
-    for (j, a) in terms {
-        if let Some(column) = columns.get_mut(*j as usize) {
-            let was = column.worth();
-            column.pull = column.pull.wrapping_add(step.wrapping_mul(i64::from(*a)));
-            change = change.wrapping_add(column.worth().wrapping_sub(was));
-            if !column.is_due {
-                column.is_due = true;
-                put(due, *j);
+    for k in 0..terms.len() {
+        if let Some((j, a)) = terms.get(k) {
+            if let Some(column) = columns.get_mut(j as usize) {
+                let was = column.worth();
+                column.pull = column.pull.wrapping_add(step.wrapping_mul(a));
+                change = change.wrapping_add(column.worth().wrapping_sub(was));
+                due.add(j);
             }
         }
     }
     change
 }
 
-/// What rounds go by, before they begin.
+/// What the rounds go by.
 #[derive(Drop)]
 struct Tables {
+    matrix: Matrix,
+    costs: Vec<u32>,
     columns: Vec<Column>,
     duals: Vec<Dual>,
-    activities: Vec<RowActivity>,
+    places: Places,
+    divisor: u32,
 }
 
 /// What each column, and each row, was.
@@ -261,22 +201,29 @@ struct Tables {
 struct Histories {
     columns: Vec<History>,
     duals: Vec<History>,
+    column_pasts: Vec<ColumnPast>,
+    dual_pasts: Vec<DualPast>,
 }
 
 /// Columns and multipliers at 0, unfixed.
-fn tables_of(
-    alloc: Global,
-    z: &ZeroOne,
-    matrix: &Matrix,
-    divisor: i64,
-) -> Result<Tables, AllocError> {
-    let columns = columns_of(alloc, z, matrix, divisor)?;
-    let duals = duals_of(alloc, z, matrix)?;
-    let activities = activities_of(alloc, z)?;
+fn tables_of(alloc: Global, z: &ZeroOne) -> Result<Tables, AllocError> {
+    let divisor = z
+        .costs
+        .iter()
+        .fold(0, |d, cost| divisor_of(d, *cost))
+        .max(1);
+    let matrix = Matrix::new(alloc, z)?;
+    let costs = costs_of(alloc, z, divisor)?;
+    let columns = columns_of(alloc, z, &matrix)?;
+    let duals = duals_of(alloc, z, &matrix)?;
+    let places = Places::new(alloc, z)?;
     Ok(Tables {
+        matrix,
+        costs,
         columns,
         duals,
-        activities,
+        places,
+        divisor,
     })
 }
 
@@ -284,102 +231,62 @@ fn tables_of(
 fn histories_of(alloc: Global, z: &ZeroOne) -> Result<Histories, AllocError> {
     let columns = vec![in alloc; History::none(); z.costs.len()]?;
     let duals = vec![in alloc; History::none(); z.rows.len()]?;
-    Ok(Histories { columns, duals })
+    let column_pasts = vec![in alloc; ColumnPast::none(); z.costs.len()]?;
+    let dual_pasts = vec![in alloc; DualPast::none(); z.rows.len()]?;
+    Ok(Histories {
+        columns,
+        duals,
+        column_pasts,
+        dual_pasts,
+    })
 }
 
 /// Rounds that haven't begun.
 fn assembled(
     alloc: Global,
-    matrix: Matrix,
     tables: Tables,
     pasts: Histories,
-    divisor: i64,
+    due_columns: Due,
+    due_duals: Due,
     weight: Weight,
 ) -> Rounds {
     Rounds {
-        matrix,
+        matrix: tables.matrix,
+        costs: tables.costs,
         columns: tables.columns,
         duals: tables.duals,
         column_histories: pasts.columns,
         dual_histories: pasts.duals,
-        activities: tables.activities,
-        due_columns: Vec::new(alloc),
-        due_rows: Vec::new(alloc),
-        next_columns: Vec::new(alloc),
-        next_rows: Vec::new(alloc),
-        aside_columns: Vec::new(alloc),
-        aside_rows: Vec::new(alloc),
-        divisor,
+        column_pasts: pasts.column_pasts,
+        dual_pasts: pasts.dual_pasts,
+        due_columns,
+        due_duals,
+        places: tables.places,
+        log: Log::new(alloc),
+        window: Window::none(),
+        divisor: tables.divisor,
         first_weight: weight,
         weight,
         tolerance: 1,
         bound: 0,
         has_prices: true,
-        has_means: false,
-        clock: 0,
-        window: 0,
-        log: Vec::new(alloc),
-        has_log: false,
-        stamp: 1,
-        trail: Vec::new(alloc),
-        queue: Vec::new(alloc),
-        first: 0,
-        unmet: 0,
-        unreachable: 0,
-        spent: 0,
         work: 0,
         limit: u64::MAX,
     }
 }
 
-/// Rounds that haven't begun, no column fixed, over the rows that count.
-fn made(alloc: Global, z: &ZeroOne, matrix: Matrix) -> Result<Rounds, AllocError> {
-    let divisor = z.costs.iter().fold(0, |d, cost| divisor_of(d, *cost));
-    let divisor = i64::from(divisor.max(1));
-    let weight = Weight::new(exponent_of(&z.costs, divisor));
-    let tables = tables_of(alloc, z, &matrix, divisor)?;
-    let pasts = histories_of(alloc, z)?;
-    Ok(assembled(alloc, matrix, tables, pasts, divisor, weight))
-}
-
 impl Rounds {
     /// No multiplier yet, no column fixed.
     pub fn new(alloc: Global, z: &ZeroOne) -> Result<Rounds, AllocError> {
-        let matrix = Matrix::new(alloc, z)?;
-        Rounds::over(alloc, z, matrix)
-    }
-
-    /// The same, where the rows that count are known.
-    pub fn over(alloc: Global, z: &ZeroOne, matrix: Matrix) -> Result<Rounds, AllocError> {
-        let mut rounds = made(alloc, z, matrix)?;
-        match rounds.begin(z) {
-            Ok(()) => Ok(rounds),
-            Err(error) => {
-                drop(rounds);
-                Err(error)
-            }
-        }
-    }
-
-    /// Makes room in the lists for all that can stand in them, but for the log.
-    fn reserve(&mut self) -> Result<(), AllocError> {
-        let (columns, rows) = (self.columns.len(), self.duals.len());
-        self.due_columns.reserve(columns)?;
-        self.next_columns.reserve(columns)?;
-        self.aside_columns.reserve(columns)?;
-        self.trail.reserve(columns)?;
-        self.due_rows.reserve(rows)?;
-        self.next_rows.reserve(rows)?;
-        self.aside_rows.reserve(rows)?;
-        self.queue.reserve(rows)
-    }
-
-    /// Makes room in the lists, counts the rows that aren't met, and begins at 0.
-    fn begin(&mut self, z: &ZeroOne) -> Result<(), AllocError> {
-        self.reserve()?;
-        self.count_rows();
-        self.restart(z, true);
-        Ok(())
+        let tables = tables_of(alloc, z)?;
+        let pasts = histories_of(alloc, z)?;
+        let due_columns = Due::new(alloc, z.costs.len())?;
+        let due_duals = Due::new(alloc, z.rows.len())?;
+        let weight = Weight::new(exponent_of(&tables.costs));
+        let mut rounds = assembled(alloc, tables, pasts, due_columns, due_duals, weight);
+        rounds.count_rows();
+        rounds.restart(true);
+        Ok(rounds)
     }
 
     /// So many columns, rows and terms were visited.
@@ -387,14 +294,29 @@ impl Rounds {
         self.work = self.work.saturating_add(count as u64);
     }
 
+    /// How many columns, rows and terms were visited.
+    pub fn work(&self) -> u64 {
+        self.work
+    }
+
     /// The rounds end when so many more were visited.
     pub fn limit_to(&mut self, work: u64) {
         self.limit = self.work.saturating_add(work);
     }
 
+    /// How many may still be visited.
+    pub fn left(&self) -> u64 {
+        self.limit.saturating_sub(self.work)
+    }
+
+    /// Whether the limit is reached.
+    pub fn is_spent(&self) -> bool {
+        self.work >= self.limit
+    }
+
     /// Whether the rounds stand still: nothing is to be looked at, or the limit is reached.
     pub fn is_still(&self) -> bool {
-        self.is_quiet() || self.work >= self.limit
+        self.is_quiet() || self.is_spent()
     }
 
     /// How many columns, rows and terms of rows that count there are.
@@ -403,10 +325,56 @@ impl Rounds {
         both.saturating_add(self.matrix.len())
     }
 
+    /// The greatest common divisor of the costs, or 1.
+    pub fn divisor(&self) -> u32 {
+        self.divisor
+    }
+
+    /// What the multipliers prove that every vector costs, in units of the divisor / `ONE`.
+    pub fn bound(&self) -> i128 {
+        self.bound
+    }
+
+    /// Whether columns have their costs, or 0.
+    pub fn has_prices(&self) -> bool {
+        self.has_prices
+    }
+
+    /// Leaves smaller moves of columns out. The limit until now.
+    pub fn set_tolerance(&mut self, tolerance: i64) -> i64 {
+        mem::replace(&mut self.tolerance, tolerance)
+    }
+
+    /// Has columns and multipliers move as they did at first. How they did until now.
+    pub fn reset_weight(&mut self) -> Weight {
+        mem::replace(&mut self.weight, self.first_weight)
+    }
+
+    /// How columns move, against multipliers.
+    pub fn set_weight(&mut self, weight: Weight) {
+        self.weight = weight;
+    }
+
+    /// What a column costs, in units of the divisor.
+    pub fn cost(&self, column: u32) -> i64 {
+        match self.costs.get(column as usize) {
+            Some(cost) => i64::from(*cost),
+            None => 0,
+        }
+    }
+
     /// What the rounds say of a column.
     pub fn value(&self, column: u32) -> i64 {
         match self.columns.get(column as usize) {
-            Some(column) => column.value,
+            Some(column) => i64::from(column.value),
+            None => 0,
+        }
+    }
+
+    /// By how much a column costs more than the multipliers say of it.
+    pub fn reduced_cost(&self, column: u32) -> i64 {
+        match self.columns.get(column as usize) {
+            Some(column) => column.over(),
             None => 0,
         }
     }
@@ -419,48 +387,56 @@ impl Rounds {
         }
     }
 
+    /// The multiplier of a row.
+    pub fn multiplier(&self, row: usize) -> i64 {
+        match self.duals.get(row) {
+            Some(dual) => dual.value,
+            None => 0,
+        }
+    }
+
+    /// How many rows there are.
+    pub fn rows(&self) -> usize {
+        self.duals.len()
+    }
+
+    /// The columns of a row, if it counts, each with its coefficient.
+    pub fn row(&self, row: u32) -> Terms<'_> {
+        self.matrix.rows.list(row)
+    }
+
+    /// The rows that count of a column, each with the coefficient there.
+    pub fn column(&self, column: u32) -> Terms<'_> {
+        self.matrix.columns.list(column)
+    }
+
     /// Begins again at 0, with the costs or without.
-    pub fn restart(&mut self, z: &ZeroOne, has_prices: bool) {
+    pub fn restart(&mut self, has_prices: bool) {
         self.has_prices = has_prices;
-        for column in self.columns.iter_mut() {
+        for (column, cost) in self.columns.iter_mut().zip(&self.costs) {
             column.value = 0;
-            column.price = if has_prices {
-                column.cost.wrapping_mul(ONE)
-            } else {
-                0
-            };
+            column.price = if has_prices { *cost } else { 0 };
         }
         for dual in self.duals.iter_mut() {
             dual.value = 0;
         }
         self.weight = self.first_weight;
-        self.remake(z)
-    }
-
-    /// Sets the sums of all columns to 0, and their values to where they are fixed.
-    fn settle_columns(&mut self) {
-        for column in self.columns.iter_mut() {
-            match column.place {
-                Some(true) => column.value = ONE,
-                Some(false) => column.value = 0,
-                None => {}
-            }
-            column.ahead = column.value;
-            column.pull = 0;
-        }
+        self.remake()
     }
 
     /// Adds up the sums of a row and of its columns anew.
-    fn remake_row(&mut self, i: usize, row: &Row) {
-        let Some(dual) = self.duals.get_mut(i) else {
+    fn remake_row(&mut self, i: u32) {
+        let Some(dual) = self.duals.get_mut(i as usize) else {
             return;
         };
+        let terms = self.matrix.rows.list(i);
         let mut act: i64 = 0;
-        for (j, a) in &row.terms {
-            if let Some(column) = self.columns.get_mut(*j as usize) {
-                let a = i64::from(*a);
-                act = act.wrapping_add(column.ahead.wrapping_mul(a));
-                column.pull = column.pull.wrapping_add(dual.value.wrapping_mul(a));
+        for k in 0..terms.len() {
+            if let Some((j, a)) = terms.get(k) {
+                if let Some(column) = self.columns.get_mut(j as usize) {
+                    act = act.wrapping_add(i64::from(column.ahead).wrapping_mul(a));
+                    column.pull = column.pull.wrapping_add(dual.value.wrapping_mul(a));
+                }
             }
         }
         dual.act = act;
@@ -469,14 +445,15 @@ impl Rounds {
     }
 
     /// Adds up all sums anew, and has everything looked at.
-    pub fn remake(&mut self, z: &ZeroOne) {
-        self.log.clear();
-        self.stamp = self.stamp.wrapping_add(1);
+    pub fn remake(&mut self) {
+        self.log.forget();
         self.bound = 0;
-        self.settle_columns();
-        for (i, row) in z.rows.iter().enumerate() {
+        for column in self.columns.iter_mut() {
+            column.settle();
+        }
+        for i in 0..self.duals.len() {
             if self.matrix.is_counted(i) {
-                self.remake_row(i, row);
+                self.remake_row(u32::try_from(i).unwrap_or(u32::MAX));
             }
         }
         for column in &self.columns {
@@ -501,168 +478,146 @@ impl Rounds {
 
     /// Has a column looked at.
     pub fn mark(&mut self, column: u32) {
-        if let Some(it) = self.columns.get_mut(column as usize) {
-            if !it.is_due {
-                it.is_due = true;
-                put(&mut self.due_columns, column);
-            }
-        }
+        self.due_columns.now.add(column)
     }
 
     /// Has a row looked at.
     pub fn wake(&mut self, row: u32) {
-        if let Some(it) = self.duals.get_mut(row as usize) {
-            if !it.is_due {
-                it.is_due = true;
-                put(&mut self.due_rows, row);
-            }
-        }
+        self.due_duals.now.add(row)
     }
 
     /// Whether nothing is to be looked at.
     pub fn is_quiet(&self) -> bool {
-        self.due_columns.is_empty() && self.due_rows.is_empty()
+        self.due_columns.now.is_empty() && self.due_duals.now.is_empty()
     }
 
-    /// Moves where a column is going.
-    pub fn set_ahead(&mut self, column: u32, ahead: i64) {
-        let Some(it) = self.columns.get_mut(column as usize) else {
-            return;
-        };
-        let step = ahead.wrapping_sub(it.ahead);
-        if step == 0 {
-            return;
+    /// Has the rows of a column follow where it is going.
+    fn push(&mut self, column: u32, step: i64) {
+        if step != 0 {
+            let terms = self.matrix.columns.list(column);
+            push_acts(&mut self.duals, &mut self.due_duals.now, terms, step);
+            self.work = self.work.saturating_add(terms.len() as u64);
         }
-        it.ahead = ahead;
-        let terms = self.matrix.terms(column);
-        push_acts(&mut self.duals, &mut self.due_rows, terms, step);
-        self.work = self.work.saturating_add(terms.len() as u64);
     }
 
-    /// Moves a column.
-    pub fn set_value(&mut self, column: u32, value: i64) {
+    /// Puts a column at a value, where it also stays.
+    pub(crate) fn set_value(&mut self, column: u32, value: i32) {
         let Some(it) = self.columns.get_mut(column as usize) else {
             return;
         };
         let was = it.value;
-        if was == value {
-            return;
-        }
+        let step = i64::from(value).wrapping_sub(i64::from(it.ahead));
         it.value = value;
-        let Some(past) = self.column_histories.get_mut(column as usize) else {
-            return;
-        };
-        if self.has_log && past.stamp != self.stamp {
-            past.stamp = self.stamp;
-            note(&mut self.log, LoggedValue::Column(column, was));
-        }
-        if self.has_means {
-            past.add(was, self.clock);
+        it.ahead = value;
+        self.push(column, step);
+        if was != value {
+            self.note_column(column, was);
         }
     }
 
-    /// Moves a multiplier that was this, in the list of columns to look at.
-    fn move_dual(&mut self, row: u32, was: i64, value: i64) {
-        let Some(past) = self.dual_histories.get_mut(row as usize) else {
-            return;
-        };
-        if self.has_log && past.stamp != self.stamp {
-            past.stamp = self.stamp;
-            note(&mut self.log, LoggedValue::Dual(row, was));
-        }
-        if self.has_means {
-            past.add(was, self.clock);
-        }
-        if let Some(dual) = self.duals.get_mut(row as usize) {
-            dual.value = value;
-        }
-    }
-
-    /// Moves a multiplier; its columns are looked at in the next round, or in this one where it is still to come.
-    pub fn set_dual(&mut self, z: &ZeroOne, row: u32, value: i64, is_next: bool) {
-        let dual = self.duals.get(row as usize).copied();
-        let (Some(dual), Some(it)) = (dual, z.rows.get(row as usize)) else {
-            return;
-        };
-        let step = value.wrapping_sub(dual.value);
-        if step == 0 {
-            return;
-        }
-        let least = i128::from(step).wrapping_mul(i128::from(dual.least));
-        self.move_dual(row, dual.value, value);
+    /// Has the columns of a row follow its multiplier, in the next round, or in this one where it is still to come.
+    fn price(&mut self, row: u32, least: i32, step: i64, is_next: bool) {
+        let terms = self.matrix.rows.list(row);
         let change = if is_next {
-            price_columns(&mut self.columns, &mut self.next_columns, &it.terms, step)
+            price_columns(&mut self.columns, &mut self.due_columns.next, terms, step)
         } else {
-            price_columns(&mut self.columns, &mut self.due_columns, &it.terms, step)
+            price_columns(&mut self.columns, &mut self.due_columns.now, terms, step)
         };
-        self.bound = self
-            .bound
-            .wrapping_add(least)
-            .wrapping_add(i128::from(change));
-        self.spend(it.terms.len());
+        let least = i128::from(step).wrapping_mul(i128::from(least));
+        let change = least.wrapping_add(i128::from(change));
+        self.bound = self.bound.wrapping_add(change);
+        self.work = self.work.saturating_add(terms.len() as u64);
     }
 
-    /// Moves a column that is due, by what the multipliers say of it.
-    fn step_column(&mut self, column: u32) {
-        let Some(it) = self.columns.get_mut(column as usize) else {
-            return;
-        };
-        it.is_due = false;
-        let value = it.next(self.weight, self.tolerance);
-        let ahead = match it.place {
-            Some(_) => value,
-            None => value.wrapping_mul(2).wrapping_sub(it.value),
-        };
-        if value != it.value || ahead != it.ahead {
-            it.is_due = true;
-            put(&mut self.next_columns, column);
-        }
-        self.set_ahead(column, ahead);
-        self.set_value(column, value)
-    }
-
-    /// Moves the multiplier of a row that is due, by what the row lacks.
-    fn step_dual(&mut self, z: &ZeroOne, row: u32, tolerance: i64) {
+    /// Moves a multiplier; its columns are looked at in the round that is still to come.
+    pub(crate) fn set_dual(&mut self, row: u32, value: i64) {
         let Some(it) = self.duals.get_mut(row as usize) else {
             return;
         };
-        it.is_due = false;
-        let value = it.next(self.weight, tolerance);
-        if value != it.value {
-            it.is_due = true;
-            put(&mut self.next_rows, row);
-            self.set_dual(z, row, value, true);
+        let (was, least) = (it.value, it.least);
+        if was != value {
+            it.value = value;
+            self.note_dual(row, was);
+            self.price(row, least, value.wrapping_sub(was), false)
         }
+    }
+
+    /// Moves a column that is due, by what the multipliers say of it.
+    fn step_column(&mut self, column: u32, pace: Pace) {
+        let Some(it) = self.columns.get_mut(column as usize) else {
+            return;
+        };
+        let moved = it.go(pace);
+        if moved.was.is_some() || moved.step != 0 {
+            self.due_columns.next.add(column);
+        }
+        self.push(column, moved.step);
+        if let Some(was) = moved.was {
+            self.note_column(column, was)
+        }
+    }
+
+    /// Moves the multiplier of a row that is due, by what the row lacks.
+    fn step_dual(&mut self, row: u32, pace: Pace) {
+        let Some(it) = self.duals.get_mut(row as usize) else {
+            return;
+        };
+        let (was, least) = (it.value, it.least);
+        let value = it.next(pace);
+        it.value = value;
+        if value != was {
+            self.due_duals.next.add(row);
+            self.note_dual(row, was);
+            self.price(row, least, value.wrapping_sub(was), true)
+        }
+    }
+
+    /// Moves all columns that are due.
+    fn step_columns(&mut self) {
+        let pace = Pace {
+            factor: self.weight.down,
+            shift: self.weight.column_shift(),
+            tolerance: self.tolerance,
+        };
+        let count = self.due_columns.take_now();
+        for k in 0..count {
+            let column = self.due_columns.taken(k);
+            self.step_column(column, pace);
+        }
+        self.spend(count)
+    }
+
+    /// Moves all multipliers that are due.
+    fn step_duals(&mut self) {
+        let pace = Pace {
+            factor: self.weight.up,
+            shift: self.weight.dual_shift(),
+            tolerance: self.tolerance.wrapping_mul(self.first_weight.up),
+        };
+        let count = self.due_duals.take_now();
+        for k in 0..count {
+            let row = self.due_duals.taken(k);
+            self.step_dual(row, pace);
+        }
+        self.spend(count)
     }
 
     /// One move of all columns that are due, then of all multipliers.
-    pub fn round(&mut self, z: &ZeroOne) {
-        self.clock = self.clock.wrapping_add(1);
-        let count = self.due_columns.len();
-        for k in 0..count {
-            let column = self.due_columns.get(k).copied().unwrap_or(u32::MAX);
-            self.step_column(column);
-        }
-        let tolerance = self.tolerance.wrapping_mul(self.first_weight.up);
-        let rows = self.due_rows.len();
-        for k in 0..rows {
-            let row = self.due_rows.get(k).copied().unwrap_or(u32::MAX);
-            self.step_dual(z, row, tolerance);
-        }
-        self.spend(count.saturating_add(rows));
-        mem::swap(&mut self.due_columns, &mut self.next_columns);
-        self.next_columns.clear();
-        mem::swap(&mut self.due_rows, &mut self.next_rows);
-        self.next_rows.clear();
+    pub fn round(&mut self) {
+        self.window.tick();
+        self.step_columns();
+        self.step_duals();
+        self.due_columns.turn();
+        self.due_duals.turn()
     }
 
     /// So many rounds more; fewer where nothing moves any more.
-    pub fn run(&mut self, z: &ZeroOne, rounds: u32) {
+    pub fn run(&mut self, rounds: u32) {
         for _ in 0..rounds {
             if self.is_still() {
                 return;
             }
-            self.round(z);
+            self.round();
         }
     }
 }

@@ -3,7 +3,6 @@
 
 use crate::column::Weight;
 use crate::rounds::{ONE, Rounds, quotient};
-use zo_model::ZeroOne;
 
 /// The square of 1 / 64 of a way, in 64ths.
 const SHORT: i128 = 1 << 28;
@@ -38,44 +37,110 @@ fn follows(columns: i128, duals: i128, weight: Weight) -> i64 {
     }
 }
 
+/// A window of rounds, whose means are kept while it is open.
+#[derive(Clone, Copy, Drop)]
+pub struct Window {
+    pub is_open: bool,
+    /// The rounds since the run began, and when the window did.
+    pub clock: u32,
+    begun: u32,
+}
+
+impl Window {
+    /// No window is open.
+    pub fn none() -> Window {
+        Window {
+            is_open: false,
+            clock: 0,
+            begun: 0,
+        }
+    }
+
+    /// One round more.
+    pub fn tick(&mut self) {
+        self.clock = self.clock.wrapping_add(1);
+    }
+
+    /// The rounds of the window.
+    fn rounds(&self) -> i64 {
+        i64::from(self.clock.wrapping_sub(self.begun))
+    }
+
+    /// Whether a long run ends its window here.
+    pub fn is_full(&self) -> bool {
+        self.rounds() >= quotient(i64::from(self.clock), 6).max(40)
+    }
+}
+
+/// The size of which this is the reciprocal.
+fn size_of(reciprocal: u32) -> i64 {
+    quotient(1 << 32, i64::from(reciprocal))
+}
+
 impl Rounds {
     /// Begins the means.
     pub fn begin_means(&mut self) {
-        self.clock = 0;
-        self.has_means = true;
+        self.window.clock = 0;
+        self.window.is_open = true;
         self.open_window();
+    }
+
+    /// Ends the means.
+    pub fn end_means(&mut self) {
+        self.window.is_open = false;
     }
 
     /// Begins a window.
     fn open_window(&mut self) {
-        let clock = self.clock;
-        for (past, column) in self.column_histories.iter_mut().zip(&self.columns) {
-            past.total = 0;
-            past.since = clock;
+        let clock = self.window.clock;
+        for (past, column) in self.column_pasts.iter_mut().zip(&self.columns) {
             past.begun = column.value;
         }
-        for (past, dual) in self.dual_histories.iter_mut().zip(&self.duals) {
-            past.total = 0;
-            past.since = clock;
+        for (past, dual) in self.dual_pasts.iter_mut().zip(&self.duals) {
             past.begun = dual.value;
         }
-        self.window = clock;
+        for past in self.column_histories.iter_mut() {
+            past.open(clock);
+        }
+        for past in self.dual_histories.iter_mut() {
+            past.open(clock);
+        }
+        self.window.begun = clock;
+    }
+
+    /// The mean of a row's multiplier.
+    fn mean_dual(&self, i: usize, rounds: i64) -> i64 {
+        match (self.duals.get(i), self.dual_histories.get(i)) {
+            (Some(dual), Some(past)) => quotient(past.sum(dual.value, self.window.clock), rounds),
+            _ => 0,
+        }
+    }
+
+    /// The mean of a column.
+    fn mean_column(&self, j: usize, rounds: i64) -> i32 {
+        match (self.columns.get(j), self.column_histories.get(j)) {
+            (Some(column), Some(past)) => {
+                let sum = past.sum(i64::from(column.value), self.window.clock);
+                i32::try_from(quotient(sum, rounds)).unwrap_or(0)
+            }
+            _ => 0,
+        }
     }
 
     /// Adds a row's mean multiplier to what the means say of its columns; what it adds to their bound.
-    fn price_mean(&mut self, z: &ZeroOne, i: usize, rounds: i64) -> i128 {
-        let (Some(dual), Some(past)) = (self.duals.get(i), self.dual_histories.get_mut(i)) else {
+    fn price_mean(&mut self, i: usize, rounds: i64) -> i128 {
+        let mean = self.mean_dual(i, rounds);
+        let Some(dual) = self.duals.get(i) else {
             return 0;
         };
-        let mean = quotient(past.sum(dual.value, self.clock), rounds);
-        past.mean = mean;
         if mean == 0 {
             return 0;
         }
-        if let Some(row) = z.rows.get(i) {
-            for (j, a) in &row.terms {
-                if let Some(past) = self.column_histories.get_mut(*j as usize) {
-                    past.mean = past.mean.wrapping_add(mean.wrapping_mul(i64::from(*a)));
+        let terms = self.matrix.rows.list(u32::try_from(i).unwrap_or(u32::MAX));
+        for k in 0..terms.len() {
+            if let Some((j, a)) = terms.get(k) {
+                if let Some(past) = self.column_pasts.get_mut(j as usize) {
+                    past.mean = past.mean.wrapping_add(mean.wrapping_mul(a));
                 }
             }
         }
@@ -83,17 +148,17 @@ impl Rounds {
     }
 
     /// The bound that the mean multipliers give.
-    fn mean_bound(&mut self, z: &ZeroOne, rounds: i64) -> i128 {
-        for past in self.column_histories.iter_mut() {
+    fn mean_bound(&mut self, rounds: i64) -> i128 {
+        for past in self.column_pasts.iter_mut() {
             past.mean = 0;
         }
         let mut bound: i128 = 0;
         for i in 0..self.duals.len() {
             if self.matrix.is_counted(i) {
-                bound = bound.wrapping_add(self.price_mean(z, i, rounds));
+                bound = bound.wrapping_add(self.price_mean(i, rounds));
             }
         }
-        for (past, column) in self.column_histories.iter().zip(&self.columns) {
+        for (past, column) in self.column_pasts.iter().zip(&self.columns) {
             let mut column = *column;
             column.pull = past.mean;
             bound = bound.wrapping_add(i128::from(column.worth()));
@@ -101,46 +166,57 @@ impl Rounds {
         bound
     }
 
+    /// Moves a column to its mean.
+    fn take_mean(&mut self, j: usize, rounds: i64) {
+        let mean = self.mean_column(j, rounds);
+        let j = u32::try_from(j).unwrap_or(u32::MAX);
+        if i64::from(mean) != self.value(j) {
+            self.mark(j);
+        }
+        self.set_value(j, mean)
+    }
+
     /// Goes to the means.
-    fn take_means(&mut self, z: &ZeroOne, rounds: i64) {
+    fn take_means(&mut self, rounds: i64) {
         for i in 0..self.duals.len() {
             if self.matrix.is_counted(i) {
+                let mean = self.mean_dual(i, rounds);
                 let row = u32::try_from(i).unwrap_or(u32::MAX);
-                let mean = match self.dual_histories.get(i) {
-                    Some(past) => past.mean,
-                    None => 0,
-                };
-                self.set_dual(z, row, mean, false);
+                self.set_dual(row, mean);
                 self.wake(row);
             }
         }
         for j in 0..self.columns.len() {
-            if let (Some(column), Some(past)) = (
-                self.columns.get(j),
-                self.column_histories.get(j),
-            ) {
-                let mean = quotient(past.sum(column.value, self.clock), rounds);
-                let is_moved = mean != column.value;
-                let j = u32::try_from(j).unwrap_or(u32::MAX);
-                if is_moved {
-                    self.mark(j);
-                }
-                self.set_value(j, mean);
-                self.set_ahead(j, mean);
+            self.take_mean(j, rounds);
+        }
+    }
+
+    /// The way that the columns went in this window.
+    fn column_way(&self) -> i128 {
+        let mut sum: i128 = 0;
+        for (past, column) in self.column_pasts.iter().zip(&self.columns) {
+            let (from, to) = (i64::from(past.begun), i64::from(column.value));
+            if from != to {
+                sum = sum.wrapping_add(way(from, to, size_of(column.reciprocal)));
             }
         }
+        sum
+    }
+
+    /// The way that the multipliers went in this window.
+    fn dual_way(&self) -> i128 {
+        let mut sum: i128 = 0;
+        for (past, dual) in self.dual_pasts.iter().zip(&self.duals) {
+            if past.begun != dual.value {
+                sum = sum.wrapping_add(way(past.begun, dual.value, size_of(dual.reciprocal)));
+            }
+        }
+        sum
     }
 
     /// The weight follows the ways that columns and multipliers went in this window.
     fn weigh(&mut self) {
-        let mut columns: i128 = 0;
-        for (past, column) in self.column_histories.iter().zip(&self.columns) {
-            columns = columns.wrapping_add(way(past.begun, column.value, column.size));
-        }
-        let mut duals: i128 = 0;
-        for (past, dual) in self.dual_histories.iter().zip(&self.duals) {
-            duals = duals.wrapping_add(way(past.begun, dual.value, dual.size));
-        }
+        let (columns, duals) = (self.column_way(), self.dual_way());
         if columns > SHORT || duals > SHORT {
             let first = self.first_weight.exponent;
             let exponent = self
@@ -154,14 +230,14 @@ impl Rounds {
     }
 
     /// Ends a window, and begins the next one.
-    pub fn end_window(&mut self, z: &ZeroOne, is_weighing: bool) {
-        let rounds = self.clock.wrapping_sub(self.window);
+    pub fn end_window(&mut self, is_weighing: bool) {
+        let rounds = self.window.rounds();
         if rounds <= 0 {
             return;
         }
-        let bound = self.mean_bound(z, rounds);
+        let bound = self.mean_bound(rounds);
         if bound > self.bound {
-            self.take_means(z, rounds);
+            self.take_means(rounds);
         }
         if is_weighing {
             self.weigh();
@@ -169,12 +245,6 @@ impl Rounds {
         self.open_window();
         let size = self.size().saturating_mul(2);
         self.spend(size);
-    }
-
-    /// Whether a long run ends its window here.
-    pub fn is_window_full(&self) -> bool {
-        let rounds = self.clock.wrapping_sub(self.window);
-        rounds >= quotient(self.clock, 6).max(40)
     }
 
     /// The bound on the cost of every vector, rounded up, in units of the divisor; 0 where it isn't positive.
