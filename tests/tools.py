@@ -282,7 +282,7 @@ def highlighting(top):
     """Each keyword, sign, instruction and operation of the tables is coloured by both files."""
     tables, assembly = "crates/nv_text/specs/Tables.antt", "crates/uc_asm/specs/Words.antt"
     words = words_of(top, tables, "keywords =")
-    words += words_of(top, assembly, "kind_name|binary_name|unary_words|condition_name|memory_name")
+    words += words_of(top, assembly, "kind_name|binary_name|unary_words|condition_name") + words_of(top, "crates/nv_base/specs/MemoryNames.antt", "memory_name")
     signs = [it for it in words_of(top, tables, "signs =") if not re.fullmatch(r"[][(){},;.:]", it)]
     found = [] if len(words) >= 42 and len(signs) == 21 else [f"the tables have {len(words)} words and {len(signs)} signs"]
     vim = read(top, "editors/vim/syntax/nova.vim")
