@@ -80,7 +80,7 @@ class SameRow:
 
 class PageRow:
     """The page that `nova page` saves of an example and its memory text has the source, the listing and the outcome. A browser, where one
-    is there, runs its script without a fault, and colours as many moves, literals and spills as the listing has."""
+    is there, says that its replay agrees, and colours as many moves, literals and spills as the listing has."""
 
     where, wants = "tests/tools.py", ("nova",)
 
@@ -95,9 +95,9 @@ class PageRow:
         said(nova, "build", self.example, "-o", "o")
         said(nova, "page", self.example, memory, "-o", "p.html")
         page = open(os.path.join(at, "p.html"), encoding="utf-8").read()
-        blocks = {name: html.unescape(text) for name, text in re.findall(r'<pre id="(\w+)">(.*?)</pre>', page, re.S)}
-        with open(self.example, encoding="utf-8") as it:
-            wanted = {"name": self.example, "source": it.read(), "listing": said(nova, "list", "o"), "outcome": said(nova, "run", "o", memory)}
+        blocks = {name: html.unescape(text) for name, text in re.findall(r'<pre id="(\w+)">\n(.*?)</pre>', page, re.S)}
+        with open(self.example, encoding="utf-8") as source, open(memory, encoding="utf-8") as text:
+            wanted = {"name": self.example, "source": source.read(), "memory": text.read(), "listing": said(nova, "list", "o"), "outcome": said(nova, "run", "o", memory)}
         found = [difference(f"the page's {name}", text.encode(), blocks.get(name, "").encode(), is_exact=True) for name, text in wanted.items() if blocks.get(name) != text]
         return found + self.in_browser(blocks, at)
 
@@ -109,9 +109,42 @@ class PageRow:
         shown = subprocess.run(words, cwd=at, capture_output=True, text=True, timeout=60).stdout
         marks = {"between": "move between banks", "within": "move", "literal": "literal", "spill": "spill"}
         counts = {kind: len(re.findall(f"; {mark}$", blocks["listing"], re.M)) for kind, mark in marks.items()}
-        coloured = {kind: shown.count(f'<span class="{kind}">') for kind in marks}
+        coloured = {kind: len(re.findall(f'<div class="row {kind}[ "]', shown)) for kind in marks}
         found = [] if counts == coloured else [f"the browser colours {coloured}, the listing has {counts}"]
-        return found + ([] if shown.count("<rect") == len(re.findall("^label ", blocks["form"], re.M)) else ["a label isn't drawn"])
+        found += [] if "The replay agrees with the proved run" in shown else ["the replay doesn't agree"]
+        return found + ([] if len(re.findall('<rect class="(?:hot)?" x=', shown)) == len(re.findall("^label ", blocks["form"], re.M)) else ["a label isn't drawn"])
+
+
+class ReplayRow:
+    """The engine of the page comes on each example to the outcome and the counts of `nova run --profile`. It wants node, and passes without."""
+
+    where, wants, name = "tests/tools.py", ("nova",), "the page's replay of the examples"
+
+    def __init__(self, top):
+        self.top = top
+
+    def differences(self, _novac, at):
+        nova, runs = BESIDE["nova"], []
+        if not shutil.which("node"):
+            return []
+
+        def said(*words):
+            return subprocess.run(words, cwd=at, capture_output=True, text=True, timeout=60)
+
+        for name in sorted(it for it in os.listdir(os.path.join(self.top, "examples")) if it.endswith(".nova")):
+            example = os.path.join(self.top, "examples", name)
+            memory = example.removesuffix("nova") + "mem"
+            said(nova, "build", example, "-o", "o")
+            ran, listing = said(nova, "run", "o", memory, "--profile"), said(nova, "list", "o")
+            with open(memory, encoding="utf-8") as it:
+                runs.append({"name": name, "listing": listing.stdout, "memory": it.read(), "outcome": ran.stdout, "profile": ran.stderr})
+        return in_node(self.top, [os.path.join(self.top, "page", "test.js")], json.dumps(runs))
+
+
+def in_node(top, words, text=""):
+    """What node prints, a line each, and that it fails."""
+    ran = subprocess.run(["node", *words], cwd=top, input=text, capture_output=True, text=True, timeout=60)
+    return ran.stdout.splitlines() + ran.stderr.splitlines()[:6] + ([f"node ends with {ran.returncode}"] if ran.returncode else [])
 
 
 class SumRow:
@@ -409,6 +442,16 @@ def pages_as_made(top):
     """The pages of `nova explain` are those of docs/FAULTS.md."""
     made = pages.files(top).items()
     return [f"{name} is to be written again by tests/pages.py" for name, text in made if read(top, f"crates/diag_pages/src/{name}") != text]
+
+
+def page_as_made(top):
+    """The texts of crates/nova_page are those of page/, whose scripts are read by node, where it is installed."""
+    make = module(top, "page/make")
+    found = [f"{name} is to be written again by page/make" for name, text in make.files(top).items() if read(top, f"crates/nova_page/src/{name}") != text]
+    if not shutil.which("node"):
+        return found
+    scripts = [os.path.join("page", it) for it in [*(f"{name}.js" for name in make.SCRIPTS), "test.js"]]
+    return found + [line for it in scripts for line in in_node(top, ["--check", it])]
 
 
 def believed_as_made(top):
@@ -728,6 +771,7 @@ def all_rows(top):
     rows = [("each keyword is coloured by both editors' files", highlighting), ("the editors' files are as made", as_made)]
     rows += [("VS Code's problem matcher reads each fault", problems), ("Vim's errorformat reads each fault", quickfix)]
     rows += [("the pages of `nova explain` are those of docs/FAULTS.md", pages_as_made)]
+    rows += [("the texts of the page are those of page/", page_as_made)]
     rows += [("the man pages are those of docs/COMMANDS.md", man_as_made), ("completion for bash", completion)]
     rows += [("what has to be believed is listed in docs/PROOFS.md", believed_as_made), ("each public function has a clause or a reason", pinned_or_told)]
     rows += [("pages have short sentences, and README short lines", readable), ("the field's words are explained", words_of_the_field), ("the files that the pages name are there", named_files), ("the walks of docs/ARCHITECTURE.md", walks), ("the layers of docs/ARCHITECTURE.md", layers)]
@@ -738,4 +782,4 @@ def all_rows(top):
     sources = sorted(it for it in os.listdir(os.path.join(top, "examples")) if it.endswith(".nova"))
     packets = sorted(it for it in os.listdir(os.path.join(top, "bench", "packets")) if it.endswith(".nova"))
     made = [PacketRow(it, top) for it in packets] + [MadeRow(seed, size, top) for seed, size in ((0, 2), (1, 60), (0, 500))]
-    return [ToolRow(name, body, top) for name, body in rows] + [ReportRow(it, top) for it in sources] + [SameRow(it, top) for it in sources] + [PageRow("ttl.nova", top), PageRow("trie.nova", top)] + made + [CrowdedRow(top), SizesRow(top), SumRow(top)] + [SearchRow(it, top) for it in SEARCHES]
+    return [ToolRow(name, body, top) for name, body in rows] + [ReportRow(it, top) for it in sources] + [SameRow(it, top) for it in sources] + [PageRow("ttl.nova", top), PageRow("trie.nova", top), ReplayRow(top)] + made + [CrowdedRow(top), SizesRow(top), SumRow(top)] + [SearchRow(it, top) for it in SEARCHES]

@@ -231,6 +231,7 @@ fn push_run(
         answer.ending = Ending::Failed;
         answer.err.message_text(&err);
     } else {
+        push_page_block(page, "memory", memory);
         push_text(page, "outcome", out);
         push_text(page, "profile", err);
     }

@@ -1,8 +1,14 @@
 //! The texts of a page of HTML on a program: what comes before its texts, and the script that shows them.
 #![tactic(auto)]
 
+mod engine;
+mod frame;
 mod head;
-mod script;
+mod memory;
+mod packet;
+mod page;
+mod show;
+mod style;
+mod time;
 
-pub use head::{push_page_block, push_page_head};
-pub use script::push_page_end;
+pub use page::{push_page_block, push_page_end, push_page_head};

@@ -1,0 +1,48 @@
+//! The frame of a page, written by page/make.
+
+use nv_lines::Message;
+
+/// Appends the elements that the script fills.
+pub fn push_frame(out: &mut Message) {
+    out.put(FRAME)
+}
+
+const FRAME: &str = r#"</style>
+</head>
+<body>
+<div id="page">
+<header><h1 id="title"></h1><span id="summary-line"></span><span id="trust" role="status"></span></header>
+<main>
+<section aria-label="Source"><h2>Source</h2><div class="scroll" tabindex="0"><div class="code" id="source-rows"></div></div></section>
+<section aria-label="Code"><h2>Code <span class="aside" id="code-aside"></span>
+<label class="switch"><input type="checkbox" id="with-form">single-use form</label></h2><div class="scroll" tabindex="0"><div class="code" id="code-rows"></div></div></section>
+<section aria-label="Packet" id="packet"><h2>Packet <span class="aside">before and after</span><span id="memories" class="switch"></span></h2>
+<div class="scroll" tabindex="0"><div id="given"></div><div id="bytes"></div><table id="fields"></table>
+<div id="layout-choice"><label>Layout <select id="layout"></select></label> <label>at word <input id="layout-at" type="number" min="0" value="0"></label></div>
+<table id="layout-fields"></table></div></section>
+</main>
+<section aria-label="Time" id="time"><h2>Registers over time <span class="aside">a column is a step; bright where a register is written, pale while it is live</span></h2>
+<div class="bar"><button id="back" aria-label="one step back">&#9664;</button><button id="on" aria-label="one step on">&#9654;</button>
+<input id="step" type="range" min="0" value="0" aria-label="step"><span id="where"></span></div>
+<canvas id="chart" role="img" aria-label="registers over time"></canvas><div id="key" class="key"></div></section>
+<div class="more">
+<details open id="labels"><summary>Labels</summary><div class="wide" id="graph"></div></details>
+<details open><summary>Values and their banks</summary><p class="note" id="values-note"></p><div id="values"></div></details>
+<details open class="sizes"><summary>Sizes</summary><pre id="sizes-text"></pre></details>
+<details open id="ran"><summary>Outcome and profile</summary><pre id="outcome-text"></pre><pre id="profile-text"></pre></details>
+<details open class="legend"><summary>How to read this page</summary><dl>
+<dt>Code</dt><dd>Each instruction has its place, how often it ran, and a bar for that count.
+<span class="mark between">moves between banks</span>, <span class="mark within">moves within a bank</span>, <span class="mark literal">literals</span> and
+<span class="mark spill">spills</span> have a colour each. Point at one to read what it does and what is live there. A click goes to its first step.</dd>
+<dt>Source</dt><dd>A line with a blue edge has a memory access, or a <code>raise</code> that ends the run, which the code is known to have from it. Its number is how often the code did that. Other lines aren't tied to code.</dd>
+<dt>Packet</dt><dd>Bytes before the run stand left, those after it right, and what differs is red. A change of a byte or an argument runs the code again, by the engine of this page alone.</dd>
+<dt>Registers</dt><dd><span class="r A">A</span> and <span class="r B">B</span> have 15 registers each for values. <span class="r L">L</span> and <span class="r LD">LD</span> hold what was read,
+<span class="r S">S</span> and <span class="r SD">SD</span> what will be written. The strip above them shows how many values of A and B are live.</dd>
+<dt>Links</dt><dd><code>#L42</code> is a line of the source, <code>#i27</code> an instruction.</dd>
+<dt>Trust</dt><dd>Outcome, counts of labels, banks and sizes are texts of the program <code>nova</code>. The count of each instruction, the steps and the registers are a replay by this page's engine.
+They are shown where its outcome and its counts of labels are those of <code>nova</code>.</dd>
+</dl></details>
+</div>
+<div id="tip" role="tooltip" hidden></div>
+</div>
+"#;
