@@ -474,7 +474,7 @@ def nothing_new_twice(top):
 LONGEST_LINE, LONGEST_SENTENCE, USUAL_SENTENCE = 160, 30, 18
 # Pages for everybody, whose sentences are all short; and pages whose sentences are short on average.
 SHORT_PAGES = ("README.md", "docs/COMMANDS.md", "docs/MEMORY.md", "docs/TOUR.md", "docs/TESTING.md")
-PLAIN_PAGES = tuple(f"docs/{it}.md" for it in ("ARCHITECTURE", "FAULTS", "FORMS", "GLOSSARY", "IDIOMS", "LANGUAGE", "MACHINE", "PROOFS", "RECIPES", "WEIGHTS"))
+PLAIN_PAGES = tuple(f"docs/{it}.md" for it in ("ARCHITECTURE", "FAULTS", "FORMS", "GLOSSARY", "IDIOMS", "LANGUAGE", "MACHINE", "PROOFS", "PROVING", "RECIPES", "WEIGHTS")) + ("docs/GATE.md", "bench/README.md", "bench/NOTES.md")
 NAMED_FILE = re.compile(
     r"`([\w./+-]+\.(?:rt|antt|md|py|txt|asm|report|vim|json))`|\b((?:crates|docs|tests|bench|examples|editors)/[\w./+-]*\w)"
 )
