@@ -25,7 +25,7 @@ class Compiled(Kind):
     """What is compiled: its object, its report, its form, and runs of all three."""
 
     slots = (128, 128, 40, 3)
-    budgets = (1, 20)
+    budgets = (1, 1, 4)
 
     def make(self, random):
         numbers = {"slots": random.choice(self.slots), "budget": random.choice(self.budgets)}
@@ -137,7 +137,10 @@ class Traces(Kind):
     """Which statement made each write: of a source beside its own code, or beside that of a source near it."""
 
     def make(self, random):
-        text, words = typed_source(random)
+        if random.random() < 0.1:
+            text, words = sources.writing_source(random.choice((64, 1023, 1024, 1025, 1100))), 0
+        else:
+            text, words = typed_source(random)
         other = near_sources.reoperated(random, text) if random.random() < 0.6 else text
         numbers = {"steps": random.choice((10, 100_000)), "calls": random.choice((1, 3, 100_000)), "line": random.choice((0, 0, 1, 3, 9))}
         return Case({"s": text, "t": other, "m": sources.memory_for(random, words)}, numbers)

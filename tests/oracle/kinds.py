@@ -1,5 +1,5 @@
 """The kinds of cases by name."""
-from oracle.code_kinds import Assembly, Contexts, Memory, Objects, Peep, Reports, Runs, Schedules, Words
+from oracle.machine_kinds import Assembly, Contexts, Memory, Objects, Peep, Reports, Runs, Schedules, Words
 from oracle.compile_kinds import Banks, Compiled, Counts, Placements, Traces, Weights
 from oracle.source_kinds import Generated, Sizes, Sources, Texts, Types
 

@@ -17,6 +17,8 @@ def faults(old, new, random):
     if found or unlawful:
         return found + [f"unlawful: {unlawful}"]
     found += windows.needless(new.code, new.starts)
+    is_kept = (old.code, old.starts) == (new.code, new.starts)
+    found += [] if is_kept or windows.needless(old.code, old.starts) else ["nothing was needless, and yet it was changed"]
     found += [] if windows.start_faults(old.code, old.starts) else windows.start_faults(new.code, new.starts)
     found += [] if is_without(old.code.instructions, new.code.instructions) else ["more was changed than straight code"]
     found += ["the moves cost more under some weights"] * costs_more(old, new)

@@ -4,7 +4,7 @@ import subprocess
 import tempfile
 from dataclasses import dataclass
 
-SECONDS = 120
+SECONDS = 300
 
 
 @dataclass

@@ -25,7 +25,10 @@ class Sources(Kind):
     """Sources without a fault: their outcomes."""
 
     def make(self, random):
-        text, words = typed_source(random)
+        if random.random() < 0.05:
+            text, words = sources.writing_source(random.choice((63, 64, 65, 70))), 0
+        else:
+            text, words = typed_source(random)
         return Case({"s": text, "m": sources.memory_for(random, words)}, {"steps": random.choice((1, 3, 10, 100_000))})
 
     def differences(self, case, programs):

@@ -5,7 +5,9 @@ from oracle.language.trees import Group
 
 OTHER_NAMES = ("x", "n", "main", "E1", "f1", "l1", "l2", "nowhere", "hi")
 OTHER_NUMBERS = ("0", "1", "2", "3", "5", "8", "9", "31", "32", "33", "511", "512", "1024", "1025", "4294967295")
-OTHER_TOKENS = (*KEYWORDS, *SIGNS, *OTHER_NAMES, *OTHER_NUMBERS, "4294967296", "0x", "a" * 65)
+OTHER_TOKENS = (*KEYWORDS, *SIGNS, *OTHER_NAMES, *OTHER_NUMBERS)
+# Tokens at their limits.
+EDGE_TOKENS = ("4294967295", "4294967296", "0xffffffff", "0x100000000", "004294967295", "0x", "00", "0b1", "a" * 64, "a" * 65)
 OTHER_BYTES = b" \t\r\n/_0x9a#<>=!&\x00\x7f\x80\xff\"'@"
 BINARY = ("+", "-", "&", "|", "^", "==", "<", "&&", "||")
 OTHER_PARTS = (
@@ -13,7 +15,8 @@ OTHER_PARTS = (
     *("a.hi", "1 << 32", "!1", "~true"),
     *("raise E1[]", "raise E1[1]", "raise E2[(1, 2)]", "if (true) 1 else false", "if (1) 1 else 2", "let (a, a) = (1, 2); a", "let (a, b) = 1; a"),
     *("sram[9](0)", "sdram[3](0)", "sram[1025](0)", "scratch[1](n)", "scratch[8](505)", "sram(0) <- true; 1", "scratch(511) <- (1, 2); 1"),
-    *("unpack[l1](1)", "pack[l1](1)", "pack[nowhere](1)", "try { 1 } handle E1[] { 2 }", "try { 1 } handle E1[a] { true }"),
+    *("pack[l9]({x = {a = 1}})", "pack[l9]({x = {a = 1, b = {hi = 1, lo = 2}}})", "pack[l9]({x = {b = {hi = 1}}})", "pack[l9]({x = {hi = 1}})"),
+    *("unpack[l1](1)", "unpack[l9](n).x.b.hi", "pack[l1](1)", "pack[nowhere](1)", "try { 1 } handle E1[] { 2 }", "try { 1 } handle E1[a] { true }"),
     *("try { raise E1[1] } handle E2[(a, a)] { 1 }", "try { 1 } handle nowhere[] { 2 }"),
 )
 OTHER_TYPES = (
@@ -26,6 +29,7 @@ OTHER_DECLARATIONS = (
     *("exception E1[word[9]];", "exception E9[bool];", "fun f1[n: word]: word { n }", "fun g[a: word, a: word]: word { 1 }"),
     *("fun g[a: (word[1000], word[25])]: word { 1 }", "fun g[]: word { g[] + 1 }"),
 )
+OVERLAY = b"layout l9 = {x: overlay {a: 8 | b: {hi: 3, lo: 5}}}; "
 OPERATIONS = ("+", "-", "&", "|", "^")
 
 
@@ -43,7 +47,8 @@ def near(random, text):
         if not found:
             return text
         token, other = random.choice(found), random.choice(found)
-        copied = random.choice((text[other.first : other.after], random.choice(OTHER_TOKENS).encode()))
+        others = EDGE_TOKENS if random.random() < 0.15 else OTHER_TOKENS
+        copied = random.choice((text[other.first : other.after], random.choice(others).encode()))
         new = random.choice((b"", copied, copied, copied + b" " + text[token.first : token.after]))
         text = replaced(text, token, new)
     return text
@@ -60,6 +65,7 @@ def expressions(node):
 
 def retyped(random, text):
     """The text of a program with a few parts in the place of which others stand, so that it mostly still is a program."""
+    text = OVERLAY + text if random.random() < 0.5 else text
     for _ in range(random.choice((1, 1, 1, 2, 3))):
         try:
             text = with_another_part(random, text)
@@ -101,6 +107,7 @@ def reoperated(random, text):
 NESTED_EXPRESSIONS = (
     ("(", ")"), ("~", ""), ("!", ""), ("f[", "]"), ("if (a) ", " else 1"), ("a + (", ")"), ("(a, ", ")"), ("{x = ", "}"), ("let b = 1; ", ""),
     ("sram[1](", ")"), ("sram(0) <- 1; (", ")"), ("try { ", " } handle E[] { 1 }"), ("a.b + (", ")"), ("raise E[", "]"), ("pack[l](", ")"),
+    ("", " + a"), ("", " << 1"), ("", " && a"), ("", ".x"), ("let b = (", "); 1"), ("(", ", a)"), ("(1, ", ", a)"),
 )
 NESTED_TYPES = (("(word, ", ")"), ("{x: ", "}"))
 NESTED_LAYOUTS = (("{x: ", "}"), ("{x: overlay {a: 1 | b: ", "}}"), ("{1} ## {x: ", "}"))
@@ -111,8 +118,12 @@ def deep(random):
     count, draw = random.choice((random.randint(20, 101), random.randint(94, 101))), random.random()
 
     def nested(around, core):
-        opened, closed = random.choice(around)
-        return opened * count + core + closed * count
+        """The part in two kinds of others, one kind within the other."""
+        inner = random.choice((0, count, random.randint(0, count)))
+        for times in (inner, count - inner):
+            opened, closed = random.choice(around)
+            core = opened * times + core + closed * times
+        return core
 
     if draw < 0.5:
         core = random.choice(("a", "1", "()", "a.b", "a < b", "sram[1](0)", "f[]"))

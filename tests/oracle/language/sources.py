@@ -252,7 +252,9 @@ class Maker:
         draw = self.random.random()
         if draw < 0.6:
             sign = self.random.choice(("==", "!=", "<", "<=", ">", ">="))
-            return f"{self.operand(WORD, scope, depth, BIT_OR)} {sign} {self.operand(WORD, scope, depth, BIT_OR)}", COMPARISON
+            first = self.operand(WORD, scope, depth, BIT_OR)
+            second = first if self.chance(0.2) else self.operand(WORD, scope, depth, BIT_OR)
+            return f"{first} {sign} {second}", COMPARISON
         if draw < 0.75:
             return f"!{self.operand(BOOL, scope, depth, UNARY)}", UNARY
         sign, level = self.random.choice((("&&", AND), ("||", OR)))
@@ -304,6 +306,12 @@ class Maker:
 
 def made_source(random):
     return Maker(random).program().encode()
+
+
+def writing_source(count):
+    """A source that writes so many times."""
+    loop = "fun f[n: word]: word { if (n == 0) 0 else\nsram(n & 7) <- n; f[n - 1] }"
+    return f"{loop} fun main[]: word {{ f[{count}] }}".encode()
 
 
 def memory_for(random, count):

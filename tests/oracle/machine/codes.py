@@ -45,11 +45,13 @@ def access(random):
     memory = random.choice(machine.MEMORIES)
     first = random.choice((0, 2, 4, 6)) if memory == "sdram" else random.randrange(8)
     count = random.choice([it for it in range(1, 9 - first) if memory != "sdram" or it % 2 == 0])
-    address = random.choice((random.randrange(8), random.randrange(24), random.choice((508, 511, 512, 600, 1020, 65535))))
+    edges = (508, 510, 511, 512, 512, 513, 1016, 1020, 1023) if memory == "scratch" else (600, 65535)
+    address = random.choice((random.randrange(8), random.randrange(24), random.choice(edges)))
     source = random.choice(ADDRESS_REGISTERS)
     kind = random.choice(("read", "write"))
-    if random.random() < 0.1:
-        return [(kind, memory, first, count, register(random, machine.ADDRESSES), random.randrange(128))]
+    if random.random() < 0.2:
+        address = random.choice((register(random, machine.ADDRESSES), machine.SPILL_BASE))
+        return [(kind, memory, first, count, address, random.randrange(128))]
     return [("immed", source, address, 0), (kind, memory, first, count, source, random.choice((0, 0, 1, 127)))]
 
 
@@ -66,8 +68,16 @@ def near_duplicate(random, code):
     return found if found[0] in machine.STRAIGHT else straight(random)
 
 
+def loop(random, first):
+    """Accesses that are made so many times, at places from this one on."""
+    counter, one = ("B", 14), ("A", 14)
+    body = [instruction for _ in range(random.randint(1, 2)) for instruction in access(random)]
+    before = [("immed", counter, random.choice((3, 20, 64, 65, 70)), 0), ("immed", one, 1, 0)]
+    return [*before, *body, ("alu", counter, "SUB", counter, one), ("br", "NZ", first + len(before))]
+
+
 def lawful_code(random):
-    found = []
+    found = loop(random, 0) if random.random() < 0.2 else []
     for _ in range(random.randint(0, 24)):
         draw = random.random()
         if draw < 0.45:
@@ -84,7 +94,7 @@ def lawful_code(random):
     last = len(found) - 1
     # Mostly a later place, so that most runs end.
     branched = [
-        (*it[:2], random.choice((min(last, place + random.randint(1, 5)), random.randint(0, last)))) if it[0] == "br" else it
+        (*it[:2], random.choice((min(last, place + random.randint(1, 5)), random.randint(0, last)))) if it[-1] is None else it
         for place, it in enumerate(found)
     ]
     return Code(random.choice((0, 1, 2, 8)), branched)
@@ -134,8 +144,13 @@ def name(random):
 
 
 def near_object(random, data):
-    """The bytes with some of them changed, taken out or put in."""
+    """The bytes with some of them changed, taken out or put in, or with another count in the head."""
     data = bytearray(data)
+    if random.random() < 0.15:
+        at, count = random.choice((8, 12, 16)), len(data) // 8
+        edges = (0, 1, count, count + 1, 65535, 65536, 2**20, 2**20 + 1, 2**31 - 1, 2**31, 2**32 - 1)
+        data[at : at + 4] = random.choice(edges).to_bytes(4, "little")
+        return bytes(data[: random.choice((len(data), 20, 12, 10))])
     for _ in range(random.choice((1, 1, 2))):
         at = random.choice((random.randrange(len(data)), random.randrange(min(24, len(data)))))
         draw = random.random()
@@ -208,7 +223,7 @@ def schedule(random, parameters):
 
 def memory(random, parameters):
     """A memory text for such code."""
-    sizes = random.choice(((0, 0), (24, 12), (24, 12), (9, 4), (600, 70)))
+    sizes = random.choice(((0, 0), (24, 12), (24, 12), (9, 4), (600, 70), (65536, 1), (1, 65536)))
     lines = [f"memory {sizes[0]} {sizes[1]}", "args" + "".join(f" {word(random):08x}" for _ in range(parameters))]
     for kind, size in zip(machine.MEMORIES, (*sizes, 512)):
         for _ in range(random.randint(0, 2)):

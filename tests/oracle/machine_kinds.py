@@ -133,7 +133,7 @@ class Words(Kind):
         files, needed, possible = commands.COMMANDS.get(words[0], ((), (), ()))
         words += random.sample("abcdef", len(files)) + [f"{it}={random.choice((1, 7))}" for it in needed]
         words += [f"{it}={'w' if it == 'weights' else 1}" for it in possible if random.random() < 0.5]
-        words += ["1", "1"] if words[0] == "gen" else []
+        words += [random.choice(("1", "4294967295", "4294967296")), random.choice(("1", "2", "501"))] if words[0] == "gen" else []
         for _ in range(random.choice((0, 1, 1, 2))):
             at = random.randrange(len(words) + 1)
             words[at : at + random.choice((0, 1))] = random.choice(([], [random.choice(OTHER_WORDS)], [random.choice(OTHER_WORDS)]))
