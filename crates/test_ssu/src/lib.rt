@@ -1,22 +1,15 @@
-//! Tests of the single-use form and of runs that count entries, of the choice of its banks, of its code, and of the text of
-//! weights. They stand here, over the built libraries, since a crate that holds tests is proved twice.
+//! Tests of calls that no program makes of the choice of banks and of 0-1 programs: the whole 0-1 program of a form, a placement's vector,
+//! a search by a given choice, texts that are read back. They stand here, over the built libraries, since a crate that holds tests is
+//! proved twice.
 #![tactic(auto)]
 
 #[cfg(test)]
 mod banks;
 #[cfg(test)]
-mod crowded;
+mod programs_text;
 #[cfg(test)]
-mod emitted;
+mod reports_text;
 #[cfg(test)]
-mod entries;
-#[cfg(test)]
-mod exchange;
-#[cfg(test)]
-mod placed;
-#[cfg(test)]
-mod spill;
+mod search;
 #[cfg(test)]
 mod sum;
-#[cfg(test)]
-mod weights;
