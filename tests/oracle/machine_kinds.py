@@ -16,6 +16,13 @@ OTHER_WORDS = (
 )
 
 
+# Numbers at the limits of reports.
+REPORT_WORDS = (
+    *"129 1000000 1000001 1048575 1048576 32767 32768 -32768 -32769 67108863 67108864 67108865 1073741824 1073741825 -1073741824".split(),
+    *"-1073741825 0:32767 0:32768 0:-32768 0:-32769 0:4294967295 0:4294967296".split(),
+)
+
+
 def made_code(random):
     """Lawful code, and its object."""
     code = codes.lawful_code(random)
@@ -119,7 +126,7 @@ class Reports(Kind):
         if random.random() < 0.6:
             found = made.near_report(random, found)
         text = found.text()
-        return Case({"r": codes.near_text(random, text) if random.random() < 0.3 else text})
+        return Case({"r": codes.near_text(random, text, (*codes.NEAR_WORDS, *REPORT_WORDS)) if random.random() < 0.3 else text})
 
     def differences(self, case, programs):
         return compared(programs.call(case.files, "check", "r"), answered(expected.check_answer, case.files["r"]))

@@ -187,7 +187,7 @@ NEAR_WORDS = (
 )
 
 
-def near_text(random, text):
+def near_text(random, text, words=NEAR_WORDS):
     """A text of lines with a line, a word or a byte that is changed, taken out, doubled or put in."""
     for _ in range(random.choice((1, 1, 1, 2))):
         lines = text.split(b"\n")
@@ -196,7 +196,7 @@ def near_text(random, text):
         if draw < 0.45:
             parts = lines[at].split(b" ")
             place = random.randrange(len(parts))
-            new = [random.choice(NEAR_WORDS).encode()]
+            new = [random.choice((random.choice(words).encode(), random.choice(parts)))]
             parts[place : place + random.choice((0, 1, 1, 1))] = random.choice((new, new, new, []))
             lines[at] = b" ".join(parts)
         elif draw < 0.6:
