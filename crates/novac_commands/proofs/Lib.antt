@@ -12,7 +12,7 @@ pub mod CompileResults
 pub mod Complete
 pub mod Asked
 pub mod Weighed
-pub mod Counted
+pub mod CountedRuns
 pub mod Agreeing
 pub mod Agreed
 pub mod Traced

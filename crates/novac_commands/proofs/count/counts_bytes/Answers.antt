@@ -2,7 +2,7 @@ use Rattle.std.proofs.Common.{ℕ, ◌∙◌, subst}
 use Rattle.nv_ast.specs.TypedView.{typed_program}
 use Rattle.nv_memtext.specs.MemoryText.{Gives}
 use Rattle.ssu_ir.specs.View.{labels_view}
-use Rattle.novac_commands.proofs.Counted.{counts-made}
+use Rattle.novac_commands.proofs.CountedRuns.{counts-made}
 use Rattle.novac_commands.proofs.count.counts_bytes.Goals as goal
 
 pub returns-clause-made : goal.returns-clause-made
