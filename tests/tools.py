@@ -269,7 +269,7 @@ SEARCHES = {
     "bank-sum0-60": ("optimal 2", 1),
     "bank-sum2-60": ("optimal 5", 15),
     "bank-sum3-60": ("optimal 3", 3),
-    "pack-40": ("optimal 8", 45),
+    "pack-40": ("optimal 8", 6),
     "triangles-3": ("optimal 6", 3),
     "triangles-8": ("optimal 16", 127),
 }

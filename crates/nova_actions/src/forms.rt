@@ -16,6 +16,7 @@ use nova_show::{Answer, Ending, load};
 use nova_words::Forms;
 use nv_base::NoMemory;
 use nv_outside::Files;
+use nv_text::MOST_BYTES;
 use std::alloc::Global;
 
 // Which forms are to be printed.
@@ -74,6 +75,9 @@ fn push_no_form(name: Option<&str>, answer: &mut Answer) {
 }
 
 fn push_forms(alloc: Global, name: &str, bytes: &[u8], wanted: PrintedForms, answer: &mut Answer) {
+    if bytes.len() > MOST_BYTES {
+        return push_refused(alloc, name, bytes, answer);
+    }
     match front(alloc, bytes) {
         Ok((_typed, program)) => match forms_of(alloc, &program, wanted) {
             Ok(text) => answer.out.bytes(&text),
