@@ -1,0 +1,4 @@
+pub mod Kinds
+pub mod Gaps
+pub mod Formatting
+pub mod Same
