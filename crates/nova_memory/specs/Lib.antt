@@ -1,0 +1,4 @@
+pub mod Tokens
+pub mod Items
+pub mod Readable
+pub mod Adding
