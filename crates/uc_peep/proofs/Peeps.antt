@@ -450,19 +450,27 @@ module _ (code : List Instr) (starts : List ℕ) (draft : List Instr) (gone : Li
       omega arith
 
 -- the same where places are counted by a table
-pub kept-round : (code : List Instr) (starts : List ℕ) (draft : List Instr) (gone : List Bool) (f : ℕ → ℕ) (next : List Instr) (moved' : List ℕ) → AreInside code starts → IsDraft code starts draft gone → ((x : ℕ) → x ≤ length gone → f x ≡ kept_before gone x) → next ≡ compacted f gone draft → moved' ≡ map f starts → (x : ℕ) × (is_gone gone x ≡ true) → (answers : Answers) → Rewrites answers code (kept_of gone draft)
-    → IsKept code starts next moved' × (length next < length code) × Rewrites answers code next
-kept-round code starts draft gone f next moved' inside d counts is-next is-moved some answers rewritten =
+pub kept-code : (code : List Instr) (starts : List ℕ) (draft : List Instr) (gone : List Bool) (f : ℕ → ℕ) (next : List Instr) (moved' : List ℕ) → AreInside code starts → IsDraft code starts draft gone → ((x : ℕ) → x ≤ length gone → f x ≡ kept_before gone x) → next ≡ compacted f gone draft → moved' ≡ map f starts
+    → IsKept code starts next moved' × (next ≡ compacted (kept_before gone) gone draft) × (moved' ≡ map (kept_before gone) starts)
+kept-code code starts draft gone f next moved' inside d counts is-next is-moved =
     let codes : next ≡ compacted (kept_before gone) gone draft = is-next ∙ compacted-same f (kept_before gone) (length draft) gone draft (λ t lt. counts t (let a = d.size in let b = d.size_gone in omega arith)) (λ k i at. (d.lawful.each k i at).target) in
     let places : moved' ≡ map (kept_before gone) starts = is-moved ∙ mapped-same f (kept_before gone) (length code) starts (λ t lt. counts t (let b = d.size_gone in omega arith)) inside in (
       subst (λ l. IsKept code starts l moved') (sym codes) (subst (λ l. IsKept code starts (compacted (kept_before gone) gone draft) l) (sym places) (kept-all code starts draft gone inside d)),
-      subst (λ l. length l < length code) (sym codes) (kept-less code starts draft gone inside d some.0 some.1),
-      InTurn code (kept_of gone draft) next rewritten (subst (Rewrites answers (kept_of gone draft)) (sym (is-next ∙ compacted-kept_of f gone draft)) (Relocated f (kept_of gone draft))),
+      codes,
+      places,
     )
   where
     mapped-same : (f g : ℕ → ℕ) (n : ℕ) (starts : List ℕ) → ((t : ℕ) → t < n → f t ≡ g t) → All (λ t. t < n) starts → map f starts ≡ map g starts
     mapped-same f g n [] h all = refl
     mapped-same f g n (t ∷ starts) h all = ap (λ y. y ∷ map f starts) (h t (all 0 0 (let some : 0 < length (t ∷ starts) = omega arith in some))) ∙ ap (λ l. g t ∷ l) (mapped-same f g n starts h (λ k e lt. all (suc k) e (omega arith)))
+
+pub kept-round : (code : List Instr) (starts : List ℕ) (draft : List Instr) (gone : List Bool) (next : List Instr) (moved' : List ℕ) → AreInside code starts → IsDraft code starts draft gone → IsKept code starts next moved' → next ≡ compacted (kept_before gone) gone draft → (x : ℕ) × (is_gone gone x ≡ true) → (answers : Answers) → Rewrites answers code (kept_of gone draft)
+    → IsKept code starts next moved' × (length next < length code) × Rewrites answers code next
+kept-round code starts draft gone next moved' inside d kept is-next some answers rewritten = (
+  kept,
+  subst (λ l. length l < length code) (sym is-next) (kept-less code starts draft gone inside d some.0 some.1),
+  InTurn code (kept_of gone draft) next rewritten (subst (Rewrites answers (kept_of gone draft)) (sym (is-next ∙ compacted-kept_of (kept_before gone) gone draft)) (Relocated (kept_before gone) (kept_of gone draft))),
+)
 
 -- ---- rounds, one after the other
 

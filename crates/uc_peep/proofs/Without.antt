@@ -71,7 +71,7 @@ compares-relocated f x (Halt k n) h = absurd h
 stays : (i : Instr) (code code' : List Instr) → IsWithout code code' → IsWithout (i ∷ code) (i ∷ code')
 stays i code code' h = subst (λ j. IsWithout (i ∷ code) (j ∷ code')) (relocated-nowhere i) (Stays (λ x. x) i code code' h)
 
-without-none : (code : List Instr) → IsWithout code code
+pub without-none : (code : List Instr) → IsWithout code code
 without-none [] = Nothing
 without-none (i ∷ code) = stays i code code (without-none code)
 
@@ -89,7 +89,7 @@ without-both a a' b (Gone i code code' straight h) = Gone i (code ++ b) (code' +
 without-both a a' b (Tested i x code code' compares h) = Tested i x (code ++ b) (code' ++ b) compares (without-both code code' b h)
 without-both a a' b (Stays f i code code' h) = Stays f i (code ++ b) (code' ++ b) (without-both code code' b h)
 
-without-trans : (a b c : List Instr) → IsWithout a b → IsWithout b c → IsWithout a c
+pub without-trans : (a b c : List Instr) → IsWithout a b → IsWithout b c → IsWithout a c
 without-trans a b c Nothing g = g
 without-trans a b c (Gone i code code' straight h) g = Gone i code c straight (without-trans code code' c h g)
 without-trans a b c (Tested i x code code' compares h) (Gone j more more' straight g) = Gone i code more' (compares-straight x i compares) (without-trans code code' more' h g)

@@ -81,7 +81,7 @@ pub fn move_starts(alloc: Global, starts: &[u32], counts: &[u32]) -> Result<Vec<
     Ok(v)
 }
 
-// Marks where branches go.
+/// Marks where branches go.
 pub fn mark_entered(code: &[Instr], marks: &mut [bool])
     requires targets { All (Rule5 (length marks.old)) code.now }
     requires none { (y : ℕ) → is_gone marks.old y ≡ false }
@@ -94,7 +94,7 @@ pub fn mark_entered(code: &[Instr], marks: &mut [bool])
     }
 }
 
-// Marks where labels start.
+/// Marks where labels start.
 pub fn mark_starts(starts: &[u32], marks: &mut [bool])
     requires inside { All (λ s. s < length marks.old) starts.now }
     requires none { (y : ℕ) → is_gone marks.old y ≡ false }

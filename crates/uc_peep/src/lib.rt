@@ -15,9 +15,10 @@ mod window;
 mod windows;
 mod zero_tests;
 
+pub use compacting::{mark_entered, mark_starts};
 pub use live_set::LiveSet;
-pub use liveness::live;
+pub use liveness::{live, written_by};
 pub use needless::without_needless;
-pub use peephole::{Peeped, peep};
+pub use peephole::{Listing, Peeped, peep, without_gone};
 pub use shorter_code::Shorter;
 pub use window::{Pair, Window, WindowRule};

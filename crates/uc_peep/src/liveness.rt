@@ -63,8 +63,8 @@ fn read_by(i: &Instr) -> LiveSet
     }
 }
 
-// What an instruction writes.
-fn written_by(i: &Instr) -> LiveSet
+/// What an instruction writes.
+pub fn written_by(i: &Instr) -> LiveSet
     requires { IsFormed i.now }
     ensures { (s : Resource) → IsResource s → has result s ≡ writes i.now s }
 {

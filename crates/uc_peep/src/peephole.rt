@@ -1,13 +1,14 @@
 //! Code without its needless instructions.
 
-ghost use Rattle.std.specs.Prelude.{◌≡◌, ◌+◌, ◌<◌, ◌≤◌, ◌^◌, ◌↔◌, ℕ, List, false, IfOk, length, slice_index};
+ghost use Rattle.std.specs.Prelude.{◌≡◌, ◌+◌, ◌<◌, ◌≤◌, ◌^◌, ◌↔◌, ℕ, List, false, IfOk, length, map, slice_index};
 ghost use Rattle.uc_isa.specs.Agrees.{Agrees, SourceMeaning};
 ghost use Rattle.uc_isa.specs.Lawful.{IsLawful};
 ghost use Rattle.uc_isa_executions.specs.Program.{IsProgram};
 ghost use Rattle.uc_isa_executions.specs.Starts.{AreInside};
-ghost use Rattle.uc_peep.specs.Kept.{is_gone};
+ghost use Rattle.uc_peep.specs.Draft.{IsDraft};
+ghost use Rattle.uc_peep.specs.Kept.{compacted, is_gone, kept_before};
 ghost use Rattle.uc_peep.specs.Liveness.{IsClosed, IsLiveAt};
-ghost use Rattle.uc_peep.specs.Becomes.{IsPeeped, IsRound};
+ghost use Rattle.uc_peep.specs.Becomes.{IsKept, IsPeeped, IsRound};
 
 use crate::LiveSet;
 use crate::compacting::{compact, counts, mark_entered, mark_starts, move_starts};
@@ -25,11 +26,35 @@ pub struct Peeped {
     pub starts: Vec<u32>,
 }
 
-// The instructions of code, and where its labels start.
+/// The instructions of code, and where its labels start.
 #[derive(Drop)]
-pub(crate) struct Listing {
-    pub(crate) code: Vec<Instr>,
-    pub(crate) starts: Vec<u32>,
+pub struct Listing {
+    pub code: Vec<Instr>,
+    pub starts: Vec<u32>,
+}
+
+/// A draft of code without the places that are gone, and where the starts are then.
+pub fn without_gone(
+    alloc: Global,
+    code: &[Instr],
+    starts: &[u32],
+    draft: &[Instr],
+    gone: &[bool],
+) -> Result<Listing, AllocError>
+    requires starts { AreInside code.now starts.now }
+    requires draft { IsDraft code.now starts.now draft.now gone.now }
+    requires small { length code.now < 2147483648 }
+    ensures kept { IfOk result (λ q. IsKept code.now starts.now q.code.items q.starts.items) }
+    ensures code { IfOk result (λ q. q.code.items ≡ compacted (kept_before gone.now) gone.now draft.now) }
+    ensures starts { IfOk result (λ q. q.starts.items ≡ map (kept_before gone.now) starts.now) }
+{
+    let places = counts(alloc, gone)?;
+    let next = compact(alloc, draft, gone, &places)?;
+    let moved = move_starts(alloc, starts, &places)?;
+    Ok(Listing {
+        code: next,
+        starts: moved,
+    })
 }
 
 // One pass over a draft of the code, and the code without what is gone then.
@@ -66,13 +91,8 @@ fn work<R: Window>(
     if !changed {
         return Ok(None);
     }
-    let places = counts(alloc, gone)?;
-    let next = compact(alloc, draft, gone, &places)?;
-    let moved = move_starts(alloc, starts, &places)?;
-    Ok(Some(Listing {
-        code: next,
-        starts: moved,
-    }))
+    let next = without_gone(alloc, code, starts, draft, gone)?;
+    Ok(Some(next))
 }
 
 // One round: shorter code, or None where the rule has no answer at any window.
