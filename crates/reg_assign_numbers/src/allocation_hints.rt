@@ -1,25 +1,12 @@
-//! What the values of a bank want: numbers by which no move is needed.
+//! What the values of a bank want: numbers by which no move is needed. A wish weighs as much as its move would run.
 
-use crate::Hints;
+use crate::hinted::{FixedWish, Hints, PairWish};
 use bank_prog::services::services;
 use bank_prog::{Bank, Column, Origin, Role, Use};
 use nv_base::NoMemory;
 use reg_assign_reading::reading::Reading;
+use ssu_frequency::{Frequencies, ONCE, frequencies_of};
 use std::alloc::Global;
-use std::collections::HashMap;
-
-/// Of each label that has parameters the point at which it begins.
-type Entries = HashMap<u32, u32>;
-
-fn entries_of(alloc: Global, r: &Reading<'_>) -> Result<Entries, NoMemory> {
-    let mut entries = HashMap::new(alloc);
-    for v in &r.bank.form.tables.values {
-        if let Origin::Parameter(l, _) = v.origin {
-            entries.insert(l, v.point)?;
-        }
-    }
-    Ok(entries)
-}
 
 /// Whether a use takes its word from a bank to the same bank.
 fn stays_in(r: &Reading<'_>, u: Use, h: Bank) -> bool {
@@ -29,21 +16,21 @@ fn stays_in(r: &Reading<'_>, u: Use, h: Bank) -> bool {
     }
 }
 
-/// A word and the parameter that takes it in a bank want one number: those of jumps back, or of the others.
+/// A word and the parameter that takes it in a bank want one number.
 fn push_pairs(
     allocation_hints: &mut Hints,
     r: &Reading<'_>,
     h: Bank,
-    entries: &Entries,
-    back: bool,
+    frequencies: &Frequencies,
 ) -> Result<(), NoMemory> {
     for u in &r.bank.form.tables.uses {
         if let Role::Argument(l, i) = u.role {
-            let is_back = entries.get(&l).copied().unwrap_or(0) <= u.point;
-            if is_back == back && stays_in(r, *u, h) {
-                allocation_hints
-                    .pairs
-                    .push((u.value, r.bank.form.parameter(l, i)))?;
+            if stays_in(r, *u, h) {
+                allocation_hints.pairs.push(PairWish {
+                    weight: frequencies.at(u.point),
+                    value: u.value,
+                    other: r.bank.form.parameter(l, i),
+                })?;
             }
         }
     }
@@ -55,37 +42,52 @@ fn push_parameters(allocation_hints: &mut Hints, r: &Reading<'_>) -> Result<(), 
     for v in &r.bank.form.tables.values {
         if let Origin::Parameter(0, i) = v.origin {
             if r.is_on(Column::Def(v.var, Bank::A)) {
-                allocation_hints.fixed.push((v.var, i))?;
+                allocation_hints.fixed.push(FixedWish {
+                    weight: ONCE,
+                    value: v.var,
+                    number: i,
+                })?;
             }
         }
     }
     Ok(())
 }
 
-/// In the first bank a word of an end wants its place there.
-fn push_endings(allocation_hints: &mut Hints, r: &Reading<'_>) -> Result<(), NoMemory> {
+/// In the first bank a word of an end wants its place there. A run comes to one end once, so these wishes count half, and no more in loops.
+fn push_endings(
+    allocation_hints: &mut Hints,
+    r: &Reading<'_>,
+    frequencies: &Frequencies,
+) -> Result<(), NoMemory> {
     for u in &r.bank.form.tables.uses {
         if let Role::Ending(i) = u.role {
             if stays_in(r, *u, Bank::A) {
-                allocation_hints.fixed.push((u.value, i))?;
+                allocation_hints.fixed.push(FixedWish {
+                    weight: frequencies.at(u.point).min(ONCE).wrapping_shr(1),
+                    value: u.value,
+                    number: i,
+                })?;
             }
         }
     }
     Ok(())
 }
 
-/// What the values with a home in a bank want, the words of jumps back first.
+/// What the values with a home in a bank want, the dearest wishes first.
 pub fn hints_in(alloc: Global, r: &Reading<'_>, h: Bank) -> Result<Hints, NoMemory> {
     let mut allocation_hints = Hints {
         pairs: Vec::new(alloc),
         fixed: Vec::new(alloc),
     };
-    let entries = entries_of(alloc, r)?;
-    push_pairs(&mut allocation_hints, r, h, &entries, true)?;
-    push_pairs(&mut allocation_hints, r, h, &entries, false)?;
+    let form = &r.bank.form;
+    let frequencies = frequencies_of(alloc, form.ssu, &form.point_ids)?;
+    push_pairs(&mut allocation_hints, r, h, &frequencies)?;
     if h == Bank::A {
         push_parameters(&mut allocation_hints, r)?;
-        push_endings(&mut allocation_hints, r)?;
+        push_endings(&mut allocation_hints, r, &frequencies)?;
     }
+    allocation_hints
+        .pairs
+        .sort_by_key(|wish| u32::MAX - wish.weight)?;
     Ok(allocation_hints)
 }

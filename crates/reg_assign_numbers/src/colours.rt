@@ -1,6 +1,7 @@
 //! Numbers for groups, and then for values.
 
 use crate::groups::Groups;
+use crate::hinted::FixedWish;
 use crate::values::Values;
 use nv_base::NoMemory;
 use ssu_liveness::Slots;
@@ -125,7 +126,7 @@ fn wanting(
     alloc: Global,
     values: &Values,
     groups: &Groups,
-    fixed: &[(u32, u32)],
+    fixed: &[FixedWish],
 ) -> Result<Colours, NoMemory> {
     let mut all = Colours {
         colours: vec![in alloc; None; values.len()]?,
@@ -135,9 +136,9 @@ fn wanting(
         all.wanted.push(Vec::new(alloc))?;
     }
     for wish in fixed {
-        if let Some(i) = values.place(wish.0) {
+        if let Some(i) = values.place(wish.value) {
             if let Some(g) = groups.group(i) {
-                all.want(g, wish.1)?;
+                all.want(g, wish.number)?;
             }
         }
     }
@@ -175,7 +176,7 @@ fn colours_of(
     alloc: Global,
     values: &Values,
     groups: &Groups,
-    fixed: &[(u32, u32)],
+    fixed: &[FixedWish],
     limit: usize,
 ) -> Result<Colours, NoMemory> {
     let mut all = wanting(alloc, values, groups, fixed)?;
@@ -284,7 +285,7 @@ pub fn numbers_by(
     rows: &[Vec<u32>],
     values: &Values,
     groups: &Groups,
-    fixed: &[(u32, u32)],
+    fixed: &[FixedWish],
     limit: usize,
 ) -> Result<Slots, NoMemory> {
     let all = colours_of(alloc, values, groups, fixed, limit)?;

@@ -1,5 +1,6 @@
 //! Groups of values that share a number: no two of them are ever held together.
 
+use crate::hinted::PairWish;
 use crate::values::Values;
 use nv_base::NoMemory;
 use std::alloc::Global;
@@ -118,10 +119,10 @@ fn one_each(alloc: Global, count: usize) -> Result<Groups, NoMemory> {
 }
 
 /// Groups by these pairs of values that want one number, the dearest first.
-pub fn groups_of(alloc: Global, values: &Values, pairs: &[(u32, u32)]) -> Result<Groups, NoMemory> {
+pub fn groups_of(alloc: Global, values: &Values, pairs: &[PairWish]) -> Result<Groups, NoMemory> {
     let mut groups = one_each(alloc, values.len())?;
-    for pair in pairs {
-        groups.join_values(alloc, values, pair.0, pair.1)?;
+    for wish in pairs {
+        groups.join_values(alloc, values, wish.value, wish.other)?;
     }
     Ok(groups)
 }

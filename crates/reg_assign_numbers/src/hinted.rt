@@ -7,17 +7,34 @@ ghost use Rattle.reg_assign_numbers.specs.Rows.{HasNumbers};
 
 use crate::apart::are_apart;
 use crate::colours::numbers_by;
+use crate::exchange::exchange_numbers;
 use crate::groups::groups_of;
 use crate::values::values_of;
 use nv_base::NoMemory;
 use ssu_liveness::Slots;
 use std::alloc::Global;
 
-/// What values want: pairs want one number, the dearest pair first; and some values want a number that is fixed.
+/// Two values want one number.
+#[derive(Clone, Copy, Drop)]
+pub struct PairWish {
+    pub weight: u32,
+    pub value: u32,
+    pub other: u32,
+}
+
+/// A value wants this number.
+#[derive(Clone, Copy, Drop)]
+pub struct FixedWish {
+    pub weight: u32,
+    pub value: u32,
+    pub number: u32,
+}
+
+/// What values want, the dearest pair first.
 #[derive(Drop)]
 pub struct Hints {
-    pub pairs: Vec<(u32, u32)>,
-    pub fixed: Vec<(u32, u32)>,
+    pub pairs: Vec<PairWish>,
+    pub fixed: Vec<FixedWish>,
 }
 
 /// Numbers below a limit for the values of these rows, by wishes; none where those that were found don't tell the values of
@@ -33,7 +50,7 @@ pub fn wished_numbers(
 {
     let values = values_of(alloc, rows)?;
     let groups = groups_of(alloc, &values, &allocation_hints.pairs)?;
-    let numbers = numbers_by(
+    let mut numbers = numbers_by(
         alloc,
         rows,
         &values,
@@ -41,6 +58,7 @@ pub fn wished_numbers(
         &allocation_hints.fixed,
         limit as usize,
     )?;
+    exchange_numbers(alloc, &values, allocation_hints, &mut numbers)?;
     if are_apart(alloc, &numbers, rows, limit)? {
         Ok(Some(numbers))
     } else {

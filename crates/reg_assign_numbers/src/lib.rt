@@ -5,10 +5,11 @@
 mod allocation_hints;
 mod apart;
 mod colours;
+mod exchange;
 mod groups;
 mod hinted;
 mod homes;
 mod values;
 
-pub use hinted::{Hints, wished_numbers};
+pub use hinted::{FixedWish, Hints, PairWish, wished_numbers};
 pub use homes::number_homes;

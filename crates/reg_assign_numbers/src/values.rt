@@ -8,6 +8,7 @@ use std::collections::HashMap;
 /// have its number: they stand in the row in which it is first, or it stands in the row in which they are.
 #[derive(Drop)]
 pub struct Values {
+    vars: Vec<u32>,
     places: HashMap<u32, usize>,
     beside: Vec<Vec<usize>>,
 }
@@ -16,6 +17,11 @@ impl Values {
     /// The place of a value, if it stands in a row.
     pub fn place(&self, x: u32) -> Option<usize> {
         self.places.get(&x).copied()
+    }
+
+    /// The value at a place.
+    pub fn var(&self, i: usize) -> Option<u32> {
+        self.vars.get(i).copied()
     }
 
     /// How many values there are.
@@ -42,6 +48,7 @@ impl Values {
     /// A value after the others, which can't have the numbers of those at these places.
     fn add(&mut self, alloc: Global, x: u32, there: &[usize]) -> Result<usize, NoMemory> {
         let i = self.beside.len();
+        self.vars.push(x)?;
         self.places.insert(x, i)?;
         self.beside.push(there.to_vec(alloc)?)?;
         for j in there {
@@ -80,6 +87,7 @@ impl Values {
 /// The values of these rows.
 pub fn values_of(alloc: Global, rows: &[Vec<u32>]) -> Result<Values, NoMemory> {
     let mut values = Values {
+        vars: Vec::new(alloc),
         places: HashMap::new(alloc),
         beside: Vec::new(alloc),
     };
