@@ -25,6 +25,7 @@ use ssu_ir::Ssu;
 use std::alloc::Global;
 use uc_isa::Code;
 use uc_peep::without_needless;
+use uc_peep_facts::without_repeats;
 use ucode_emit::{Emitted, emit};
 use zo_cert::Report;
 use zo_model::Assignment;
@@ -39,7 +40,8 @@ pub struct Built {
     pub starts: Vec<u32>,
 }
 
-/// The code of a form whose values stand where a choice of banks has them, without needless instructions.
+/// The code of a form whose values stand where a choice of banks has them, without instructions that repeat what stands
+/// already, and without needless ones.
 fn code_of(
     alloc: Global,
     bank: &BankTables<'_>,
@@ -58,7 +60,8 @@ fn code_of(
 {
     let placement = assign_by(alloc, bank, slots, x)?;
     let emitted = emit(alloc, bank.form.ssu, &placement)?;
-    let peeped = without_needless(alloc, emitted.code, emitted.starts)?;
+    let once = without_repeats(alloc, emitted.code, emitted.starts)?;
+    let peeped = without_needless(alloc, once.code, once.starts)?;
     Ok(Emitted {
         code: peeped.code,
         starts: peeped.starts,
