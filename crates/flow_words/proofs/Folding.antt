@@ -12,10 +12,12 @@ use Rattle.nv_base.specs.declared.term.Primitive.TheVariants.{Same, Una as UnaOf
 use Rattle.nv_base.specs.Words.{Env, IsEnv, word, word_sum, shifted_right, rotated_left, atom_word, prim_word}
 use Rattle.nv_base.proofs.Environments.{atom-fits}
 use Rattle.flow_words.specs.declared.state.Known.{Known}
-use Rattle.flow_words.specs.Tables.{Table, of_prim, with_known, definition}
+use Rattle.flow_words.specs.Tables.{Table, with_known, definition}
+use Rattle.flow_words.specs.Definitions.{of_prim}
 use Rattle.flow_words.specs.Sums.{is_operand, high, masked, first, low, agreed, halved, halves, halves_of, twice, IsFolded}
 use Rattle.flow_words.specs.inner.Reduced.{Holds, HasWord}
-use Rattle.flow_words.proofs.Holding.{with_here, held_before, defined_word}
+use Rattle.flow_words.proofs.Closing.{with_here}
+use Rattle.flow_words.proofs.Holding.{held_before, defined_word}
 use Rattle.flow_words.proofs.Words.{half_sum, half_twice}
 
 -- ---- answers
@@ -108,18 +110,21 @@ twice_word T p s env words holds e =
 
 -- ---- the three definitions
 
-known_word : (T : Table) (x : ℕ) (q : Primitive) (env : Env) → Holds (with_known T x (of_prim q)) env → env x ≡ prim_word env q
+known_word : (T : Table) (x : ℕ) (q : Primitive) (env : Env) → Holds (with_known T x (of_prim T q)) env → env x ≡ prim_word env q
 known_word T x q env holds =
-    let here = with_here T x x (of_prim q) (eq-eqb x x refl) in
+    let here = with_here T x x (of_prim T q) (eq-eqb x x refl) in
     holds.made x (ap (λ (k : Known). k.live) here) ∙ ap (λ (k : Known). prim_word env k.made) here
 
-pub folded_word : (T : Table) (p : Primitive) (s : Atom) (t u : ℕ) → twice T p ≡ Some s → (T t).live ≡ false → (with_known T t (of_prim (UnaOf (Rol 16) s)) u).live ≡ false
-    → HasWord (with_known (with_known T t (of_prim (UnaOf (Rol 16) s))) u (of_prim (BinOf Add s (Var t)))) p (UnaOf (Shr 16) (Var u))
+-- the table after one definition more
+abbrev pub defining : Table → ℕ → Primitive → Table
+defining T x q = with_known T x (of_prim T q)
+
+pub folded_word : (T : Table) (p : Primitive) (s : Atom) (t u : ℕ) → twice T p ≡ Some s → (T t).live ≡ false → (defining T t (UnaOf (Rol 16) s) u).live ≡ false → HasWord (defining (defining T t (UnaOf (Rol 16) s)) u (BinOf Add s (Var t))) p (UnaOf (Shr 16) (Var u))
 folded_word T p s t u e dead gone = record {
   word = λ env words holds.
-      let one = with_known T t (of_prim (UnaOf (Rol 16) s)) in
-      let between = held_before one u (of_prim (BinOf Add s (Var t))) env gone holds in
-      let first = held_before T t (of_prim (UnaOf (Rol 16) s)) env dead between in
+      let one = defining T t (UnaOf (Rol 16) s) in
+      let between = held_before one u (of_prim one (BinOf Add s (Var t))) env gone holds in
+      let first = held_before T t (of_prim T (UnaOf (Rol 16) s)) env dead between in
       ap (shifted_right 16) (known_word one u (BinOf Add s (Var t)) env holds)
       ∙ ap (λ v. shifted_right 16 (word_sum (atom_word env s) v)) (known_word T t (UnaOf (Rol 16) s) env between)
       ∙ sym (twice_word T p s env words first e);
@@ -129,10 +134,10 @@ nothing_agreed : (o : Option Atom) → agreed o None ≡ None
 nothing_agreed (Some x) = refl
 nothing_agreed None = refl
 
-pub sum_folded : (T : Table) (s : Atom) (t : ℕ) → IsFolded (with_known T t (of_prim (UnaOf (Rol 16) s))) (BinOf Add s (Var t))
+pub sum_folded : (T : Table) (s : Atom) (t : ℕ) → IsFolded (with_known T t (of_prim T (UnaOf (Rol 16) s))) (BinOf Add s (Var t))
 sum_folded T s t =
-    let U = with_known T t (of_prim (UnaOf (Rol 16) s)) in
-    let here = with_here T t t (of_prim (UnaOf (Rol 16) s)) (eq-eqb t t refl) in
+    let U = with_known T t (of_prim T (UnaOf (Rol 16) s)) in
+    let here = with_here T t t (of_prim T (UnaOf (Rol 16) s)) (eq-eqb t t refl) in
     let is : definition U (Var t) ≡ UnaOf (Rol 16) s = ap (λ (k : Known). if k.live then k.made else Same (Var t)) here in
     let none : halves U (BinOf Add s (Var t)) ≡ None =
     ap (λ q. first (halved (definition U s) q) (halved q (definition U s))) is

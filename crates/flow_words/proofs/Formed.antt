@@ -11,9 +11,10 @@ use Rattle.flow_ir.specs.Formed.{defined, is_formed, takes_as_many}
 use Rattle.flow_ir.proofs.Members.{either, first-or-rest, in-left, in-right, in-first, in-rest}
 use Rattle.flow_ir.proofs.Renaming.{prim_known}
 use Rattle.flow_words.specs.declared.state.Known.{Known}
-use Rattle.flow_words.specs.Tables.{Table, itself, of_prim, with_known, with_all}
+use Rattle.flow_words.specs.Tables.{Table, itself, with_known, with_all}
+use Rattle.flow_words.specs.Definitions.{of_prim}
 use Rattle.flow_words.specs.inner.Reduced.{AreNew, Reduced, extra, kept, read, write, choice, jump, halt}
-use Rattle.flow_words.proofs.Holding.{same_case, with_else, settled_live, settled_count}
+use Rattle.flow_words.proofs.Closing.{same_case, with_else, settled_live, settled_count}
 
 -- ---- what is in scope is known
 
@@ -42,11 +43,11 @@ module _ (P : Table → Primitive → Type 0) (base : ℕ) (labels news : List L
   pub reduced_formed : (T : Table) (n k : ℕ) (t u : Tree) → Reduced P base T n t u k → (known more : List ℕ) → is_formed labels known t ≡ true → Within known more → InScope T more → is_formed news more u ≡ true
   reduced_formed T n k t u (extra T' n' k' q t' u' le dead settled p rest) known more e within scope =
       and_from (is_primitive more q) (is_formed news (n ∷ more) u') (prim_known more q (settled_count T q settled) (λ z i. scope z (settled_live T q settled z i)))
-      (reduced_formed (with_known T n (of_prim q)) (n + 1) k t u' rest known (n ∷ more) e (λ y i. in-rest y n more (within y i)) (scope_more T n (of_prim q) more scope))
+      (reduced_formed (with_known T n (of_prim T q)) (n + 1) k t u' rest known (n ∷ more) e (λ y i. in-rest y n more (within y i)) (scope_more T n (of_prim T q) more scope))
   reduced_formed T n k t u (kept T' n' k' x p q t' u' lt dead settled fine old same rest) known more e within scope =
       let parts = and_parts (is_primitive known p) (is_formed labels (x ∷ known) t') e in
       and_from (is_primitive more q) (is_formed news (x ∷ more) u') (prim_known more q (settled_count T q settled) (λ z i. scope z (settled_live T q settled z i)))
-      (reduced_formed (with_known T x (of_prim q)) n k t' u' rest (x ∷ known) (x ∷ more) parts.1 (within_first x known more within) (scope_more T x (of_prim q) more scope))
+      (reduced_formed (with_known T x (of_prim T q)) n k t' u' rest (x ∷ known) (x ∷ more) parts.1 (within_first x known more within) (scope_more T x (of_prim T q) more scope))
   reduced_formed T n k t u (read T' n' k' m xs a t' u' old fresh rest) known more e within scope =
       let i = length xs in
       let p1 = and_parts (is_known known a) (can_move m i && (is_address m a i && is_formed labels (xs ++ known) t')) e in
@@ -98,8 +99,8 @@ mixed_front n k [] as' bs p = p
 mixed_front n k (x ∷ xs) as' bs p = own n k x (xs ++ as') (xs ++ bs) (mixed_front n k xs as' bs p)
 
 pub defines : {P : Table → Primitive → Type 0} {base : ℕ} (T : Table) (n k : ℕ) (t u : Tree) → Reduced P base T n t u k → Mixed n k (defined t) (defined u)
-defines T n k t u (extra T' n' k' q t' u' le dead settled p rest) = more n k (defined t) (defined u') (defines (with_known T n (of_prim q)) (n + 1) k t u' rest)
-defines T n k t u (kept T' n' k' x p q t' u' lt dead settled fine old same rest) = own n k x (defined t') (defined u') (defines (with_known T x (of_prim q)) n k t' u' rest)
+defines T n k t u (extra T' n' k' q t' u' le dead settled p rest) = more n k (defined t) (defined u') (defines (with_known T n (of_prim T q)) (n + 1) k t u' rest)
+defines T n k t u (kept T' n' k' x p q t' u' lt dead settled fine old same rest) = own n k x (defined t') (defined u') (defines (with_known T x (of_prim T q)) n k t' u' rest)
 defines T n k t u (read T' n' k' m xs a t' u' old fresh rest) = mixed_front n k xs (defined t') (defined u') (defines (with_all T xs) n k t' u' rest)
 defines T n k t u (write T' n' k' m a bs t' u' old olds rest) = defines T n k t' u' rest
 defines T n k t u (choice T' n' j k' c a b t1 t2 u1 u2 olda oldb left right) = mixed_both n j k (defined t1) (defined u1) (defined t2) (defined u2) (defines T n j t1 u1 left) (defines T j k t2 u2 right)
@@ -119,9 +120,9 @@ pub below_both : (base : ℕ) (xs ys : List ℕ) → AllBelow base xs → AllBel
 below_both base xs ys h k = λ y i. either y xs ys i (λ p. h y p) (λ p. k y p)
 
 pub defined_below : {P : Table → Primitive → Type 0} {base : ℕ} (T : Table) (n k : ℕ) (t u : Tree) → Reduced P base T n t u k → AllBelow base (defined t)
-defined_below T n k t u (extra T' n' k' q t' u' le dead settled p rest) = defined_below (with_known T n (of_prim q)) (n + 1) k t u' rest
+defined_below T n k t u (extra T' n' k' q t' u' le dead settled p rest) = defined_below (with_known T n (of_prim T q)) (n + 1) k t u' rest
 defined_below T n k t u (kept T' n' k' x p q t' u' lt dead settled fine old same rest) =
-    λ y i. first-or-rest y x (defined t') i (λ e. let same : y ≡ x = same-number y x e in omega (arith, same, lt)) (λ p. defined_below (with_known T x (of_prim q)) n k t' u' rest y p)
+    λ y i. first-or-rest y x (defined t') i (λ e. let same : y ≡ x = same-number y x e in omega (arith, same, lt)) (λ p. defined_below (with_known T x (of_prim T q)) n k t' u' rest y p)
 defined_below {base = base} T n k t u (read T' n' k' m xs a t' u' old fresh rest) = below_both base xs (defined t') (new_below base T xs fresh) (defined_below (with_all T xs) n k t' u' rest)
 defined_below T n k t u (write T' n' k' m a bs t' u' old olds rest) = defined_below T n k t' u' rest
 defined_below {base = base} T n k t u (choice T' n' j k' c a b t1 t2 u1 u2 olda oldb left right) = below_both base (defined t1) (defined t2) (defined_below T n j t1 u1 left) (defined_below T j k t2 u2 right)

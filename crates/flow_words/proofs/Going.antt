@@ -1,18 +1,22 @@
 -- The spine of a walk, node by node.
-use Rattle.std.proofs.Common.{◌≡◌, ℕ, ◌+◌, ◌<◌, ◌≤◌, Bool, true, false, nat_eq, ◌&&◌, Some, None, List, [], ◌∷◌, ◌++◌, refl, sym, ap, subst, ◌∙◌, length, take, get_or, if◌then◌else◌, arith}
+use Rattle.std.proofs.Common.{◌≡◌, ℕ, ◌+◌, ◌<◌, ◌≤◌, Bool, true, false, not, nat_eq, nat_lt, ◌&&◌, Some, None, List, [], ◌∷◌, ◌++◌, refl, sym, ap, subst, ◌∙◌, length, take, get_or, if◌then◌else◌, arith}
 use Rattle.std.specs.List.{list_all}
 use Rattle.std.specs.declared.vec.Vec.{Vec}
 use Rattle.std.specs.declared.alloc.Global.{Global}
 use Rattle.std.proofs.Math.Path.{fun_ext}
-use Rattle.std.proofs.lemmas.Bool.{and_parts}
+use Rattle.std.proofs.lemmas.Bool.{and_parts, and_from, not-true}
+use Rattle.std.proofs.lemmas.Bool.Decides.{nat_tests}
 use Rattle.std.proofs.lemmas.List.{take_more}
 use Rattle.smallvec.specs.SmallVec.{SmallVec}
 use Rattle.nv_base.specs.declared.term.Atom.{Atom}
-use Rattle.nv_base.specs.declared.term.Atom.TheVariants.{Var}
+use Rattle.nv_base.specs.declared.term.Atom.TheVariants.{Var, Lit}
 use Rattle.nv_base.specs.declared.term.Una.TheVariants.{Shr, Rol}
 use Rattle.nv_base.specs.declared.term.Bin.TheVariants.{Add}
 use Rattle.nv_base.specs.declared.term.Primitive.{Primitive}
-use Rattle.nv_base.specs.declared.term.Primitive.TheVariants.{Una as UnaOf, Bin as BinOf}
+use Rattle.nv_base.specs.declared.term.Primitive.TheVariants.{Same, Una as UnaOf, Bin as BinOf}
+use Rattle.nv_base.specs.Access as access
+use Rattle.nv_base.specs.Words.{HasPrimCount}
+use Rattle.nv_base.proofs.Operands.{count_of_known}
 use Rattle.nv_base.proofs.Sets.{same-number}
 use Rattle.flow_ir.proofs.Mentions.{smaller}
 use Rattle.flow_ir.proofs.Steps.{put_last}
@@ -25,12 +29,19 @@ use Rattle.flow_ir.specs.declared.flow.Tree.TheViews.{deep-Let', deep-Read', dee
 use Rattle.flow_ir.specs.declared.spine.Step.TheVariants as step
 use Rattle.flow_words.specs.declared.state.Known.{Known}
 use Rattle.flow_words.specs.declared.walk.State.{State}
-use Rattle.flow_words.specs.Tables.{Table, look, nothing, itself, of_prim, with_known, with_all, is_old, is_old_prim}
+use Rattle.flow_words.specs.Definitions.{of_prim}
+use Rattle.flow_words.specs.Tables.{Table, look, nothing, itself, with_known, with_all, is_old, is_old_prim, is_settled}
+use Rattle.flow_words.specs.Bits.{IsNeeded}
 use Rattle.flow_words.specs.Sums.{twice, IsFolded}
 use Rattle.flow_words.specs.inner.Undone.{undone, IsSet}
 use Rattle.flow_words.specs.inner.Reduced.{HasWord, AreNew, IsReduced, Reduced, extra, kept, read, write, choice, jump, halt}
-use Rattle.flow_words.specs.inner.Placed.{Place, place, IsExtra, IsKept, IsFoldedBy, IsEntered, AreEntered, Goes, IsDone}
+use Rattle.flow_words.specs.inner.Placed.{Place, place, IsPlaced, IsExtra, IsKept, IsFoldedBy, IsChosen, IsEntered, AreEntered, Goes, IsDone}
 use Rattle.flow_words.proofs.Folding.{folded_word, sum_folded}
+
+old_count : (base : ℕ) (p : Primitive) → is_old_prim base p ≡ true → HasPrimCount p
+old_count base (Same a) e = tt
+old_count base (UnaOf op a) e = count_of_known [] (UnaOf op (Lit 0)) (and_from (access.has_count op) true (and_parts (access.has_count op) (is_old base a) e).0 refl)
+old_count base (BinOf op a b) e = tt
 
 -- ---- what was known is known again
 
@@ -115,8 +126,8 @@ go_extra {P} {v} {w} n q t h p = record {
       let first = h.first in
       let le : v.base ≤ v.fresh = subst (λ m. v.base ≤ m) first facts.1 in
       let dead : (v.table v.fresh).live ≡ false = subst (λ m. (v.table m).live ≡ false) first facts.2 in
-      let here : Reduced P v.base (with_known v.table v.fresh (of_prim q)) (v.fresh + 1) t r k =
-      subst (λ m. Reduced P v.base (with_known v.table m (of_prim q)) (v.fresh + 1) t r k) first (subst (λ m. Reduced P v.base (with_known v.table n (of_prim q)) m t r k) h.fresh (subst (λ T. Reduced P v.base T w.fresh t r k) h.table red)) in
+      let here : Reduced P v.base (with_known v.table v.fresh (of_prim v.table q)) (v.fresh + 1) t r k =
+      subst (λ m. Reduced P v.base (with_known v.table m (of_prim v.table q)) (v.fresh + 1) t r k) first (subst (λ m. Reduced P v.base (with_known v.table n (of_prim v.table q)) m t r k) h.fresh (subst (λ T. Reduced P v.base T w.fresh t r k) h.table red)) in
       let after = ap (λ m. pure.Let m q r) (sym first) in
       (pure.Let v.fresh q r, extra v.table v.fresh k q t r le dead facts.3 p here, sym (put_last w.steps v.steps (step.Let n q) r (pure.Let v.fresh q r) h.steps after));
 }
@@ -128,7 +139,7 @@ go_kept {P} {v} {w} x p q rest h fine old same = record {
   sound = λ s. (h.sound s).0;
   on = λ s r k red.
       let facts = h.sound s in
-      let here : Reduced P v.base (with_known v.table x (of_prim q)) v.fresh rest r k = subst (λ m. Reduced P v.base (with_known v.table x (of_prim q)) m rest r k) h.fresh (subst (λ T. Reduced P v.base T w.fresh rest r k) h.table red) in
+      let here : Reduced P v.base (with_known v.table x (of_prim v.table q)) v.fresh rest r k = subst (λ m. Reduced P v.base (with_known v.table x (of_prim v.table q)) m rest r k) h.fresh (subst (λ T. Reduced P v.base T w.fresh rest r k) h.table red) in
       (pure.Let x q r, kept v.table v.fresh k x p q rest r facts.1 facts.2 facts.3 fine (old s) (same s) here, sym (put_last w.steps v.steps (step.Let x q) r (pure.Let x q r) h.steps refl));
 }
 
@@ -150,6 +161,28 @@ check_of v b s = let parts = and_parts v.sound b s in (parts.0, parts.1)
 pub go_checked : {P : Table → Primitive → Type 0} (v : Place) (b : Bool) (t : pure.Tree) → Goes P v t (checked v b) t
 go_checked v b t = record { base = refl; before = refl; sound = λ s. (check_of v b s).0; on = λ s r k h. (r, h, refl) }
 
+-- what a definition's checks tell
+pub put_sound : (T : Table) (x : ℕ) (q : Primitive) (ks items : List Known) (before may after : Bool) → ks ≡ items → may ≡ (not (look ks x).live && is_settled (look ks) q) → after ≡ (before && may) → after ≡ true → (before ≡ true) × ((look items x).live ≡ false) × (is_settled (look items) q ≡ true)
+put_sound T x q ks items before may after e m a s =
+    let whole = and_parts before may (sym a ∙ s) in
+    let parts = and_parts (not (look items x).live) (is_settled (look items) q) (sym (m ∙ ap (λ l. not (look l x).live && is_settled (look l) q) e) ∙ whole.1) in
+    (whole.0, not-true (look items x).live parts.0, parts.1)
+
+pub own_put : {w : Place} (v : Place) (r : Bool) (x : ℕ) (q : Primitive) → r ≡ (v.sound && nat_lt x v.base) → IsPlaced x q (judged v r) w → IsKept x q v w
+own_put {w} v r x q e h = record {
+  base = h.base;
+  fresh = h.fresh;
+  before = h.before;
+  table = h.table;
+  steps = h.steps;
+  sound = λ s.
+      let facts = h.sound s in
+      let parts = and_parts v.sound (nat_lt x v.base) (sym e ∙ facts.0) in
+      let below = parts.1 in
+      let less : x < v.base = grind (arith, nat_tests) in
+      (parts.0, less, facts.1, facts.2);
+}
+
 -- ---- definitions
 
 go_folded : {v w : Place} (x : ℕ) (p : Primitive) (s : Atom) (rest : pure.Tree) → IsFoldedBy x s v w → twice v.table p ≡ Some s → (w.sound ≡ true → is_old_prim v.base p ≡ true) → Goes IsFolded v (pure.Let x p rest) w rest
@@ -158,9 +191,9 @@ go_folded {v} {w} x p s rest h e old =
     let turn = UnaOf (Rol 16) s in
     let sum = BinOf Add s (Var h.turned) in
     let last = UnaOf (Shr 16) (Var h.sum) in
-    let one = with_known T h.turned (of_prim turn) in
+    let one = with_known T h.turned (of_prim T turn) in
     let base : h.third.base ≡ v.base = h.two.base ∙ h.one.base in
-    let table : h.third.table ≡ with_known one h.sum (of_prim sum) = h.two.table ∙ ap (λ U. with_known U h.sum (of_prim sum)) h.one.table in
+    let table : h.third.table ≡ with_known one h.sum (of_prim one sum) = h.two.table ∙ ap (λ U. with_known U h.sum (of_prim U sum)) h.one.table in
     let first = go_extra h.turned turn (pure.Let x p rest) h.one refl in
     let second = go_extra h.sum sum (pure.Let x p rest) h.two (subst (λ U. IsFolded U sum) (sym h.one.table) (sum_folded T s h.turned)) in
     let third = go_kept x p last rest h.own refl (λ z. subst (λ b. is_old_prim b p ≡ true) (sym base) (old z))
@@ -184,6 +217,16 @@ let_kept {w} v r x p same given e rest =
     let b = is_old_prim v.base p in
     let h = subst (λ z. IsKept x p (judged v z) w) same given in
     go_on (go_checked v b (pure.Let x p rest)) (go_kept x p p rest h e (λ z. (check_of v b (h.sound z).0).1) (λ z. same_word v.table p))
+
+-- after the definitions that a primitive is made of
+pub let_sliced : {mid w : Place} (v : Place) (r : Bool) (x : ℕ) (p : Primitive) → r ≡ (v.sound && is_old_prim v.base p) → ((t : pure.Tree) → Goes IsNeeded (judged v r) t mid t) → IsChosen x p mid w → (rest : pure.Tree) → Goes IsNeeded v (pure.Let x p rest) w rest
+let_sliced {mid} {w} v r x p same given h rest =
+    let b = is_old_prim v.base p in
+    let extras : (t : pure.Tree) → Goes IsNeeded (checked v b) t mid t = λ t. subst (λ z. Goes IsNeeded (judged v z) t mid t) same (given t) in
+    let whole = pure.Let x p rest in
+    let old : w.sound ≡ true → b ≡ true = λ z. (check_of v b ((extras whole).sound (h.own.sound z).0)).1 in
+    go_on (go_checked v b whole)
+    (go_on (extras whole) (go_kept x p h.made rest h.own h.needed (λ z. subst (λ n. is_old_prim n p ≡ true) (sym (extras whole).base) (old z)) (λ z. h.word (old_count v.base p (old z)))))
 
 -- ---- the spine
 

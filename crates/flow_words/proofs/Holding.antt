@@ -1,36 +1,26 @@
 -- What is known holds as variables come into scope.
-use Rattle.std.proofs.Common.{◌≡◌, ℕ, ◌<◌, Bool, true, false, nat_eq, ◌≤◌, List, [], ◌∷◌, refl, sym, ap, subst, ◌∙◌, if◌then◌else◌, arith}
+use Rattle.std.proofs.Common.{◌≡◌, ℕ, ◌<◌, ◌-◌, Bool, true, false, nat_eq, ◌≤◌, List, [], ◌∷◌, refl, sym, ap, subst, ◌∙◌, if◌then◌else◌, arith}
+use Rattle.std.specs.Int.{bit_at}
 use Rattle.std.specs.List.{list_all}
-use Rattle.std.proofs.lemmas.Bool.{and_parts, and_from, false≢true, eq-eqb}
+use Rattle.std.proofs.lemmas.Bool.{and_parts, false≢true, eq-eqb}
 use Rattle.std.proofs.lemmas.Bool.Decides.{nat_tests}
 use Rattle.nv_base.specs.declared.term.Atom.{Atom}
 use Rattle.nv_base.specs.declared.term.Atom.TheVariants.{Var, Lit}
 use Rattle.nv_base.specs.declared.term.Primitive.{Primitive}
 use Rattle.nv_base.specs.declared.term.Primitive.TheVariants.{Same, Una as UnaOf, Bin as BinOf}
-use Rattle.nv_base.specs.Words.{Env, HasPrimCount, assigned, assigned_all, atom_word, atom_words, prim_word, una_word, bin_word, atom_vars, prim_vars}
+use Rattle.nv_base.specs.Words.{Env, IsEnv, assigned, assigned_all, atom_word, atom_words, prim_word, una_word, bin_word, prim_vars}
 use Rattle.nv_base.specs.Sets.{is_in, AgreeOn}
 use Rattle.nv_base.specs.Access as access
-use Rattle.nv_base.proofs.Sets.{same-number}
-use Rattle.nv_base.proofs.Operands.{prim-same, count_of_known}
-use Rattle.flow_ir.proofs.Members.{either, first-or-rest}
+use Rattle.nv_base.proofs.Operands.{prim-same}
+use Rattle.flow_words.specs.declared.bits.Bit.{Bit}
+use Rattle.flow_words.specs.declared.bits.Bit.TheVariants.{Unknown, Zero, One, Of, Flipped}
 use Rattle.flow_words.specs.declared.state.Known.{Known}
-use Rattle.flow_words.specs.Tables.{Table, itself, of_prim, nothing, with_known, with_all, definition, is_live, is_old, is_settled, is_old_prim}
+use Rattle.flow_words.specs.Bits.{IsBit, prim_bit, bit_of}
+use Rattle.flow_words.specs.Tables.{Table, itself, nothing, with_known, with_all, definition, is_old, is_settled, is_old_prim}
+use Rattle.flow_words.specs.Definitions.{of_prim}
 use Rattle.flow_words.specs.inner.Reduced.{Holds, AreNew}
-
--- ---- one variable or another
-
-same_at : {C : Type 0} (b : Bool) (y x : ℕ) → nat_eq y x ≡ b → (nat_eq y x ≡ true → C) → (nat_eq y x ≡ false → C) → C
-same_at true y x e f g = f e
-same_at false y x e f g = g e
-
-pub same_case : {C : Type 0} (y x : ℕ) → (nat_eq y x ≡ true → C) → (nat_eq y x ≡ false → C) → C
-same_case y x f g = same_at (nat_eq y x) y x refl f g
-
-pub with_here : (T : Table) (x y : ℕ) (k : Known) → nat_eq y x ≡ true → with_known T x k y ≡ k
-with_here T x y k e = ap (λ b. if b then k else T y) e
-
-pub with_else : (T : Table) (x y : ℕ) (k : Known) → nat_eq y x ≡ false → with_known T x k y ≡ T y
-with_else T x y k e = ap (λ b. if b then k else T y) e
+use Rattle.flow_words.proofs.Bitwise.{prim_holds, bit_at_place}
+use Rattle.flow_words.proofs.Closing.{same_case, with_here, with_else, other, settled_live, settled_count, IsLiveBit, Closed, prim_bit_live, no_bit, closed_itself}
 
 pub assigned_here : (env : Env) (x y w : ℕ) → nat_eq y x ≡ true → assigned env x w y ≡ w
 assigned_here env x y w e = ap (λ b. if b then w else env y) e
@@ -38,64 +28,28 @@ assigned_here env x y w e = ap (λ b. if b then w else env y) e
 pub assigned_else : (env : Env) (x y w : ℕ) → nat_eq y x ≡ false → assigned env x w y ≡ env y
 assigned_else env x y w e = ap (λ b. if b then w else env y) e
 
--- what is in scope is another variable than one that isn't
-pub other : (T : Table) (x y : ℕ) → (T x).live ≡ false → (T y).live ≡ true → nat_eq y x ≡ false
-other T x y dead live = same_case y x (λ e. absurd (false≢true (sym dead ∙ ap (λ z. (T z).live) (sym (same-number y x e)) ∙ live))) (λ e. e)
-
--- ---- what a definition may use is in scope
-
-pub atom_live : (T : Table) (a : Atom) → is_live T a ≡ true → (z : ℕ) → is_in z (atom_vars a) ≡ true → (T z).live ≡ true
-atom_live T (Var x) e z i = first-or-rest z x [] i (λ p. ap (λ v. (T v).live) (same-number z x p) ∙ e) (λ p. absurd (false≢true p))
-atom_live T (Lit v) e z i = absurd (false≢true i)
-
-pub settled_live : (T : Table) (q : Primitive) → is_settled T q ≡ true → (z : ℕ) → is_in z (prim_vars q) ≡ true → (T z).live ≡ true
-settled_live T (Same a) e = atom_live T a e
-settled_live T (UnaOf op a) e = atom_live T a (and_parts (access.has_count op) (is_live T a) e).1
-settled_live T (BinOf op a b) e =
-    let parts = and_parts (is_live T a) (is_live T b) e in
-    λ z i. either z (atom_vars a) (atom_vars b) i (λ p. atom_live T a parts.0 z p) (λ p. atom_live T b parts.1 z p)
-
-pub settled_count : (T : Table) (q : Primitive) → is_settled T q ≡ true → HasPrimCount q
-settled_count T (Same a) e = tt
-settled_count T (UnaOf op a) e = count_of_known [] (UnaOf op (Lit 0)) (and_from (access.has_count op) true (and_parts (access.has_count op) (is_live T a) e).0 refl)
-settled_count T (BinOf op a b) e = tt
-
-pub record Closed (T : Table) : Type 0 where
-  pub own : (y z : ℕ) → (T y).live ≡ true → is_in z (prim_vars (T y).made) ≡ true → (T z).live ≡ true
-
-pub live_more : (T : Table) (x z : ℕ) (k : Known) → k.live ≡ true → (T z).live ≡ true → (with_known T x k z).live ≡ true
-live_more T x z k live e = same_case z x (λ p. ap (λ (j : Known). j.live) (with_here T x z k p) ∙ live) (λ p. ap (λ (j : Known). j.live) (with_else T x z k p) ∙ e)
-
-closed_more : (T : Table) (x : ℕ) (k : Known) → Closed T → k.live ≡ true → ((z : ℕ) → is_in z (prim_vars k.made) ≡ true → (with_known T x k z).live ≡ true) → Closed (with_known T x k)
-closed_more T x k closed live h = record {
-  own = λ y z alive i.
-      same_case y x
-      (λ p. h z (subst (λ (j : Known). is_in z (prim_vars j.made) ≡ true) (with_here T x y k p) i))
-      (λ p.
-      let e = with_else T x y k p in
-      live_more T x z k live (closed.own y z (subst (λ (j : Known). j.live ≡ true) e alive) (subst (λ (j : Known). is_in z (prim_vars j.made) ≡ true) e i)));
-}
-
-pub closed_made : (T : Table) (x : ℕ) (q : Primitive) → Closed T → is_settled T q ≡ true → Closed (with_known T x (of_prim q))
-closed_made T x q closed settled = closed_more T x (of_prim q) closed refl (λ z i. live_more T x z (of_prim q) refl (settled_live T q settled z i))
-
-pub closed_itself : (T : Table) (x : ℕ) → Closed T → Closed (with_known T x (itself x))
-closed_itself T x closed = closed_more T x (itself x) closed refl (λ z i. first-or-rest z x [] i (λ p. ap (λ (j : Known). j.live) (with_here T x z (itself x) p)) (λ p. absurd (false≢true p)))
-
-pub closed_all : (T : Table) (xs : List ℕ) → Closed T → Closed (with_all T xs)
-closed_all T [] closed = closed
-closed_all T (x ∷ xs) closed = closed_all (with_known T x (itself x)) xs (closed_itself T x closed)
-
-pub closed_nothing : Closed nothing
-closed_nothing = record { own = λ y z alive i. absurd (false≢true alive) }
-
 -- ---- what is known holds
 
 agree_else : (T : Table) (x w : ℕ) (env : Env) (xs : List ℕ) → (T x).live ≡ false → ((z : ℕ) → is_in z xs ≡ true → (T z).live ≡ true) → AgreeOn xs (assigned env x w) env
 agree_else T x w env xs dead live = λ z i. assigned_else env x z w (other T x z dead (live z i))
 
-holds_more : (T : Table) (x w : ℕ) (k : Known) (env : Env) → Closed T → Holds T env → (T x).live ≡ false → w ≡ prim_word (assigned env x w) k.made → Holds (with_known T x k) (assigned env x w)
-holds_more T x w k env closed holds dead is = record {
+bit_else : (T : Table) (x v w i : ℕ) (env : Env) (b : Bit) → (T x).live ≡ false → IsLiveBit T b → IsBit env w i b → IsBit (assigned env x v) w i b
+bit_else T x v w i env Unknown dead live h = tt
+bit_else T x v w i env Zero dead live h = h
+bit_else T x v w i env One dead live h = h
+bit_else T x v w i env (Of y j) dead live h = h ∙ ap (λ n. bit_at n j) (sym (assigned_else env x y v (other T x y dead live)))
+bit_else T x v w i env (Flipped y j) dead live h = h ∙ ap (λ n. 1 - bit_at n j) (sym (assigned_else env x y v (other T x y dead live)))
+
+holds_more : (T : Table) (x w : ℕ) (k : Known) (env : Env) → Closed T → Holds T env → (T x).live ≡ false → w ≡ prim_word (assigned env x w) k.made → ((i : ℕ) → i < 32 → IsBit (assigned env x w) w i (bit_of k.bits i)) → Holds (with_known T x k) (assigned env x w)
+holds_more T x w k env closed holds dead is these = record {
+  bits = λ y i alive lt.
+      same_case y x
+      (λ p. subst (λ n. IsBit (assigned env x w) n i (bit_of (with_known T x k y).bits i)) (sym (assigned_here env x y w p)) (subst (λ (j : Known). IsBit (assigned env x w) w i (bit_of j.bits i)) (sym (with_here T x y k p)) (these i lt)))
+      (λ p.
+      let e = with_else T x y k p in
+      let live : (T y).live ≡ true = subst (λ (j : Known). j.live ≡ true) e alive in
+      subst (λ n. IsBit (assigned env x w) n i (bit_of (with_known T x k y).bits i)) (sym (assigned_else env x y w p))
+      (subst (λ (j : Known). IsBit (assigned env x w) (env y) i (bit_of j.bits i)) (sym e) (bit_else T x w (env y) i env (bit_of (T y).bits i) dead (closed.bits y i live) (holds.bits y i live lt))));
   made = λ y alive.
       same_case y x
       (λ p. assigned_here env x y w p ∙ is ∙ sym (ap (λ (j : Known). prim_word (assigned env x w) j.made) (with_here T x y k p)))
@@ -107,13 +61,15 @@ holds_more T x w k env closed holds dead is = record {
       ∙ sym (ap (λ (j : Known). prim_word (assigned env x w) j.made) e));
 }
 
-pub holds_made : (T : Table) (x : ℕ) (q : Primitive) (env : Env) → Closed T → Holds T env → (T x).live ≡ false → is_settled T q ≡ true → Holds (with_known T x (of_prim q)) (assigned env x (prim_word env q))
-holds_made T x q env closed holds dead settled =
+pub holds_made : (T : Table) (x : ℕ) (q : Primitive) (env : Env) → IsEnv env → Closed T → Holds T env → (T x).live ≡ false → is_settled T q ≡ true → Holds (with_known T x (of_prim T q)) (assigned env x (prim_word env q))
+holds_made T x q env words closed holds dead settled =
     let w = prim_word env q in
-    holds_more T x w (of_prim q) env closed holds dead (sym (prim-same (assigned env x w) env q (agree_else T x w env (prim_vars q) dead (settled_live T q settled))))
+    holds_more T x w (of_prim T q) env closed holds dead (sym (prim-same (assigned env x w) env q (agree_else T x w env (prim_vars q) dead (settled_live T q settled))))
+    (λ i lt. subst (IsBit (assigned env x w) w i) (sym (bit_at_place T q i lt)) (bit_else T x w w i env (prim_bit T q i) dead (prim_bit_live T closed q i settled) (prim_holds T env holds words q i (settled_count T q settled) lt)))
 
 pub holds_itself : (T : Table) (x w : ℕ) (env : Env) → Closed T → Holds T env → (T x).live ≡ false → Holds (with_known T x (itself x)) (assigned env x w)
-holds_itself T x w env closed holds dead = holds_more T x w (itself x) env closed holds dead (sym (assigned_here env x x w (eq-eqb x x refl)))
+holds_itself T x w env closed holds dead =
+    holds_more T x w (itself x) env closed holds dead (sym (assigned_here env x x w (eq-eqb x x refl))) (λ i lt. subst (IsBit (assigned env x w) w i) (sym (no_bit i)) tt)
 
 pub holds_all : (base : ℕ) (T : Table) (xs ws : List ℕ) (env : Env) → Closed T → Holds T env → AreNew base T xs → Holds (with_all T xs) (assigned_all env xs ws)
 holds_all base T [] ws env closed holds new = holds
@@ -121,7 +77,7 @@ holds_all base T (x ∷ xs) [] env closed holds new = holds_all base (with_known
 holds_all base T (x ∷ xs) (w ∷ ws) env closed holds new = holds_all base (with_known T x (itself x)) xs ws (assigned env x w) (closed_itself T x closed) (holds_itself T x w env closed holds new.1) new.2
 
 pub holds_nothing : (env : Env) → Holds nothing env
-holds_nothing env = record { made = λ y alive. absurd (false≢true alive) }
+holds_nothing env = record { made = λ y alive. absurd (false≢true alive); bits = λ y i alive. absurd (false≢true alive) }
 
 -- what is known of the others held before
 pub held_before : (T : Table) (x : ℕ) (k : Known) (env : Env) → (T x).live ≡ false → Holds (with_known T x k) env → Holds T env
@@ -129,6 +85,9 @@ held_before T x k env dead holds = record {
   made = λ y live.
       let e = with_else T x y k (other T x y dead live) in
       holds.made y (ap (λ (j : Known). j.live) e ∙ live) ∙ ap (λ (j : Known). prim_word env j.made) e;
+  bits = λ y i live lt.
+      let e = with_else T x y k (other T x y dead live) in
+      subst (λ (j : Known). IsBit env (env y) i (bit_of j.bits i)) e (holds.bits y i (ap (λ (j : Known). j.live) e ∙ live) lt);
 }
 
 -- a definition has the word of its variable

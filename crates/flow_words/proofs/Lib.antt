@@ -1,8 +1,12 @@
 pub mod Alike
 pub mod Words
+pub mod BitLemmas
+pub mod Bitwise
+pub mod Closing
 pub mod Holding
 pub mod Means
 pub mod Formed
 pub mod Whole
 pub mod Folding
 pub mod Going
+pub mod Filling

@@ -9,19 +9,21 @@ use Rattle.nv_base.proofs.MemoryLemmas.{fetched-words, stored-sizes}
 use Rattle.flow_ir.specs.Tree.{Tree}
 use Rattle.flow_ir.specs.Meaning.{Next, does}
 use Rattle.flow_words.proofs.Alike.{read_alike, write_alike, either_alike}
-use Rattle.flow_words.specs.Tables.{Table, of_prim, with_known, with_all}
+use Rattle.flow_words.specs.Tables.{Table, with_known, with_all}
+use Rattle.flow_words.specs.Definitions.{of_prim}
 use Rattle.flow_words.specs.inner.Reduced.{Holds, Reduced, extra, kept, read, write, choice, jump, halt}
-use Rattle.flow_words.proofs.Holding.{Closed, Alike, settled_count, closed_made, closed_all, holds_made, holds_all, old_word, old_words, old_prim, alike_extra, alike_own, alike_all}
+use Rattle.flow_words.proofs.Closing.{Closed, settled_count, closed_made, closed_all}
+use Rattle.flow_words.proofs.Holding.{Alike, holds_made, holds_all, old_word, old_words, old_prim, alike_extra, alike_own, alike_all}
 
 module _ (P : Table → Primitive → Type 0) (base : ℕ) (f g : Next) (jumps : (l : ℕ) (ws : List ℕ) (w : World) → All IsWord ws → HasSizes w.packet → g l ws w ≡ f l ws w) where
   pub means : (T : Table) (n k : ℕ) (t u : Tree) → Reduced P base T n t u k → (env new : Env) (w : World) → Alike base env new → Closed T → Holds T new → IsEnv new → HasSizes w.packet → does g u new w ≡ does f t env w
   means T n k t u (extra T' n' k' q t' u' le dead settled p rest) env new w alike closed holds words sizes =
-      means (with_known T n (of_prim q)) (n + 1) k t u' rest env (assigned new n (prim_word new q)) w (alike_extra base n (prim_word new q) env new le alike) (closed_made T n q closed settled) (holds_made T n q new closed holds dead settled)
+      means (with_known T n (of_prim T q)) (n + 1) k t u' rest env (assigned new n (prim_word new q)) w (alike_extra base n (prim_word new q) env new le alike) (closed_made T n q closed settled) (holds_made T n q new words closed holds dead settled)
       (assigned-env new n (prim_word new q) words (prim-fits new q words (settled_count T q settled))) sizes
   means T n k t u (kept T' n' k' x p q t' u' lt dead settled fine old same rest) env new w alike closed holds words sizes =
       let v = prim_word new q in
       let word : v ≡ prim_word env p = same.word new words holds ∙ old_prim base p env new alike old in
-      means (with_known T x (of_prim q)) n k t' u' rest (assigned env x v) (assigned new x v) w (alike_own base x v env new alike) (closed_made T x q closed settled) (holds_made T x q new closed holds dead settled)
+      means (with_known T x (of_prim T q)) n k t' u' rest (assigned env x v) (assigned new x v) w (alike_own base x v env new alike) (closed_made T x q closed settled) (holds_made T x q new words closed holds dead settled)
       (assigned-env new x v words (prim-fits new q words (settled_count T q settled))) sizes
       ∙ ap (λ z. does f t' (assigned env x z) w) word
   means T n k t u (read T' n' k' m xs a t' u' old fresh rest) env new w alike closed holds words sizes =

@@ -5,8 +5,8 @@ use Rattle.std.proofs.lemmas.Bool.{and_parts, and_from}
 use Rattle.std.proofs.lemmas.List.{map_more, map_push}
 use Rattle.std.proofs.lemmas.List.Elements.{All-nil, All-cons}
 use Rattle.nv_base.specs.declared.term.Primitive.{Primitive}
-use Rattle.nv_base.specs.Memories.{HasSizes}
-use Rattle.nv_base.specs.Meanings.{AreEqual}
+use Rattle.nv_base.specs.Memories.{Memories, HasSizes}
+use Rattle.nv_base.specs.Meanings.{AreArguments, AreEqual, Meaning}
 use Rattle.nv_base.specs.Sets.{all_different}
 use Rattle.nv_base.specs.Words.{IsWord, assigned_all}
 use Rattle.nv_base.specs.World.{World, begun}
@@ -17,9 +17,11 @@ use Rattle.flow_ir.specs.Tree.{Label}
 use Rattle.flow_ir.specs.View.{label_view}
 use Rattle.flow_ir.specs.declared.flow.Label.{Label as FlowLabel}
 use Rattle.flow_ir.proofs.Members.{in-left}
-use Rattle.flow_words.specs.Tables.{Table, nothing, with_all, EachDefinition}
+use Rattle.flow_words.specs.Tables.{Table, nothing, with_all}
+use Rattle.flow_words.specs.Definitions.{EachDefinition}
 use Rattle.flow_words.specs.inner.Reduced.{IsReduced, AreReduced, Reduced, extra, kept, read, write, choice, jump, halt}
-use Rattle.flow_words.proofs.Holding.{closed_nothing, closed_all, holds_nothing, holds_all}
+use Rattle.flow_words.proofs.Closing.{closed_nothing, closed_all}
+use Rattle.flow_words.proofs.Holding.{holds_nothing, holds_all}
 use Rattle.flow_words.proofs.Means.{means}
 use Rattle.flow_words.proofs.Formed.{InScope, scope_all, reduced_formed, defines, defined_below, new_below, below_both, mixed_front, mixed_different}
 
@@ -140,3 +142,7 @@ module _ (P : Table → Primitive → Type 0) where
 
   pub reduced_at : (xs ys zs : List FlowLabel) → AreReduced P (map label_view xs) (map label_view zs) → xs ≡ ys → AreReduced P (map label_view ys) (map label_view zs)
   reduced_at xs ys zs h e = subst (λ l. AreReduced P (map label_view l) (map label_view zs)) e h
+
+-- one pass after another
+pub then_equal : (a b : ℕ) (m n k : List ℕ → Memories → Meaning) → AreEqual a m n → b ≡ a → AreEqual b n k → AreEqual a m k
+then_equal a b m n k e same g = λ args p arguments sizes i. e args p arguments sizes i ∙ g args p (subst (λ z. AreArguments z args) (sym same) arguments) sizes i

@@ -7,7 +7,8 @@ use Rattle.nv_base.specs.declared.term.Bin.TheVariants.{Add, Sub, And, Or, Xor}
 use Rattle.nv_base.specs.declared.term.Primitive.{Primitive}
 use Rattle.nv_base.specs.declared.term.Primitive.TheVariants.{Same, Una as UnaOf, Bin as BinOf}
 use Rattle.flow_ir.specs.Tree.{Label}
-use Rattle.flow_words.specs.Tables.{Table, nothing, with_all, definition, EachDefinition}
+use Rattle.flow_words.specs.Definitions.{EachOf}
+use Rattle.flow_words.specs.Tables.{Table, definition}
 
 abbrev pub is_operand : Atom → Atom → Bool
 is_operand (Var x) (Var y) = nat_eq x y
@@ -76,7 +77,7 @@ IsFolded T q = twice T q ≡ None
 
 -- nor is any definition of a label, by those above it
 abbrev pub IsFoldedLabel : Label → Type 0
-IsFoldedLabel l = EachDefinition IsFolded (with_all nothing l.params) l.body
+IsFoldedLabel l = EachOf IsFolded l
 
 abbrev pub AreFolded : List Label → Type 0
 AreFolded ls = All IsFoldedLabel ls

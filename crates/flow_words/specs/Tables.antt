@@ -1,27 +1,28 @@
 -- What is known of variables where a tree stands: which are in scope, and the definitions in view.
-use Rattle.std.specs.Prelude.{ℕ, nat_eq, nat_lt, Bool, true, false, ◌&&◌, if◌then◌else◌, List, [], ◌∷◌, slice_index_or, ⊤}
+use Rattle.std.specs.Prelude.{ℕ, nat_eq, nat_lt, Bool, true, false, ◌&&◌, if◌then◌else◌, List, [], ◌∷◌, slice_index_or, replicate}
 use Rattle.nv_base.specs.declared.term.Atom.{Atom}
 use Rattle.nv_base.specs.declared.term.Atom.TheVariants.{Var, Lit}
 use Rattle.nv_base.specs.declared.term.Primitive.{Primitive}
 use Rattle.nv_base.specs.declared.term.Primitive.TheVariants.{Same, Una as UnaOf, Bin as BinOf}
 use Rattle.nv_base.specs.Access as access
-use Rattle.flow_ir.specs.Tree.{Tree, Let, Read, Write, If, Jump, Halt}
+use Rattle.flow_words.specs.declared.bits.Bit.{Bit}
+use Rattle.flow_words.specs.declared.bits.Bit.TheVariants.{Unknown}
 use Rattle.flow_words.specs.declared.state.Known.{Known}
 
 abbrev pub Table : Type 0
 Table = ℕ → Known
 
+-- nothing is known of any bit
+abbrev pub unknown : List Bit
+unknown = replicate 32 Unknown
+
 -- a variable that isn't in scope
 abbrev pub blank : Known
-blank = record { live = false; made = Same (Lit 0) }
+blank = record { live = false; made = Same (Lit 0); bits = unknown }
 
 -- a variable in scope without a definition
 abbrev pub itself : ℕ → Known
-itself x = record { live = true; made = Same (Var x) }
-
--- a variable with a definition
-abbrev pub of_prim : Primitive → Known
-of_prim q = record { live = true; made = q }
+itself x = record { live = true; made = Same (Var x); bits = unknown }
 
 abbrev pub look : List Known → Table
 look ks x = slice_index_or ks x blank
@@ -64,13 +65,3 @@ abbrev pub is_old_prim : ℕ → Primitive → Bool
 is_old_prim base (Same a) = is_old base a
 is_old_prim base (UnaOf op a) = access.has_count op && is_old base a
 is_old_prim base (BinOf op a b) = is_old base a && is_old base b
-
--- ---- each definition of a tree, with what is known where it stands
-
-abbrev pub EachDefinition : (Table → Primitive → Type 0) → Table → Tree → Type 0
-EachDefinition P T (Let x q t) = P T q × EachDefinition P (with_known T x (of_prim q)) t
-EachDefinition P T (Read m xs a t) = EachDefinition P (with_all T xs) t
-EachDefinition P T (Write m a bs t) = EachDefinition P T t
-EachDefinition P T (If c a b t u) = EachDefinition P T t × EachDefinition P T u
-EachDefinition P T (Jump l bs) = ⊤
-EachDefinition P T (Halt e bs) = ⊤

@@ -1,3 +1,4 @@
 pub mod Undone
 pub mod Reduced
 pub mod Placed
+pub mod Ruled

@@ -1,20 +1,24 @@
 // What is known of variables where a tree stands, and the checks of what is put in their place.
 
-ghost use Rattle.std.specs.Prelude.{◌≡◌, ◌&&◌, nat_lt, OnOk};
+ghost use Rattle.std.specs.Prelude.{◌≡◌, true, not, ◌&&◌, nat_lt, OnOk};
 ghost use Rattle.std.specs.List.{list_all};
 ghost use Rattle.nv_base.specs.Access as access;
+ghost use Rattle.nv_base.specs.Words.{HasPrimCount};
+ghost use Rattle.flow_words.specs.Definitions as definitions;
 ghost use Rattle.flow_words.specs.Tables as tables;
 ghost use Rattle.flow_words.specs.Tables.{look, blank as nothing_known, itself as only_itself};
 ghost use Rattle.flow_words.specs.inner.Undone.{undone, IsSet};
 
+use crate::bits::{Bit, bits_of};
 use nv_base::{Atom, NoMemory, Prim, Una};
 use std::alloc::Global;
 
-/// What is known of a variable: whether it is in scope, and then a primitive that has its word.
+/// What is known of a variable: whether it is in scope, and then a primitive that has its word, and its bits.
 #[derive(Clone, Copy)]
 pub struct Known {
     pub live: bool,
     pub made: Prim,
+    pub bits: [Bit; 32],
 }
 
 /// What is known of a variable that isn't in scope.
@@ -24,6 +28,7 @@ pub fn blank() -> Known
     Known {
         live: false,
         made: Prim::Same(Atom::Lit(0)),
+        bits: [Bit::Unknown; 32],
     }
 }
 
@@ -34,16 +39,18 @@ pub fn itself(x: u32) -> Known
     Known {
         live: true,
         made: Prim::Same(Atom::Var(x)),
+        bits: [Bit::Unknown; 32],
     }
 }
 
 /// What is known of a variable with this definition.
-pub fn of_prim(q: Prim) -> Known
-    ensures { result ≡ tables.of_prim q }
+pub fn of_prim(table: &[Known], q: Prim) -> Known
+    ensures { result ≡ definitions.of_prim (look table.now) q }
 {
     Known {
         live: true,
         made: q,
+        bits: bits_of(table, q),
     }
 }
 
@@ -90,6 +97,20 @@ pub fn restore(table: &mut Vec<Known>, mut saved: Vec<(u32, Known)>) -> Result<(
         set(table, s.0, s.1)?;
     }
     Ok(())
+}
+
+/// Whether a variable is below this one.
+pub fn is_below(x: u32, base: u32) -> bool
+    ensures { result ≡ nat_lt x base }
+{
+    x < base
+}
+
+/// Whether a variable isn't in scope yet, and may have this definition.
+pub fn may_define(table: &[Known], x: u32, q: Prim) -> bool
+    ensures { result ≡ (not (look table.now x).live && tables.is_settled (look table.now) q) }
+{
+    !known_of(table, x).live && is_settled(table, q)
 }
 
 /// Whether two checks are passed.
@@ -151,6 +172,17 @@ pub fn is_settled(table: &[Known], p: Prim) -> bool
         Prim::Same(a) => is_live(table, a),
         Prim::Una(op, a) => has_count(op) && is_live(table, a),
         Prim::Bin(_, a, b) => is_live(table, a) && is_live(table, b),
+    }
+}
+
+/// Whether the count of a primitive's shift is 1 to 31.
+pub fn is_counted(p: Prim) -> bool
+    ensures { result ≡ true → HasPrimCount p }
+{
+    match p {
+        Prim::Same(_) => true,
+        Prim::Una(op, _) => has_count(op),
+        Prim::Bin(_, _, _) => true,
     }
 }
 

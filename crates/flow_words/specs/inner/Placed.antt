@@ -12,9 +12,12 @@ use Rattle.flow_ir.specs.declared.spine.Step.{Step}
 use Rattle.flow_ir.specs.declared.spine.Step.TheVariants as step
 use Rattle.flow_words.specs.declared.state.Known.{Known}
 use Rattle.flow_words.specs.declared.walk.State.{State}
-use Rattle.flow_words.specs.Tables.{Table, look, with_known, with_all, itself, of_prim, is_settled}
+use Rattle.flow_words.specs.Tables.{Table, look, with_known, with_all, itself, is_settled}
+use Rattle.nv_base.specs.Words.{HasPrimCount}
+use Rattle.flow_words.specs.Bits.{IsNeeded}
+use Rattle.flow_words.specs.Definitions.{of_prim}
 use Rattle.flow_words.specs.inner.Undone.{undone}
-use Rattle.flow_words.specs.inner.Reduced.{Reduced, AreNew}
+use Rattle.flow_words.specs.inner.Reduced.{HasWord, Reduced, AreNew}
 
 -- what is known, what was known at first, the steps before what is left, and whether all checks were passed
 pub record Place : Type 0 where
@@ -33,7 +36,7 @@ pub record IsPlaced (x : ℕ) (q : Primitive) (v w : Place) : Type 0 where
   pub base : w.base ≡ v.base
   pub fresh : w.fresh ≡ v.fresh
   pub before : w.before ≡ v.before
-  pub table : w.table ≡ with_known v.table x (of_prim q)
+  pub table : w.table ≡ with_known v.table x (of_prim v.table q)
   pub steps : w.steps ≡ v.steps ++ step.Let x q ∷ []
   pub sound : w.sound ≡ true → (v.sound ≡ true) × ((v.table x).live ≡ false) × (is_settled v.table q ≡ true)
 
@@ -43,7 +46,7 @@ pub record IsExtra (n : ℕ) (q : Primitive) (v w : Place) : Type 0 where
   pub first : n ≡ v.fresh
   pub fresh : w.fresh ≡ v.fresh + 1
   pub before : w.before ≡ v.before
-  pub table : w.table ≡ with_known v.table n (of_prim q)
+  pub table : w.table ≡ with_known v.table n (of_prim v.table q)
   pub steps : w.steps ≡ v.steps ++ step.Let n q ∷ []
   pub sound : w.sound ≡ true → (v.sound ≡ true) × (v.base ≤ n) × ((v.table n).live ≡ false) × (is_settled v.table q ≡ true)
 
@@ -52,7 +55,7 @@ pub record IsKept (x : ℕ) (q : Primitive) (v w : Place) : Type 0 where
   pub base : w.base ≡ v.base
   pub fresh : w.fresh ≡ v.fresh
   pub before : w.before ≡ v.before
-  pub table : w.table ≡ with_known v.table x (of_prim q)
+  pub table : w.table ≡ with_known v.table x (of_prim v.table q)
   pub steps : w.steps ≡ v.steps ++ step.Let x q ∷ []
   pub sound : w.sound ≡ true → (v.sound ≡ true) × (x < v.base) × ((v.table x).live ≡ false) × (is_settled v.table q ≡ true)
 
@@ -65,6 +68,13 @@ pub record IsFoldedBy (x : ℕ) (s : Atom) (v w : Place) : Type 0 where
   pub one : IsExtra turned (UnaOf (Rol 16) s) v second
   pub two : IsExtra sum (BinOf Add s (Var turned)) second third
   pub own : IsKept x (UnaOf (Shr 16) (Var sum)) third w
+
+-- x is as some primitive that is needed and has p's word
+pub record IsChosen (x : ℕ) (p : Primitive) (v w : Place) : Type 0 where
+  pub made : Primitive
+  pub needed : IsNeeded v.table made
+  pub word : HasPrimCount p → HasWord v.table p made
+  pub own : IsKept x made v w
 
 -- a variable comes into scope
 pub record IsEntered (x : ℕ) (v w : Place) : Type 0 where

@@ -1,23 +1,18 @@
-use Rattle.std.proofs.Common.{◌&&◌, ap, sym, ◌∙◌}
+use Rattle.std.proofs.Common.{sym, subst}
 use Rattle.std.proofs.lemmas.Result.{on_ok_weaker}
-use Rattle.flow_words.specs.Sums.{twice}
-use Rattle.flow_words.specs.Tables.{look}
-use Rattle.flow_words.specs.inner.Placed.{place}
-use Rattle.flow_words.proofs.Going.{let_folded, let_kept}
+use Rattle.flow_ir.specs.Tree.{Let}
+use Rattle.flow_words.specs.inner.Placed.{place, Goes}
+use Rattle.flow_words.specs.inner.Ruled.{rule}
 use Rattle.flow_words.proofs.walk.put_let.Goals as goal
 
-pub returns-in-Some : goal.returns-in-Some
-returns-in-Some c =
-    let v = place c.args.state.now c.args.saved.now.items c.args.steps.now.items in
-    on_ok_weaker c.put_folded.result
-    (λ h. let_folded v c.both-state.result c.args.x c.args.p c.in-Some.s (c.both-state.ensures ∙ ap (λ b. c.args.state.now.sound && b) c.is_old_prim.ensures) h
-    (sym (ap (λ l. twice (look l) c.args.p) c.deref.ensures.value) ∙ sym c.twice.ensures ∙ c.in-Some.is))
-    c.put_folded.ensures
+pub returns-in-Sums : goal.returns-in-Sums
+returns-in-Sums c =
+    on_ok_weaker c.put_sum.result
+    (λ h rest. subst (λ r. Goes (rule r) (place c.args.state.now c.args.saved.now.items c.args.steps.now.items) (Let c.args.x c.args.p rest) (place c.put_sum.new.state c.put_sum.new.saved.items c.put_sum.new.steps.items) rest) (sym c.in-Sums.is) (h rest))
+    c.put_sum.ensures
 
-pub returns-in-None : goal.returns-in-None
-returns-in-None c =
-    let v = place c.args.state.now c.args.saved.now.items c.args.steps.now.items in
-    on_ok_weaker c.put_own.result
-    (λ h. let_kept v c.both-state.result c.args.x c.args.p (c.both-state.ensures ∙ ap (λ b. c.args.state.now.sound && b) c.is_old_prim.ensures) h
-    (sym (ap (λ l. twice (look l) c.args.p) c.deref.ensures.value) ∙ sym c.twice.ensures ∙ c.in-None.is))
-    c.put_own.ensures
+pub returns-in-Slices : goal.returns-in-Slices
+returns-in-Slices c =
+    on_ok_weaker c.put_slices.result
+    (λ h rest. subst (λ r. Goes (rule r) (place c.args.state.now c.args.saved.now.items c.args.steps.now.items) (Let c.args.x c.args.p rest) (place c.put_slices.new.state c.put_slices.new.saved.items c.put_slices.new.steps.items) rest) (sym c.in-Slices.is) (h rest))
+    c.put_slices.ensures

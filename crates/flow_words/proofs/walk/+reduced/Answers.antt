@@ -5,7 +5,7 @@ use Rattle.flow_words.specs.Tables.{is_old}
 use Rattle.flow_words.specs.inner.Placed.{place, AreEntered}
 use Rattle.flow_words.specs.inner.Undone.{undone}
 use Rattle.flow_words.proofs.Going.{along_let, along_read, along_write, along_if, jump_done, halt_done}
-use Rattle.flow_words.proofs.walk.+folded.Goals as goal
+use Rattle.flow_words.proofs.walk.+reduced.Goals as goal
 
 pub spine-preserved-in-Let : goal.spine-preserved-in-Let
 spine-preserved-in-Let t c = along_let c.in-Let.x c.in-Let.p _ _ _ c.spine.invariant c.in-Let.is c.deref-cur.ensures c.in_ok-put_let-in-Let.ensures
@@ -33,7 +33,7 @@ spine-preserved-in-Write t c =
 pub spine-preserved : goal.spine-preserved
 spine-preserved t c =
     let s = c.spine.state in
-    along_if (record s { sound = c.both-state-in-If-2.result }) c.folded.new.state (place c.folded.new.state c.spine.saved.items c.push_step-in-If.new.steps.items) c.in-If.c c.in-If.a c.in-If.b _ _ _ _ c.deref-in-If.result.now _ c.in_ok-u-in-If.u c.spine.invariant c.in-If.is c.deref-in-If.ensures c.deref-cur-in-If.ensures c.in_ok-u-in-If.ensures
+    along_if (record s { sound = c.both-state-in-If-2.result }) c.reduced.new.state (place c.reduced.new.state c.spine.saved.items c.push_step-in-If.new.steps.items) c.in-If.c c.in-If.a c.in-If.b _ _ _ _ c.deref-in-If.result.now _ c.in_ok-u-in-If.u c.spine.invariant c.in-If.is c.deref-in-If.ensures c.deref-cur-in-If.ensures c.in_ok-u-in-If.ensures
     refl refl refl
     (c.both-state-in-If-2.ensures ∙ ap (λ b. b && c.is_old-in-If-2.result) (c.both-state-in-If.ensures ∙ ap (λ b. s.sound && b) c.is_old-in-If.ensures)
     ∙ ap (λ b. (s.sound && is_old s.base c.in-If.a) && b) c.is_old-in-If-2.ensures)
