@@ -45,8 +45,8 @@ fn group<'a>(checker: &mut Checker<'a>, fs: &'a [Fun]) -> Result<(), TypeError>
     Ok(())
 }
 
-// The types in the texts of functions of new names.
-fn signatures<'a>(checker: &mut Checker<'a>, fs: &'a [Fun]) -> Result<(), TypeError>
+/// The types in the texts of functions of new names.
+pub fn signatures<'a>(checker: &mut Checker<'a>, fs: &'a [Fun]) -> Result<(), TypeError>
     ensures { SignsAll checker.old checker.new (map fun_tree fs.now) result }
 {
     for f in fs {
@@ -66,8 +66,8 @@ fn bodies<'a>(checker: &mut Checker<'a>, fs: &'a [Fun]) -> Result<Cost, TypeErro
     Ok(whole)
 }
 
-// The body of a function: the size of the whole function, and its need.
-fn body<'a>(checker: &mut Checker<'a>, f: &'a Fun) -> Result<Cost, TypeError>
+/// The body of a function: the size of the whole function, and its need.
+pub fn body<'a>(checker: &mut Checker<'a>, f: &'a Fun) -> Result<Cost, TypeError>
     ensures { ChecksBody checker.old checker.new (fun_tree f.now) result }
 {
     let Some(function) = checker.functions.get(&f.name) else {

@@ -40,8 +40,8 @@ pub fn check(alloc: Global, p: Program) -> Result<Typed, TypeError>
     Ok(Typed::of(p, sizes.expanded, room, sizes.params))
 }
 
-// The sizes of a program without a fault.
-fn measure<'a>(alloc: Global, p: &'a Program, main: &'a Name) -> Result<Sizes, TypeError>
+/// The sizes of a program without a fault.
+pub fn measure<'a>(alloc: Global, p: &'a Program, main: &'a Name) -> Result<Sizes, TypeError>
     requires { main.now ≡ main_name }
     ensures judged { Judges (program_faults (program_of p.now)) result }
     ensures sized { IfOk result (λ s. IsSized (program_of p.now) s) }
