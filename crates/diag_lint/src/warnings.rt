@@ -2,13 +2,14 @@
 
 use crate::lint::Lint;
 use crate::warning::{Call, Cause, Warning};
+use diag_source::Checked;
 use diag_source::sizes::main_cost;
 use diag_syntax::place::Place;
 use diag_text::finding::{Finding, Form, Severity, Source};
 use diag_types::Walk;
 use nv_ast::{Name, Program, Span};
 use nv_lines::Message;
-use nv_text::{MOST_BYTES, TextError, Token, parse, tokens};
+use nv_text::Token;
 use std::alloc::Global;
 
 // A source with its tokens, and how warnings of it are printed.
@@ -20,69 +21,18 @@ struct Text<'n, 's, 't> {
 }
 
 /// Appends the warnings of a source without a fault in a form, in the order of their places, and gives how many there are.
-pub fn push_warnings_as(
-    alloc: Global,
-    out: &mut Message,
-    form: Form,
-    name: &str,
-    bytes: &[u8],
-) -> usize {
-    if bytes.len() > MOST_BYTES {
-        return 0;
-    }
-    match parse(alloc, bytes) {
-        Ok(program) => {
-            let source = Source { name, bytes };
-            let count = push_of_program(alloc, out, form, source, &program);
-            drop(program);
-            count
+pub fn push_warnings_as(alloc: Global, out: &mut Message, form: Form, it: &Checked) -> usize {
+    match it.typed() {
+        Some(typed) => {
+            let text = Text {
+                source: it.source,
+                tokens: &it.tokens,
+                form,
+            };
+            push_lint(alloc, out, text, typed.program())
         }
-        Err(fault) => {
-            out.fail_if(matches!(&fault, TextError::NoMemory));
-            0
-        }
+        None => 0,
     }
-}
-
-// The same of its program.
-fn push_of_program(
-    alloc: Global,
-    out: &mut Message,
-    form: Form,
-    source: Source,
-    program: &Program,
-) -> usize {
-    if source.bytes.len() > MOST_BYTES {
-        return 0;
-    }
-    match tokens(alloc, source.bytes) {
-        Ok(found) => {
-            let count = push_with_tokens(alloc, out, form, source, &found, program);
-            drop(found);
-            count
-        }
-        Err(_) => {
-            out.fail();
-            0
-        }
-    }
-}
-
-// The same with its tokens.
-fn push_with_tokens(
-    alloc: Global,
-    out: &mut Message,
-    form: Form,
-    source: Source,
-    tokens: &[Token],
-    program: &Program,
-) -> usize {
-    let text = Text {
-        source,
-        tokens,
-        form,
-    };
-    push_lint(alloc, out, text, program)
 }
 
 fn push_lint(alloc: Global, out: &mut Message, text: Text, program: &Program) -> usize {

@@ -2,34 +2,18 @@
 
 use diag_syntax::place::Place;
 use nv_ast::Span;
-use nv_lines::{Message, part};
-use nv_text::{MOST_BYTES, Token, tokens};
-use std::alloc::Global;
+use nv_lines::part;
+use nv_text::Token;
+use nv_types::Fault;
 
 /// The part of a fault's span that is at fault, as far as the kind tells it.
-pub fn narrowed(alloc: Global, out: &mut Message, bytes: &[u8], kind: u8, span: Span) -> Span {
+pub fn narrowed(bytes: &[u8], tokens: &[Token], fault: Fault) -> Span {
+    let span = fault.span;
     let front = part(bytes, 0, span.after as usize);
-    if front.len() > MOST_BYTES {
-        return span;
-    }
-    match tokens(alloc, front) {
-        Ok(found) => {
-            let narrow = narrow(front, &found, kind, span);
-            drop(found);
-            narrow
-        }
-        Err(_) => {
-            out.fail();
-            span
-        }
-    }
-}
-
-// The same, with the tokens up to the span's end.
-fn narrow(bytes: &[u8], found: &[Token], kind: u8, span: Span) -> Span {
-    let first = Place::at(bytes, found, span.first as usize);
-    let last = Place::at(bytes, found, span.after as usize);
-    let some = match kind {
+    let found = tokens_to(tokens, span.after);
+    let first = Place::at(front, found, span.first as usize);
+    let last = Place::at(front, found, span.after as usize);
+    let some = match fault.kind {
         2 => declared_name(&first),
         4 => faulty_size(&first, found.len()),
         9 | 13 | 16 | 17 => pattern(&first, &last),
@@ -41,6 +25,15 @@ fn narrow(bytes: &[u8], found: &[Token], kind: u8, span: Span) -> Span {
         _ => None,
     };
     some.unwrap_or(span)
+}
+
+// The tokens that end at a byte or before it.
+fn tokens_to(tokens: &[Token], after: u32) -> &[Token] {
+    let count = tokens.partition_point(|token: &Token| token.span.after <= after);
+    match tokens.get(..count) {
+        Some(front) => front,
+        None => tokens,
+    }
 }
 
 // The name that is declared.

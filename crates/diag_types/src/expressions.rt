@@ -14,6 +14,9 @@ impl<'a> Walk<'a> {
         let Some(function) = self.functions.get(&fun.name) else {
             return Cost::NONE;
         };
+        if self.is_passed_over(fun.body.span) {
+            return Cost::NONE;
+        }
         self.current = Some(&fun.name);
         self.written.clear();
         let mark = self.scope.mark();

@@ -66,6 +66,8 @@ pub struct Walk<'a> {
     pub written: Vec<&'a Name>,
     pub kind: u8,
     pub span: Span,
+    /// Where the faults lie that were told before: a body that has one of them is passed over.
+    told: Vec<Span>,
     /// The kind while the declaration that has the fault is walked, else 0.
     pub inside: u8,
     /// Whether the fault is told, and nothing after it is walked.
@@ -94,12 +96,28 @@ impl<'a> Walk<'a> {
             written: Vec::new(alloc),
             kind,
             span,
+            told: Vec::new(alloc),
             inside: 0,
             is_over: false,
             title: Message::new(alloc),
             note: Message::new(alloc),
             advice: None,
         }
+    }
+
+    /// Passes over the body that has a fault at a span, since it was told before.
+    pub fn pass_over(&mut self, span: Span) {
+        self.note.keep(&mut self.told, span)
+    }
+
+    /// Whether a body has a fault that was told before.
+    pub fn is_passed_over(&self, body: Span) -> bool {
+        for span in &self.told {
+            if body.first <= span.first && span.after <= body.after {
+                return true;
+            }
+        }
+        false
     }
 
     /// Goes over a program, up to the fault.

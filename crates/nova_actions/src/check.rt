@@ -2,7 +2,7 @@
 ghost use Rattle.std.specs.Prelude.{◌≡◌};
 
 use diag_lint::push_warnings_as;
-use diag_source::{push_fault_as, push_short_sizes, push_sizes};
+use diag_source::Checked;
 use diag_text::finding::Form;
 use nova_show::{Answer, Ending, load};
 use nova_words::Check;
@@ -42,17 +42,24 @@ fn check_file<F: Files>(
 }
 
 fn check_source(alloc: Global, name: &str, bytes: &[u8], is_verbose: bool, answer: &mut Answer) {
-    if push_fault_as(alloc, &mut answer.err, answer.form, name, bytes) {
+    let it = Checked::new(alloc, name, bytes);
+    push_checked(alloc, &it, is_verbose, answer);
+    drop(it)
+}
+
+// What is told of a source that was checked.
+fn push_checked(alloc: Global, it: &Checked, is_verbose: bool, answer: &mut Answer) {
+    if it.push_faults(alloc, &mut answer.err, answer.form) {
         answer.ending = Ending::Failed;
         return;
     }
-    let _ = push_warnings_as(alloc, &mut answer.err, answer.form, name, bytes);
+    let _ = push_warnings_as(alloc, &mut answer.err, answer.form, it);
     if !answer.form.is_text() {
         return;
     }
     if is_verbose {
-        push_sizes(alloc, &mut answer.out, name, bytes)
+        it.push_sizes(alloc, &mut answer.out)
     } else {
-        push_short_sizes(alloc, &mut answer.out, name, bytes)
+        it.push_short_sizes(&mut answer.out)
     }
 }

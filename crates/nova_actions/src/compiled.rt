@@ -8,7 +8,7 @@ ghost use Rattle.nova_words.specs.Limits.{AreInLimits};
 ghost use Rattle.uc_object.specs.Object.{IsTaggedObject};
 ghost use Rattle.zo_cert.specs.Report.{IsValidReport};
 
-use diag_source::push_fault_as;
+use diag_source::Checked;
 use diag_text::finding::Code;
 use nova_back::Built;
 use nova_compile::{CompileError, Compiled, compile_text, no_weights, object_of};
@@ -163,17 +163,25 @@ pub fn save_report(
     }
 }
 
-/// Says why a source is refused.
+/// Says why a source is refused, where it is.
 pub fn push_refused(alloc: Global, name: &str, bytes: &[u8], answer: &mut Answer) {
-    if push_fault_as(alloc, &mut answer.err, answer.form, name, bytes) {
+    let _ = is_refused(alloc, name, bytes, answer);
+}
+
+// The same, and whether it is refused.
+fn is_refused(alloc: Global, name: &str, bytes: &[u8], answer: &mut Answer) -> bool {
+    let it = Checked::new(alloc, name, bytes);
+    let has_faults = it.push_faults(alloc, &mut answer.err, answer.form);
+    if has_faults {
         answer.ending = Ending::Failed;
     }
+    drop(it);
+    has_faults
 }
 
 // The expanded size of a program is told as a fault of the source; that of its 0-1 program here.
 fn push_large(alloc: Global, name: &str, bytes: &[u8], size: u64, answer: &mut Answer) {
-    if push_fault_as(alloc, &mut answer.err, answer.form, name, bytes) {
-        answer.ending = Ending::Failed;
+    if is_refused(alloc, name, bytes, answer) {
         return;
     }
     let mut it = answer.finding();

@@ -8,7 +8,7 @@ use crate::build::push_summary;
 use crate::compiled::{compile, object_in, words_for};
 use crate::listing::form_of;
 use crate::simulation::run_object;
-use diag_source::push_sizes;
+use diag_source::sizes::push_typed_sizes;
 use nova_compile::{Compiled, no_weights};
 use nova_page::{push_page_block, push_page_end, push_page_head};
 use nova_show::{Answer, Ending, Saving, add_saving, counts_of, list_object, load};
@@ -176,7 +176,7 @@ fn push_head(
     push_summary(alloc, &mut summary, &compiled.built.report, counts);
     push_text(page, "summary", summary);
     let mut sizes = Message::new(alloc);
-    push_sizes(alloc, &mut sizes, name, source);
+    push_typed_sizes(alloc, &mut sizes, name, &compiled.typed);
     push_text(page, "sizes", sizes);
     let form = form_of(alloc, &compiled.built.ssu, answer);
     push_page_block(page, "form", &form);
