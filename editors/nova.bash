@@ -1,7 +1,7 @@
 # Completion of nova's words for bash.
 _nova() {
     local word=${COMP_WORDS[COMP_CWORD]} before=${COMP_WORDS[COMP_CWORD - 1]} command=${COMP_WORDS[1]}
-    local commands="build check explain forms help list page run test version"
+    local commands="build check explain fmt forms help list page run test version"
     COMPREPLY=()
     if [ "$COMP_CWORD" -eq 1 ]; then
         COMPREPLY=($(compgen -W "$commands --help --version" -- "$word"))
@@ -15,6 +15,7 @@ _nova() {
         run:-*) COMPREPLY=($(compgen -W "--steps --profile --counts --help" -- "$word")) ;;
         page:-*) COMPREPLY=($(compgen -W "-o --steps --help" -- "$word")) ;;
         test:-*) COMPREPLY=($(compgen -W "--steps --help" -- "$word")) ;;
+        fmt:-*) COMPREPLY=($(compgen -W "--check --help" -- "$word")) ;;
         check:-*) COMPREPLY=($(compgen -W "--verbose --json --help" -- "$word")) ;;
         *:-*) COMPREPLY=($(compgen -W "--help" -- "$word")) ;;
         help:*) COMPREPLY=($(compgen -W "$commands" -- "$word")) ;;

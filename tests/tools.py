@@ -4,6 +4,7 @@ import html
 import importlib.machinery
 import json
 import os
+import random
 import re
 import shutil
 import struct
@@ -245,6 +246,46 @@ class PacketRow:
         return [] if good else [f"{status} {line!r}, {checked}, {ran}, wanted {meant}"]
 
 
+class FormatRow:
+    """`nova fmt` leaves the sources of the repository as they are. Other blanks in one of them go back, and change no object."""
+
+    where, wants, name = "tests/tools.py", ("novac", "nova"), "the format of the repository's sources"
+
+    def __init__(self, top):
+        folders = ("examples", "bench/packets", "crates/nova/data", "crates/novac/data")
+        self.sources = [os.path.join(top, folder, it) for folder in folders for it in sorted(os.listdir(os.path.join(top, folder))) if it.endswith(".nova")]
+
+    def differences(self, novac, at):
+        def said(*words):
+            ran = subprocess.run(words, cwd=at, capture_output=True, text=True, timeout=120)
+            return ran.returncode, ran.stdout + ran.stderr
+
+        nova, found = BESIDE["nova"], []
+        status = said(nova, "fmt", "--check", *self.sources)
+        found += [] if status == (0, "") else [f"nova fmt --check: {status}"]
+        for number, source in enumerate(self.sources):
+            with open(source, encoding="utf-8", newline="") as it:
+                text = it.read()
+            with open(os.path.join(at, "s"), "w", encoding="utf-8", newline="") as it:
+                it.write(other_blanks(text, number))
+            compiled = said(novac, "compile", "s", "o", "r", "budget=1")
+            status = said(nova, "fmt", "s")
+            again = said(novac, "compile", "s", "p", "q", "budget=1")
+            files = contents(at)
+            found += [] if status == (0, "") and files["s"] == text.encode() else [f"{source}: another text, {status}"]
+            found += [] if compiled == again and files.get("o") == files.get("p") and files["r"] == files["q"] else [f"{source}: {compiled}, {again}, or another object"]
+        return found
+
+
+def other_blanks(text, seed):
+    """A source with other blanks at the ends of its lines, and where it has some in a line that has no comment."""
+    chance = random.Random(seed)
+    blanks = ["", " ", "  ", "\t", " \t ", "\r", "        "]
+    lines = [it.strip(" ") for it in text.split("\n")]
+    lines = [it if "//" in it else re.sub(" ", lambda _: chance.choice(blanks[1:]), it) for it in lines]
+    return "\n".join(chance.choice(blanks) + it + chance.choice(blanks) for it in lines)
+
+
 class SizesRow:
     """docs/LANGUAGE.md tells between which numbers the lines and the expanded sizes of bench/packets are."""
 
@@ -411,13 +452,14 @@ def man_as_made(top):
 
 # What a completion has to offer behind these words, of which the last is begun.
 COMPLETIONS = [
-    ("nova ", "build check explain forms help list page run test version --help --version"),
+    ("nova ", "build check explain fmt forms help list page run test version --help --version"),
     ("nova b", "build"),
     ("nova build --s", "--slots --store"),
     ("nova build -", "--budget --help --json --report --slots --store --weights -o"),
     ("nova run -", "--counts --help --profile --steps"),
     ("nova check -", "--help --json --verbose"),
     ("nova page -", "--help --steps -o"),
+    ("nova fmt -", "--check --help"),
     ("nova test -", "--help --steps"),
     ("nova help l", "list"),
 ]
@@ -782,4 +824,4 @@ def all_rows(top):
     sources = sorted(it for it in os.listdir(os.path.join(top, "examples")) if it.endswith(".nova"))
     packets = sorted(it for it in os.listdir(os.path.join(top, "bench", "packets")) if it.endswith(".nova"))
     made = [PacketRow(it, top) for it in packets] + [MadeRow(seed, size, top) for seed, size in ((0, 2), (1, 60), (0, 500))]
-    return [ToolRow(name, body, top) for name, body in rows] + [ReportRow(it, top) for it in sources] + [SameRow(it, top) for it in sources] + [PageRow("ttl.nova", top), PageRow("trie.nova", top), ReplayRow(top)] + made + [CrowdedRow(top), SizesRow(top), SumRow(top)] + [SearchRow(it, top) for it in SEARCHES]
+    return [ToolRow(name, body, top) for name, body in rows] + [ReportRow(it, top) for it in sources] + [SameRow(it, top) for it in sources] + [PageRow("ttl.nova", top), PageRow("trie.nova", top), ReplayRow(top)] + made + [CrowdedRow(top), FormatRow(top), SizesRow(top), SumRow(top)] + [SearchRow(it, top) for it in SEARCHES]

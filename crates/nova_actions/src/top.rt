@@ -10,6 +10,7 @@ use crate::listing::list;
 use crate::page::make_page;
 use crate::simulation::simulate_program;
 use crate::testing::test;
+use nova_fmt_files::format_sources;
 use nova_show::{
     Answer, Ending, Saving, VERSION, print, push_help, push_page_on, push_word_fault, save_all,
 };
@@ -29,7 +30,7 @@ pub fn run<F: Files, D: Folders, K: Sink, E: Sink>(
     out: &mut K,
     err: &mut E,
 ) -> Ending
-    // Only `build`, `run` and `page` change files.
+    // Only `build`, `run`, `page` and `fmt` change files.
     ensures { (MaySave words.now.items → ⊥) → F.held files.new ≡ F.held files.old }
 {
     let mut answer = Answer::new(alloc);
@@ -72,6 +73,7 @@ fn perform<F: Files, D: Folders>(
         Command::Build(words) => return build(alloc, files, words, answer),
         Command::Run(words) => return simulate_program(alloc, files, words, answer),
         Command::Page(words) => return make_page(alloc, files, words, answer),
+        Command::Format(words) => return format_sources(alloc, files, words, answer),
         Command::List(name) => list(alloc, files, name, answer),
         Command::Forms(words) => print_forms(alloc, files, words, answer),
         Command::Check(words) => {

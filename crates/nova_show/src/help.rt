@@ -24,6 +24,7 @@ pub fn push_help(out: &mut Message, verb: Option<Verb>) {
         Some(Verb::Test) => push_lines(out, &TEST),
         Some(Verb::Page) => push_lines(out, &PAGE),
         Some(Verb::Forms) => push_lines(out, &FORMS),
+        Some(Verb::Format) => push_lines(out, &FORMAT),
         Some(Verb::Explain) => push_lines(out, &EXPLAIN),
         Some(Verb::Help) => out.line(
             "nova help [COMMAND]: prints the options of a command, or all commands.",
@@ -40,7 +41,7 @@ fn push_lines(out: &mut Message, lines: &[&str]) {
     }
 }
 
-const USAGE: [&str; 21] = [
+const USAGE: [&str; 22] = [
     "nova compiles, runs, tests and explains programs of Nova, a language for packets.",
     "",
     "  nova build SRC [-o OBJ] ..     compiles a source and saves its object",
@@ -50,6 +51,7 @@ const USAGE: [&str; 21] = [
     "  nova test SRC-or-FOLDER ..     runs sources on the memory texts beside them, and compares the outcomes",
     "  nova page SRC [MEM]            makes a page of HTML on a source and its code",
     "  nova forms SRC [FORM]          prints the forms between the source and its code",
+    "  nova fmt SRC ..                formats sources: sets their blanks, and leaves tokens, comments and ends of lines",
     "  nova explain CODE              prints what a refusal means, as `nova explain type 14`",
     "  nova help [COMMAND]            prints the options of a command",
     "  nova --version                 prints the version",
@@ -159,6 +161,20 @@ const FORMS: [&str; 9] = [
     "and its greatest numbers).",
     "",
     "The status is 1 where the source is refused.",
+];
+
+const FORMAT: [&str; 11] = [
+    "nova fmt SRC .. [--check]",
+    "",
+    "Formats each source SRC: sets its blanks and its indentation, and saves it where that changes it. Tokens, comments and ends",
+    "of lines stay, so a source compiles as before. Of `-`, the standard input, the formatted text is printed.",
+    "",
+    "  --check          saves and prints no text, but prints the names of the sources that would change",
+    "",
+    "A source with a faulty token is left as it is, and the fault is told: a byte that begins no token, a number that is too",
+    "large or a name that is too long. Then no other source is saved either. A source with another fault is formatted.",
+    "",
+    "The status is 1 where a source is refused, and under `--check` where one would change.",
 ];
 
 const EXPLAIN: [&str; 4] = [

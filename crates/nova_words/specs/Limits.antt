@@ -2,7 +2,7 @@
 use Rattle.std.specs.Prelude.{◌≡◌, ◌≢◌, ◌≤◌, ◌⊎◌, ℕ, All, List, MatchOption, None, Some, String, slice_get, string_bytes, codes, ⊤}
 use Rattle.std.specs.Global.{Global}
 use Rattle.nova_words.specs.declared.command.Command.{Command}
-use Rattle.nova_words.specs.declared.command.Command.TheVariants.{Build, Run, List as ListCommand, Check, Test, Page, Forms, Explain, Help, Version}
+use Rattle.nova_words.specs.declared.command.Command.TheVariants.{Build, Run, List as ListCommand, Check, Test, Page, Forms, Format, Explain, Help, Version}
 use Rattle.nova_words.specs.declared.command.Build.{Build as BuildWords}
 use Rattle.nova_words.specs.declared.verb.Verb.{Verb}
 use Rattle.nova_words.specs.declared.verb.Verb.TheVariants as verb
@@ -39,6 +39,7 @@ abbrev pub Saves : Command → Type 0
 Saves (Build b) = ⊤
 Saves (Run r) = ⊤
 Saves (Page p) = ⊤
+Saves (Format f) = ⊤
 Saves _ = ⊥
 
 -- the name of a command
@@ -50,6 +51,7 @@ name_of verb.Check = codes "check"
 name_of verb.Test = codes "test"
 name_of verb.Page = codes "page"
 name_of verb.Forms = codes "forms"
+name_of verb.Format = codes "fmt"
 name_of verb.Explain = codes "explain"
 name_of verb.Help = codes "help"
 name_of verb.Version = codes "version"
@@ -71,6 +73,7 @@ IsCalled word (Check c) = word ≡ codes "check"
 IsCalled word (Test t) = word ≡ codes "test"
 IsCalled word (Page p) = word ≡ codes "page"
 IsCalled word (Forms f) = word ≡ codes "forms"
+IsCalled word (Format f) = word ≡ codes "fmt"
 IsCalled word (Explain words) = word ≡ codes "explain"
 IsCalled word (Help None) = AsksHelp word ⊎ (word ≡ codes "help")
 IsCalled word (Help (Some verb)) = (word ≡ name_of verb) ⊎ (word ≡ codes "help")
@@ -87,7 +90,7 @@ HaveNoHelp words = All (λ word. string_bytes word ≢ codes "--help") words
 
 -- the word is the name of a command that may save files
 abbrev pub NamesSaver : List ℕ → Type 0
-NamesSaver word = (word ≡ codes "build") ⊎ (word ≡ codes "run") ⊎ (word ≡ codes "page")
+NamesSaver word = (word ≡ codes "build") ⊎ (word ≡ codes "run") ⊎ (word ≡ codes "page") ⊎ (word ≡ codes "fmt")
 
 -- this holds of the first of the words, and there is one
 abbrev pub FirstIs : List (String Global) → (List ℕ → Type 0) → Type 0

@@ -3,7 +3,7 @@ use Rattle.std.specs.Prelude.{List, [], ◌∷◌, ℕ, Bool, true, false, codes
 use Rattle.nova_words.specs.declared.verb.Verb.{Verb}
 use Rattle.nova_words.specs.declared.verb.Verb.TheVariants as verb
 use Rattle.nova_words.specs.declared.setting.Setting.{Setting}
-use Rattle.nova_words.specs.declared.setting.Setting.TheVariants.{Output, Report, Slots, Budget, Store, Weights, Steps, Profile, Counts, Verbose, Json, Help}
+use Rattle.nova_words.specs.declared.setting.Setting.TheVariants.{Output, Report, Slots, Budget, Store, Weights, Steps, Profile, Counts, Verbose, Json, Check, Help}
 
 abbrev pub setting_name : Setting → List ℕ
 setting_name Output = codes "-o"
@@ -17,13 +17,15 @@ setting_name Profile = codes "--profile"
 setting_name Counts = codes "--counts"
 setting_name Verbose = codes "--verbose"
 setting_name Json = codes "--json"
+setting_name Check = codes "--check"
 setting_name Help = codes "--help"
 
--- all but four have one
+-- all but five have one
 abbrev pub takes_value : Setting → Bool
 takes_value Profile = false
 takes_value Verbose = false
 takes_value Json = false
+takes_value Check = false
 takes_value Help = false
 takes_value _ = true
 
@@ -33,5 +35,6 @@ settings_of verb.Build = Output ∷ Report ∷ Slots ∷ Budget ∷ Store ∷ We
 settings_of verb.Run = Steps ∷ Profile ∷ Counts ∷ Help ∷ []
 settings_of verb.Check = Verbose ∷ Json ∷ Help ∷ []
 settings_of verb.Page = Output ∷ Steps ∷ Help ∷ []
+settings_of verb.Format = Check ∷ Help ∷ []
 settings_of verb.Test = Steps ∷ Help ∷ []
 settings_of _ = Help ∷ []

@@ -86,6 +86,14 @@ pub struct Forms<'a> {
     pub form: Option<&'a str>,
 }
 
+/// What `fmt` is asked for.
+#[derive(Drop)]
+pub struct Format<'a> {
+    pub sources: Vec<&'a str>,
+    /// Whether it is only told which sources would change.
+    pub is_check: bool,
+}
+
 /// What `test` is asked for.
 #[derive(Drop)]
 pub struct Test<'a> {
@@ -106,6 +114,7 @@ pub enum Command<'a> {
     Test(Test<'a>),
     Page(Page<'a>),
     Forms(Forms<'a>),
+    Format(Format<'a>),
     /// The words that a page is called by.
     Explain(&'a [String]),
     /// Of one command, or of all.
@@ -118,7 +127,7 @@ pub fn command_of<'a>(alloc: Global, words: &'a [String]) -> Result<Command<'a>,
     ensures limits { IfOk result HasLimits }
     ensures some { IfOk result AllowsSome }
     ensures called { IfOk result (λ c. FirstIs words.now (λ word. IsCalled word c)) }
-    // Only `build`, `run` and `page` save files.
+    // Only `build`, `run`, `page` and `fmt` save files.
     ensures saves { IfOk result (λ c. Saves c → MaySave words.now) }
     ensures empty { words.now ≡ [] → result ≡ Err WordFault.NoWords }
     ensures help { FirstIs words.now AsksHelp → result ≡ Ok (Command.Help None) }
@@ -200,6 +209,7 @@ fn command_in<'a>(
         Verb::Test => test_in(alloc, parts),
         Verb::Page => page_in(parts),
         Verb::Forms => forms_in(parts),
+        Verb::Format => format_in(alloc, parts),
         Verb::Explain => explain_in(parts, words),
         Verb::Help => help_in(parts),
         Verb::Version => Ok(Command::Version),
@@ -272,6 +282,21 @@ fn check_in<'a>(alloc: Global, parts: &Parts<'a>) -> Result<Command<'a>, WordFau
         sources,
         is_verbose: parts.value(Setting::Verbose).is_some(),
         is_json: parts.value(Setting::Json).is_some(),
+    }))
+}
+
+fn format_in<'a>(alloc: Global, parts: &Parts<'a>) -> Result<Command<'a>, WordFault<'a>>
+    ensures limits { IfOk result HasLimits }
+    ensures some { IfOk result AllowsSome }
+    ensures numbers { IfOk result (HasNumbers parts.now.given.items) }
+    ensures called { IfOk result (IsCalled (codes "fmt")) }
+    ensures asks { IfOk result (λ c. IsHelp c → ⊥) }
+    ensures refused { IfErr result (IsFaultAt (name_of parts.now.verb)) }
+{
+    let sources = names_in(alloc, parts, "SRC")?;
+    Ok(Command::Format(Format {
+        sources,
+        is_check: parts.value(Setting::Check).is_some(),
     }))
 }
 

@@ -27,6 +27,8 @@ pub enum Setting {
     Verbose,
     /// Faults are printed as JSON.
     Json,
+    /// It is only told what would change.
+    Check,
     /// What the command is for.
     Help,
 }
@@ -48,6 +50,7 @@ impl Setting {
             Setting::Counts => "--counts",
             Setting::Verbose => "--verbose",
             Setting::Json => "--json",
+            Setting::Check => "--check",
             Setting::Help => "--help",
         }
     }
@@ -57,7 +60,8 @@ impl Setting {
         ensures { result ≡ takes_value self }
     {
         match self {
-            Setting::Profile | Setting::Verbose | Setting::Json | Setting::Help => false,
+            Setting::Profile | Setting::Verbose | Setting::Json | Setting::Check | Setting::Help =>
+                false,
             Setting::Output
             | Setting::Report
             | Setting::Slots

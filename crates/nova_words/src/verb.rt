@@ -15,13 +15,14 @@ pub enum Verb {
     Test,
     Page,
     Forms,
+    Format,
     Explain,
     Help,
     Version,
 }
 
 /// All commands, in the order of the help.
-pub const VERBS: [Verb; 10] = [
+pub const VERBS: [Verb; 11] = [
     Verb::Build,
     Verb::Run,
     Verb::List,
@@ -29,6 +30,7 @@ pub const VERBS: [Verb; 10] = [
     Verb::Test,
     Verb::Page,
     Verb::Forms,
+    Verb::Format,
     Verb::Explain,
     Verb::Help,
     Verb::Version,
@@ -47,6 +49,7 @@ impl Verb {
             Verb::Test => "test",
             Verb::Page => "page",
             Verb::Forms => "forms",
+            Verb::Format => "fmt",
             Verb::Explain => "explain",
             Verb::Help => "help",
             Verb::Version => "version",
@@ -76,6 +79,7 @@ impl Verb {
             Verb::Check => &CHECK,
             Verb::Test => &TEST,
             Verb::Page => &PAGE,
+            Verb::Format => &FORMAT,
             Verb::List | Verb::Forms | Verb::Explain | Verb::Help | Verb::Version => &OTHER,
         }
     }
@@ -115,6 +119,8 @@ const RUN: [Setting; 4] = [
 const CHECK: [Setting; 3] = [Setting::Verbose, Setting::Json, Setting::Help];
 
 const PAGE: [Setting; 3] = [Setting::Output, Setting::Steps, Setting::Help];
+
+const FORMAT: [Setting; 2] = [Setting::Check, Setting::Help];
 
 const TEST: [Setting; 2] = [Setting::Steps, Setting::Help];
 
