@@ -20,5 +20,6 @@ pub use live_set::LiveSet;
 pub use liveness::{live, written_by};
 pub use needless::without_needless;
 pub use peephole::{Listing, Peeped, peep, without_gone};
+pub use repeated_tests::is_same_source;
 pub use shorter_code::Shorter;
 pub use window::{Pair, Window, WindowRule};

@@ -8,7 +8,8 @@ use crate::needless::is_same;
 use crate::{LiveSet, Shorter};
 use uc_isa::{Dst, Instr, Src, UnOp};
 
-fn is_same_source(y: &Src, x: &Src) -> bool
+/// Whether two operands are one register.
+pub fn is_same_source(y: &Src, x: &Src) -> bool
     ensures { result ≡ is_same_source y.now x.now }
 {
     match (y, x) {

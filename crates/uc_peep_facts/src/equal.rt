@@ -5,17 +5,12 @@ ghost use Rattle.std.specs.Prelude.{◌≡◌, true};
 use crate::fact::{Fact, Part};
 use nv_base::Bin;
 use uc_isa::{Dst, Instr, Src, UnOp};
+use uc_peep::is_same_source;
 
 pub(crate) fn is_same_operand(x: &Src, y: &Src) -> bool
     ensures { result ≡ true → x.now ≡ y.now }
 {
-    match (x, y) {
-        (Src::A(r), Src::A(q)) => r.number == q.number,
-        (Src::B(r), Src::B(q)) => r.number == q.number,
-        (Src::L(r), Src::L(q)) => r.number == q.number,
-        (Src::LD(r), Src::LD(q)) => r.number == q.number,
-        _ => false,
-    }
+    is_same_source(x, y)
 }
 
 fn is_same_dst(d: &Dst, e: &Dst) -> bool
