@@ -1,4 +1,3 @@
-pub mod Alike
 pub mod Words
 pub mod BitLemmas
 pub mod Bitwise

@@ -8,7 +8,7 @@ use Rattle.nv_base.proofs.Environments.{assigned-env, assigned-all-env, atoms-fi
 use Rattle.nv_base.proofs.MemoryLemmas.{fetched-words, stored-sizes}
 use Rattle.flow_ir.specs.Tree.{Tree}
 use Rattle.flow_ir.specs.Meaning.{Next, does}
-use Rattle.flow_words.proofs.Alike.{read_alike, write_alike, either_alike}
+use Rattle.cps_rules.proofs.Means.{read_alike, write_alike, either_alike}
 use Rattle.flow_words.specs.Tables.{Table, with_known, with_all}
 use Rattle.flow_words.specs.Definitions.{of_prim}
 use Rattle.flow_words.specs.inner.Reduced.{Holds, Reduced, extra, kept, read, write, choice, jump, halt}
