@@ -48,8 +48,8 @@ fn note_all(counts: &mut Vec<u32>, t: &Tree)
     }
 }
 
-// How many jumps lead to each label, or the greatest number that there is room for.
-fn jumps(alloc: Global, labels: &[Label]) -> Result<Vec<u32>, NoMemory>
+/// How many jumps lead to each label, or the greatest number that there is room for.
+pub fn jumps(alloc: Global, labels: &[Label]) -> Result<Vec<u32>, NoMemory>
     ensures most { IfOk result (λ v. (k : ℕ) → at v.items k ≤ all_jumps_to k (map label_view labels.now)) }
     ensures least { IfOk result (λ v. (k : ℕ) → k < length labels.now → min (all_jumps_to k (map label_view labels.now)) u32.MAX ≤ at v.items k) }
 {
@@ -60,8 +60,8 @@ fn jumps(alloc: Global, labels: &[Label]) -> Result<Vec<u32>, NoMemory>
     Ok(counts)
 }
 
-// The number at a place, or 0.
-fn count(counts: &[u32], i: usize) -> u32
+/// The number at a place, or 0.
+pub fn count(counts: &[u32], i: usize) -> u32
     ensures { result ≡ at counts.now i }
 {
     if i < counts.len() { counts[i] } else { 0 }

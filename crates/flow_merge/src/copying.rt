@@ -7,6 +7,7 @@ ghost use Rattle.flow_merge.specs.inner.Copied as inner;
 ghost use Rattle.flow_merge.specs.inner.Numbered.{numbering};
 ghost use Rattle.flow_merge.specs.inner.Copied.{Copied, IsCopied, AreCopied};
 
+use crate::heads::decides;
 use crate::names::{restore, set, set_numbers, set_operands, take};
 use crate::plan::{Plan, is_heavier};
 use flow_ir::names::{renamed, renamed_all, renamed_args, renamed_prim};
@@ -24,9 +25,15 @@ fn folded(c: Cmp, a: Atom, b: Atom) -> Option<bool>
     }
 }
 
-// The label that is to stand in the place of a jump, and its rank, where the jump stands in a label of this
-// rank.
-fn inside<'a>(labels: &'a [Label], plan: &Plan, rank: u32, l: u32) -> Option<(&'a Label, u32)>
+// The label that is to stand in the place of a jump with these words, and its rank, where the jump stands in a label
+// of this rank.
+fn inside<'a>(
+    labels: &'a [Label],
+    plan: &Plan,
+    rank: u32,
+    l: u32,
+    words: &[Atom],
+) -> Option<(&'a Label, u32)>
     ensures { MatchOption result ⊤ (λ r. (slice_get labels.now l ≡ Some r.0.now) × (r.1 < rank)) }
 {
     let own = plan.rank(l);
@@ -34,7 +41,12 @@ fn inside<'a>(labels: &'a [Label], plan: &Plan, rank: u32, l: u32) -> Option<(&'
         return None;
     }
     match labels.get(l as usize) {
-        Some(m) => Some((m, own)),
+        Some(m) => {
+            if plan.is_choosy(l) && !decides(m, words) {
+                return None;
+            }
+            Some((m, own))
+        }
         None => None,
     }
 }
@@ -112,7 +124,7 @@ fn copied(
             }
             Tree::Jump(l, bs) => {
                 let words = renamed_all(alloc, names, bs)?;
-                match inside(labels, plan, rank, *l) {
+                match inside(labels, plan, rank, *l, &words) {
                     Some((m, own)) => {
                         set_operands(names, &mut saved, &m.params, &words)?;
                         rank = own;

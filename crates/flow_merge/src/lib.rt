@@ -4,10 +4,13 @@
 
 mod checks;
 mod copying;
+mod heads;
+mod joins;
 mod names;
 mod plan;
 mod program;
 mod sizes;
 
 pub use checks::is_literal;
-pub use program::merge_labels;
+pub use program::{copy_joins, merge_labels};
+pub use sizes::{Sizes, sizes_of};

@@ -20,6 +20,8 @@ pub struct Plan {
     weights: Vec<u32>,
     stays: Vec<bool>,
     to: Vec<u32>,
+    // the labels that are put in the place of those jumps alone whose words decide their first choice
+    choosy: Vec<bool>,
 }
 
 impl Plan {
@@ -71,7 +73,42 @@ impl Plan {
             weights,
             stays,
             to,
+            choosy: Vec::new(alloc),
         })
+    }
+
+    /// The plan by which each label stays, and some are put in the place of jumps to them too: those of rank 1, once.
+    /// It needs no contract: each plan gives copies with the same outcomes, or none.
+    pub fn of_copies(
+        alloc: Global,
+        labels: &[Label],
+        ranks: Vec<u32>,
+        choosy: Vec<bool>,
+    ) -> Result<Plan, NoMemory> {
+        let mut weights = vec![in alloc; 0u32; labels.len()]?;
+        weigh(labels, &mut weights);
+        let mut to = Vec::new(alloc);
+        let mut l: u32 = 0;
+        for _ in labels {
+            to.push(l)?;
+            l = l.saturating_add(1);
+        }
+        let stays = vec![in alloc; true; labels.len()]?;
+        Ok(Plan {
+            ranks,
+            weights,
+            stays,
+            to,
+            choosy,
+        })
+    }
+
+    /// Whether a label is only put in the place of jumps whose words decide its first choice. It needs no contract.
+    pub fn is_choosy(&self, l: u32) -> bool {
+        match self.choosy.get(l as usize) {
+            Some(is_choosy) => *is_choosy,
+            None => false,
+        }
     }
 }
 
@@ -91,16 +128,16 @@ fn get(numbers: &[u32], l: u32) -> u32 {
     }
 }
 
-// Puts a number at a place, if it is there.
-fn put(numbers: &mut [u32], l: u32, n: u32) {
+/// Puts a number at a place, if it is there.
+pub fn put(numbers: &mut [u32], l: u32, n: u32) {
     let i = l as usize;
     if i < numbers.len() {
         numbers[i] = n;
     }
 }
 
-// Adds to the number at a place, if it is there.
-fn raise(numbers: &mut [u32], l: u32, n: u32) {
+/// Adds to the number at a place, if it is there.
+pub fn raise(numbers: &mut [u32], l: u32, n: u32) {
     let i = l as usize;
     if i < numbers.len() {
         numbers[i] = numbers[i].saturating_add(n);
@@ -193,8 +230,8 @@ fn weigh(labels: &[Label], weights: &mut [u32]) {
     }
 }
 
-// The nodes of a tree.
-fn nodes(t: &Tree) -> u32 {
+/// The nodes of a tree.
+pub fn nodes(t: &Tree) -> u32 {
     let mut n: u32 = 0;
     let mut cur = t;
     'spine: loop {

@@ -12,6 +12,7 @@ ghost use Rattle.flow_merge.specs.Contracted.{AreMerged};
 
 use crate::checks::are_merged;
 use crate::copying::all_copied;
+use crate::joins::plan_of_joins;
 use crate::plan::Plan;
 use crate::sizes::{is_within, sizes_of};
 use flow_ir::{Flow, drop_unreached};
@@ -25,8 +26,26 @@ fn merge_once(alloc: Global, f: &Flow) -> Result<Flow, NoMemory>
     ensures wide { IfOk result (λ g. wide (map label_view g.labels.items) ≤ wide (map label_view f.now.labels.items)) }
 {
     let plan = Plan::new(alloc, &f.labels)?;
-    let labels = all_copied(alloc, &f.labels, &plan)?;
+    copied_by(alloc, f, &plan)
+}
+
+// The flow copied by a plan.
+fn copied_by(alloc: Global, f: &Flow, plan: &Plan) -> Result<Flow, NoMemory>
+    ensures kept { IfOk result (λ g. KeepsOutcomes (flow_params (map label_view f.now.labels.items)) (flow_params (map label_view g.labels.items)) (flow_meaning (map label_view f.now.labels.items)) (flow_meaning (map label_view g.labels.items))) }
+    ensures wide { IfOk result (λ g. wide (map label_view g.labels.items) ≤ wide (map label_view f.now.labels.items)) }
+{
+    let labels = all_copied(alloc, &f.labels, plan)?;
     Ok(Flow { labels })
+}
+
+/// The flow with short labels in the place of each jump to them, and with labels that begin with a choice in the place
+/// of the jumps whose words decide it. It has the same outcomes and isn't wider, but may be larger.
+pub fn copy_joins(alloc: Global, f: &Flow) -> Result<Flow, NoMemory>
+    ensures kept { IfOk result (λ g. KeepsOutcomes (flow_params (map label_view f.now.labels.items)) (flow_params (map label_view g.labels.items)) (flow_meaning (map label_view f.now.labels.items)) (flow_meaning (map label_view g.labels.items))) }
+    ensures wide { IfOk result (λ g. wide (map label_view g.labels.items) ≤ wide (map label_view f.now.labels.items)) }
+{
+    let plan = plan_of_joins(alloc, &f.labels)?;
+    copied_by(alloc, f, &plan)
 }
 
 // The same, without the labels that label 0 doesn't lead to once choices between literals are made.

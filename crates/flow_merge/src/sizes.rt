@@ -12,11 +12,11 @@ use nv_base::NoMemory;
 /// Labels, jumps, other nodes, and the words that these define and use.
 #[derive(Clone, Copy)]
 pub struct Sizes {
-    labels: usize,
-    jumps: usize,
-    nodes: usize,
-    defined: usize,
-    used: usize,
+    pub labels: usize,
+    pub jumps: usize,
+    pub nodes: usize,
+    pub defined: usize,
+    pub used: usize,
 }
 
 impl Sizes {

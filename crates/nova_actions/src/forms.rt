@@ -11,7 +11,7 @@ use flat_ir::FlatProgram;
 use flow_merge::merge_labels;
 use nova_forms_print::{Page, print_cps, print_flat, print_flow, print_measures, print_single_use};
 use nova_front::{FrontError, front};
-use nova_middle::{middle, to_flow};
+use nova_middle::{last_flow, middle};
 use nova_show::{Answer, Ending, load};
 use nova_words::Forms;
 use nv_base::NoMemory;
@@ -114,7 +114,7 @@ fn forms_of(
     put_continuations(alloc, &mut page, program, wanted)?;
     if is_wanted(PrintedForms::Simplified, wanted) {
         page.put("# simplified\n");
-        print_flow(alloc, &mut page, &to_flow(alloc, program)?)?;
+        print_flow(alloc, &mut page, &last_flow(alloc, program)?)?;
     }
     if is_wanted(PrintedForms::Single, wanted) {
         page.put("# single use; behind each line its point, and what is held there\n");

@@ -4,3 +4,5 @@ pub mod Whole
 pub mod Single
 pub mod SourceBounds
 pub mod SimpleFlows
+pub mod CodeBound
+pub mod Improved

@@ -1,8 +1,8 @@
 -- What holds through all passes.
-use Rattle.std.proofs.Common.{◌≡◌, ℕ, ◌≤◌, List, sym, subst, arith, Result, Ok, Err, IfOk, le_trans}
+use Rattle.std.proofs.Common.{◌≡◌, ℕ, ◌≤◌, List, sym, subst, Result, Ok, Err, IfOk, le_trans}
 use Rattle.nv_base.specs.Memories.{Memories}
 use Rattle.nv_base.specs.Meanings.{Meaning, KeepsOutcomes, AreEqual}
-use Rattle.nv_base.specs.Measures.{Bulk, IsAtMost}
+use Rattle.nv_base.specs.Measures.{IsAtMost}
 use Rattle.nv_base.proofs.Same.{keeps-trans, keeps-equal}
 use Rattle.nv_base.proofs.Measures.{most-trans}
 use Rattle.flow_ir.specs.Bulk.{bulk}
@@ -16,15 +16,9 @@ use Rattle.flow_params.specs.Wanted.{AllWanted}
 pub equal_kept : (a b : ℕ) (m n : List ℕ → Memories → Meaning) → b ≡ a → AreEqual a m n → KeepsOutcomes a b m n
 equal_kept a b m n e h = subst (λ k. KeepsOutcomes a k m n) (sym e) (keeps-equal a m n h)
 
--- two passes that keep outcomes, one whose outcomes are equal, and one that keeps them
-pub all_kept : (a b c d e : ℕ) (m n k l o : List ℕ → Memories → Meaning) → KeepsOutcomes a b m n → KeepsOutcomes b c n k → d ≡ c → AreEqual c k l → KeepsOutcomes d e l o → KeepsOutcomes a e m o
-all_kept a b c d e m n k l o first second p third fourth = keeps-trans a b e m n o first (keeps-trans b c e n k o second (keeps-trans c d e k l o (equal_kept c d k l p third) fourth))
-
-pub all_narrow : (a b c d e : ℕ) → b ≤ a → c ≤ b → d ≤ c → e ≤ d → e ≤ a
-all_narrow a b c d e p q r s = omega arith
-
-pub all_small : (a b c d e : Bulk) → IsAtMost b a → IsAtMost c b → IsAtMost d c → IsAtMost e d → IsAtMost e a
-all_small a b c d e p q r s = most-trans e d a s (most-trans d c a r (most-trans c b a q p))
+-- two passes that keep outcomes, and one whose outcomes are equal
+pub first_kept : (a b c d : ℕ) (m n k l : List ℕ → Memories → Meaning) → KeepsOutcomes a b m n → KeepsOutcomes b c n k → d ≡ c → AreEqual c k l → KeepsOutcomes a d m l
+first_kept a b c d m n k l first second p third = keeps-trans a b d m n l first (keeps-trans b c d n k l second (equal_kept c d k l p third))
 
 pub if_ok : {T E : Type 0} (r : Result T E) (P Q : T → Type 0) → ((v : T) → P v → Q v) → IfOk r P → IfOk r Q
 if_ok (Ok v) P Q f h = f v h

@@ -1,6 +1,6 @@
 // Whole programs.
 
-ghost use Rattle.std.specs.Prelude.{◌≡◌, ◌≤◌, true, All, IfOk, map};
+ghost use Rattle.std.specs.Prelude.{◌≡◌, ◌≤◌, All, IfOk, map};
 ghost use Rattle.nv_base.specs.Meanings.{KeepsOutcomes};
 ghost use Rattle.nv_base.specs.Measures.{IsAtMost};
 ghost use Rattle.flat_ir.specs.Bulk.{bulk as flat_bulk};
@@ -15,13 +15,7 @@ ghost use Rattle.flow_ir.specs.Reachable.{AreReachable};
 ghost use Rattle.cps_rules.specs.Simplified.{AreTidy};
 ghost use Rattle.flow_merge.specs.Contracted.{AreMerged};
 ghost use Rattle.flow_params.specs.Wanted.{AllWanted};
-ghost use Rattle.nova_middle.specs.Reduced.{IsMadeOfReduced};
 ghost use Rattle.nova_middle.specs.Rules.{IsAtRest};
-ghost use Rattle.ssu_ir.specs.Meaning.{ssu_meaning, ssu_params};
-ghost use Rattle.ssu_ir.specs.Measures.{peak, size, code_bound};
-ghost use Rattle.ssu_ir.specs.Single.{single};
-ghost use Rattle.ssu_ir.specs.View.{labels_view};
-ghost use Rattle.ssu_make.specs.Bounds.{size_bound, length_bound};
 
 use crate::rules::simplified;
 use crate::simple::are_simple;
@@ -33,9 +27,18 @@ use flow_ir::{Flow, Tree};
 use flow_merge::merge_labels;
 use flow_params::prune;
 use nv_base::NoMemory;
-use ssu_ir::Ssu;
-use ssu_make::make;
 use std::alloc::Global;
+
+/// The first flow of a flat program: in continuation form, in one function, and in labels without free variables.
+pub fn first_flow(alloc: Global, f: &FlatProgram) -> Result<Flow, NoMemory>
+    ensures kept { IfOk result (λ g. KeepsOutcomes (flat_params f.now.funs.items f.now.main) (flow_params (map label_view g.labels.items)) (flat_meaning f.now.funs.items f.now.main) (flow_meaning (map label_view g.labels.items))) }
+    ensures wide { IfOk result (λ g. wide (map label_view g.labels.items) ≤ flat_wide f.now.funs.items f.now.main) }
+    ensures bulk { IfOk result (λ g. IsAtMost (bulk (map label_view g.labels.items)) (flat_bulk f.now.funs.items f.now.main)) }
+{
+    let lowered = lower(alloc, f)?;
+    let inlined = inline(alloc, lowered)?;
+    close(alloc, inlined)
+}
 
 /// The flow of a flat program, which has its outcomes and is neither wider nor larger: in continuation form, in
 /// one function, in labels without free variables, contracted, and simplified by the rules. Label 0 leads to each
@@ -52,10 +55,8 @@ pub fn to_flow(alloc: Global, f: &FlatProgram) -> Result<Flow, NoMemory>
     ensures wide { IfOk result (λ g. wide (map label_view g.labels.items) ≤ flat_wide f.now.funs.items f.now.main) }
     ensures bulk { IfOk result (λ g. IsAtMost (bulk (map label_view g.labels.items)) (flat_bulk f.now.funs.items f.now.main)) }
 {
-    let lowered = lower(alloc, f)?;
-    let inlined = inline(alloc, lowered)?;
-    let closed = close(alloc, inlined)?;
-    reduce(alloc, &closed)
+    let first = first_flow(alloc, f)?;
+    reduce(alloc, &first)
 }
 
 // The flow contracted, and without the parameters that nothing wants.
@@ -71,9 +72,9 @@ fn contract_and_prune(alloc: Global, f: &Flow) -> Result<Flow, NoMemory>
     prune(alloc, &contracted)
 }
 
-// Rounds of this and simplification, until simplification would leave the flow as it is. Each that isn't the last
-// leaves fewer nodes, so there are enough, and memory exhaustion doesn't come of this.
-fn reduce(alloc: Global, f: &Flow) -> Result<Flow, NoMemory>
+/// Rounds of this and simplification, until simplification would leave the flow as it is. Each that isn't the last
+/// leaves fewer nodes, so there are enough, and memory exhaustion doesn't come of this.
+pub fn reduce(alloc: Global, f: &Flow) -> Result<Flow, NoMemory>
     ensures kept { IfOk result (λ g. KeepsOutcomes (flow_params (map label_view f.now.labels.items)) (flow_params (map label_view g.labels.items)) (flow_meaning (map label_view f.now.labels.items)) (flow_meaning (map label_view g.labels.items))) }
     ensures contracted { IfOk result (λ g. AreMerged (map label_view g.labels.items)) }
     ensures led { IfOk result (λ g. AreReachable (map label_view g.labels.items)) }
@@ -121,20 +122,4 @@ fn count_nodes(t: &Tree) -> u64 {
             Tree::Halt(_, _) => return n,
         }
     }
-}
-
-/// The single-use form of a flat program, which has its outcomes. It is made of a flow in which the passes have
-/// nothing left to do, node by node. It holds no more values at once than the program is wide, and its size and the
-/// length of its code are bounded by the program's width and bulk. Memory exhaustion is also the answer where a form
-/// would need 2^32 labels or variables.
-pub fn middle(alloc: Global, f: &FlatProgram) -> Result<Ssu, NoMemory>
-    ensures kept { IfOk result (λ s. KeepsOutcomes (flat_params f.now.funs.items f.now.main) (ssu_params (labels_view s)) (flat_meaning f.now.funs.items f.now.main) (ssu_meaning (labels_view s))) }
-    ensures made { IfOk result (λ s. IsMadeOfReduced (labels_view s)) }
-    ensures single { IfOk result (λ s. single (labels_view s) ≡ true) }
-    ensures peak { IfOk result (λ s. peak (labels_view s) ≤ flat_wide f.now.funs.items f.now.main) }
-    ensures size { IfOk result (λ s. size (labels_view s) ≤ size_bound (flat_wide f.now.funs.items f.now.main) (flat_bulk f.now.funs.items f.now.main)) }
-    ensures code { IfOk result (λ s. code_bound (labels_view s) ≤ length_bound (flat_wide f.now.funs.items f.now.main) (flat_bulk f.now.funs.items f.now.main)) }
-{
-    let flow = to_flow(alloc, f)?;
-    make(alloc, &flow)
 }
