@@ -1,5 +1,6 @@
 -- A reduced tree does the same.
-use Rattle.std.proofs.Common.{◌≡◌, ℕ, ◌+◌, List, ap, ◌∙◌, length, All, if◌then◌else◌}
+use Rattle.std.proofs.Common.{◌≡◌, ℕ, ◌+◌, Bool, true, false, List, ap, ◌∙◌, length, All, if◌then◌else◌}
+use Rattle.nv_base.specs.Meanings.{FullOutcome}
 use Rattle.nv_base.specs.Memories.{HasSizes}
 use Rattle.nv_base.specs.Words.{IsWord, Env, IsEnv, assigned, assigned_all, atom_word, atom_words, prim_word, compares}
 use Rattle.nv_base.specs.World.{World, over, ended, read_words, write_words, wrote}
@@ -8,12 +9,16 @@ use Rattle.nv_base.proofs.Environments.{assigned-env, assigned-all-env, atoms-fi
 use Rattle.nv_base.proofs.MemoryLemmas.{fetched-words, stored-sizes}
 use Rattle.flow_ir.specs.Tree.{Tree}
 use Rattle.flow_ir.specs.Meaning.{Next, does}
-use Rattle.cps_rules.proofs.Means.{read_alike, write_alike, either_alike}
+use Rattle.cps_rules.proofs.Means.{read_alike, write_alike}
 use Rattle.flow_words.specs.Tables.{Table, with_known, with_all}
 use Rattle.flow_words.specs.Definitions.{of_prim}
 use Rattle.flow_words.specs.inner.Reduced.{Holds, Reduced, extra, kept, read, write, choice, jump, halt}
 use Rattle.flow_words.proofs.Closing.{Closed, settled_count, closed_made, closed_all}
 use Rattle.flow_words.proofs.Holding.{Alike, holds_made, holds_all, old_word, old_words, old_prim, alike_extra, alike_own, alike_all}
+
+either_alike : (b : Bool) (r s r' s' : FullOutcome) → r' ≡ r → s' ≡ s → (if b then r' else s') ≡ (if b then r else s)
+either_alike true r s r' s' h k = h
+either_alike false r s r' s' h k = k
 
 module _ (P : Table → Primitive → Type 0) (base : ℕ) (f g : Next) (jumps : (l : ℕ) (ws : List ℕ) (w : World) → All IsWord ws → HasSizes w.packet → g l ws w ≡ f l ws w) where
   pub means : (T : Table) (n k : ℕ) (t u : Tree) → Reduced P base T n t u k → (env new : Env) (w : World) → Alike base env new → Closed T → Holds T new → IsEnv new → HasSizes w.packet → does g u new w ≡ does f t env w
