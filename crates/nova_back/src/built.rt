@@ -60,7 +60,8 @@ fn code_of(
 {
     let placement = assign_by(alloc, bank, slots, x)?;
     let emitted = emit(alloc, bank.form.ssu, &placement)?;
-    let once = without_repeats(alloc, emitted.code, emitted.starts)?;
+    let first = without_needless(alloc, emitted.code, emitted.starts)?;
+    let once = without_repeats(alloc, first.code, first.starts)?;
     let peeped = without_needless(alloc, once.code, once.starts)?;
     Ok(Emitted {
         code: peeped.code,
