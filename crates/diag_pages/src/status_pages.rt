@@ -94,7 +94,7 @@ or a memory text asks for a memory of size N, more than 65,536.
                 name: "status 13",
                 text: r#"status 13: no memory text
 
-`memory line N`: this line isn't of its form.
+`memory line N`: this line isn't of its form. `nova run` says what is wrong with it. docs/MEMORY.md has the form, and a readable one.
 "#,
             },
             Page {

@@ -54,7 +54,10 @@ fn push_line(out: &mut Message, before: &str, text: &[u8]) {
     match line.last() {
         None => out.put("no line"),
         Some(byte) if *byte == b'\n' => out.quoted(part(line, 0, line.len().saturating_sub(1))),
-        Some(_) => out.quoted(line),
+        Some(_) => {
+            out.quoted(line);
+            out.put(", without a line feed")
+        }
     }
     out.line("")
 }

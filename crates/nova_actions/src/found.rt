@@ -72,13 +72,35 @@ impl<'a> Folder<'a> {
         false
     }
 
-    /// Whether a name is that of a memory text for the source `STEM.nova`: it begins with STEM and ends in `.mem`, and no other
-    /// source with a longer name has it.
+    /// Whether a name is that of a memory text for the source `STEM.nova`: it begins with STEM and ends in `.mem` or `.nmem`, and
+    /// no other source with a longer name has it.
     pub fn is_memory_of(&self, stem: &str, name: &str) -> bool {
-        match name.strip_suffix(".mem") {
-            Some(base) => base.starts_with(stem) && !self.has_nearer(stem, base),
+        match case_of(name) {
+            Some(base) => self.is_case_of(stem, base),
             None => false,
         }
+    }
+
+    /// Whether a name is that of an outcome text for the source `STEM.nova`, and no memory text is beside it.
+    pub fn is_lonely(&self, stem: &str, name: &str) -> bool {
+        match name.strip_suffix(".out") {
+            Some(base) => self.is_case_of(stem, base) && !self.has_memory(base),
+            None => false,
+        }
+    }
+
+    fn is_case_of(&self, stem: &str, base: &str) -> bool {
+        base.starts_with(stem) && !self.has_nearer(stem, base)
+    }
+
+    // Whether a memory text has this name without its ending.
+    fn has_memory(&self, base: &str) -> bool {
+        for other in self.names.iter() {
+            if case_of(other.as_str()) == Some(base) {
+                return true;
+            }
+        }
+        false
     }
 
     fn has_nearer(&self, stem: &str, base: &str) -> bool {
@@ -90,6 +112,14 @@ impl<'a> Folder<'a> {
             }
         }
         false
+    }
+}
+
+/// The name of a memory text without its ending, `.mem` or `.nmem`.
+pub fn case_of(name: &str) -> Option<&str> {
+    match name.strip_suffix(".mem") {
+        Some(base) => Some(base),
+        None => name.strip_suffix(".nmem"),
     }
 }
 

@@ -15,6 +15,7 @@ mod page;
 mod simulation;
 mod testing;
 mod top;
+mod verdict;
 
 pub use folders::{FolderError, Folders};
 pub use nova_show::Ending;

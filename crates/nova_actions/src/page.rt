@@ -11,9 +11,11 @@ use crate::simulation::run_object;
 use diag_source::sizes::push_typed_sizes;
 use nova_compile::{Compiled, no_weights};
 use nova_page::{push_page_block, push_page_end, push_page_head};
-use nova_show::{Answer, Ending, Saving, add_saving, counts_of, list_object, load};
+use nova_show::{
+    Answer, Ending, MemoryText, Saving, add_saving, counts_of, list_object, load, load_memory,
+};
 use nova_words::{Page, Run};
-use novac_words::limits::{MEMORY_LIMIT, SOURCE_LIMIT};
+use novac_words::limits::SOURCE_LIMIT;
 use nv_lines::Message;
 use nv_outside::Files;
 use std::alloc::{AllocError, Global};
@@ -78,19 +80,19 @@ fn page_as<F: Files>(
     }
 }
 
-// The bytes of the memory text, and none where the words don't name one.
+// The memory text, and an empty one where the words don't name one.
 fn memory_for<F: Files>(
     alloc: Global,
     files: &mut F,
     words: Page,
     answer: &mut Answer,
-) -> Option<Vec<u8>>
-    ensures within { IfSome result (λ bytes. length bytes.items ≤ memory_limit) }
+) -> Option<MemoryText>
+    ensures within { IfSome result (λ memory. length memory.text.items ≤ memory_limit) }
     ensures held { F.held files.new ≡ F.held files.old }
 {
     match words.memory {
-        Some(name) => load(alloc, files, name, MEMORY_LIMIT, answer),
-        None => Some(Vec::new(alloc)),
+        Some(name) => load_memory(alloc, files, name, answer),
+        None => Some(MemoryText::of(Vec::new(alloc))),
     }
 }
 
@@ -112,13 +114,13 @@ fn page_on(
     words: Page,
     name: &str,
     source: &[u8],
-    memory: &[u8],
+    memory: &MemoryText,
     savings: &mut Vec<Saving>,
     answer: &mut Answer,
 )
     requires steps { words.steps ≤ 100000000 }
     requires source { length source.now ≤ source_limit }
-    requires memory { length memory.now ≤ memory_limit }
+    requires memory { length memory.now.text.items ≤ memory_limit }
 {
     let ones = no_weights(alloc);
     let mut none = Vec::new(alloc);
@@ -205,11 +207,11 @@ fn push_run(
     page: &mut Message,
     words: Page,
     object: &[u8],
-    memory: &[u8],
+    memory: &MemoryText,
     answer: &mut Answer,
 ) -> bool
     requires steps { words.steps ≤ 100000000 }
-    requires memory { length memory.now ≤ memory_limit }
+    requires memory { length memory.now.text.items ≤ memory_limit }
 {
     let Some(name) = words.memory else {
         return true;
@@ -231,7 +233,7 @@ fn push_run(
         answer.ending = Ending::Failed;
         answer.err.message_text(&err);
     } else {
-        push_page_block(page, "memory", memory);
+        push_page_block(page, "memory", &memory.text);
         push_text(page, "outcome", out);
         push_text(page, "profile", err);
     }

@@ -4,11 +4,12 @@ ghost use Rattle.novac_words.specs.Limits.{object_limit, memory_limit};
 
 use crate::compiled::object_of_source;
 use nova_show::{
-    Answer, Ending, Saving, Visits, load, push_profile, push_refusal, save_counts, visits_of,
+    Answer, Ending, MemoryText, Saving, Visits, load, load_memory, push_profile, push_run_refusal,
+    save_counts, visits_of,
 };
 use nova_words::Run;
 use novac_machine::run_bytes;
-use novac_words::limits::{MEMORY_LIMIT, OBJECT_LIMIT};
+use novac_words::limits::OBJECT_LIMIT;
 use novac_words::{Reply, Status};
 use nv_outside::Files;
 use std::alloc::Global;
@@ -46,7 +47,7 @@ fn simulate_on<F: Files>(
     let Some(program) = load(alloc, files, words.program, OBJECT_LIMIT, answer) else {
         return;
     };
-    let Some(memory) = load(alloc, files, words.memory, MEMORY_LIMIT, answer) else {
+    let Some(memory) = load_memory(alloc, files, words.memory, answer) else {
         return;
     };
     if let Some(object) = object_for(alloc, words.program, program, answer) {
@@ -85,22 +86,47 @@ pub fn run_object(
     alloc: Global,
     words: Run,
     object: &[u8],
-    memory: &[u8],
+    memory: &MemoryText,
     savings: &mut Vec<Saving>,
     answer: &mut Answer,
 )
     requires steps { words.steps ≤ 100000000 }
-    requires memory { length memory.now ≤ memory_limit }
+    requires memory { length memory.now.text.items ≤ memory_limit }
 {
     if object.len() as u64 > OBJECT_LIMIT {
         return answer.fault(words.program, "the object is too long");
     }
-    match run_bytes(alloc, object, memory, u64::from(words.steps)) {
+    match run_bytes(alloc, object, &memory.text, u64::from(words.steps)) {
         Ok(reply) => {
             push_reply(reply, answer);
-            push_visits(alloc, words, object, memory, savings, answer)
+            push_visits(alloc, words, object, &memory.text, savings, answer)
         }
-        Err(refusal) => push_refusal(words.program, words.memory, refusal, answer),
+        Err(refusal) => {
+            let params = params_of(alloc, object);
+            push_run_refusal(
+                alloc,
+                words.program,
+                params,
+                words.memory,
+                memory,
+                refusal,
+                answer,
+            )
+        }
+    }
+}
+
+// How many words the code of an object takes.
+fn params_of(alloc: Global, object: &[u8]) -> Option<u8>
+    requires { length object.now ≤ object_limit }
+{
+    match decode(alloc, object) {
+        Ok(object) => {
+            let params = object.code().params();
+            drop(object);
+            Some(params)
+        }
+        Err(_) => None,
     }
 }
 

@@ -2,12 +2,13 @@
 ghost use Rattle.std.specs.Prelude.{◌≡◌, ◌≤◌, length};
 ghost use Rattle.novac_words.specs.Limits.{memory_limit, object_limit, source_limit};
 
-use crate::compare::{push_difference, push_plain};
+use crate::compare::push_plain;
 use crate::compiled::{object_of_source, push_refused};
 use crate::folders::Folders;
-use crate::found::{Folder, folder_at, split_path};
+use crate::found::{Folder, case_of, folder_at, split_path};
+use crate::verdict::{Outcomes, push_verdict};
 use nova_front::{FrontError, typed};
-use nova_show::{Answer, Ending, load, push_refusal};
+use nova_show::{Answer, Ending, MemoryText, load, load_memory, push_run_refusal};
 use nova_words::Test;
 use novac_machine::{exec_job, job_of, run_bytes};
 use novac_words::limits::{MEMORY_LIMIT, OBJECT_LIMIT, SOURCE_LIMIT};
@@ -70,7 +71,7 @@ fn push_tally(tally: Tally, answer: &mut Answer) {
     if tally.passed == 0 && tally.failed == 0 {
         answer.fault(
             "nova",
-            "no memory text `NAME*.mem` was found beside a source `NAME.nova`",
+            "no memory text `NAME*.mem` or `NAME*.nmem` was found beside a source `NAME.nova`",
         );
     }
     if tally.failed > 0 {
@@ -207,6 +208,7 @@ fn test_program<F: Files>(
         Some(stem) => stem,
         None => name,
     };
+    push_lonely(alloc, folder, stem, tally, answer);
     for memory in folder.names.iter() {
         if folder.is_memory_of(stem, memory.as_str()) {
             test_memory(
@@ -218,6 +220,22 @@ fn test_program<F: Files>(
                 tally,
                 answer,
             );
+        }
+    }
+}
+
+// Outcome texts without a memory text are faults.
+fn push_lonely(alloc: Global, folder: &Folder, stem: &str, tally: &mut Tally, answer: &mut Answer) {
+    for name in folder.names.iter() {
+        if folder.is_lonely(stem, name.as_str()) {
+            if let Some(path) = folder.path_of(alloc, name.as_str(), answer) {
+                tally.miss();
+                answer.out.put(path.as_str());
+                answer.out.line(
+                    ": FAILED: no memory text `.mem` or `.nmem` of this name is beside the outcome text",
+                );
+                drop(path)
+            }
         }
     }
 }
@@ -240,10 +258,10 @@ fn test_memory<F: Files>(
         return;
     };
     let path = path.as_str();
-    let Some(text) = load(alloc, files, path, MEMORY_LIMIT, answer) else {
+    let Some(memory) = load_memory(alloc, files, path, answer) else {
         return tally.miss();
     };
-    let Some((meant, done)) = outcomes_on(alloc, program, path, &text, answer) else {
+    let Some((meant, done)) = outcomes_on(alloc, program, path, &memory, answer) else {
         return tally.miss();
     };
     let expected = expected_of(alloc, files, folder, name, answer);
@@ -254,6 +272,7 @@ fn test_memory<F: Files>(
         },
         meant: &meant,
         done: &done,
+        steps: program.steps,
     };
     if push_verdict(path, outcomes, answer) {
         tally.pass()
@@ -267,25 +286,28 @@ fn outcomes_on(
     alloc: Global,
     program: Program,
     path: &str,
-    text: &[u8],
+    memory: &MemoryText,
     answer: &mut Answer,
 ) -> Option<(Vec<u8>, Vec<u8>)>
     requires steps { program.steps ≤ 100000000 }
     requires object { length program.object.now ≤ object_limit }
-    requires memory { length text.now ≤ memory_limit }
+    requires memory { length memory.now.text.items ≤ memory_limit }
 {
     let steps = u64::from(program.steps);
-    let meant = text_of(program, path, reply_of(alloc, program, text), answer)?;
-    let done = text_of(
-        program,
-        path,
-        run_bytes(alloc, program.object, text, steps),
-        answer,
-    )?;
+    let meant = reply_of(alloc, program, &memory.text);
+    let meant = text_of(alloc, program, path, memory, meant, answer)?;
+    let done = run_bytes(alloc, program.object, &memory.text, steps);
+    let done = text_of(alloc, program, path, memory, done, answer)?;
+    let done = plain_of(alloc, done, answer)?;
+    Some((meant, done))
+}
+
+// An outcome text without the line that names an exception.
+fn plain_of(alloc: Global, text: Vec<u8>, answer: &mut Answer) -> Option<Vec<u8>> {
     let mut plain = Message::new(alloc);
-    push_plain(&mut plain, &done);
+    push_plain(&mut plain, &text);
     match plain.into_bytes() {
-        Ok(done) => Some((meant, done)),
+        Ok(text) => Some(text),
         Err(AllocError) => {
             answer.fail();
             None
@@ -303,21 +325,24 @@ fn reply_of<'a>(alloc: Global, program: Program, text: &[u8]) -> Result<Reply, R
 }
 
 fn text_of(
+    alloc: Global,
     program: Program,
     path: &str,
+    memory: &MemoryText,
     reply: Result<Reply, Refusal>,
     answer: &mut Answer,
 ) -> Option<Vec<u8>> {
     match reply {
         Ok(Reply { status: _, text }) => Some(text),
         Err(refusal) => {
-            push_refusal(program.path, path, refusal, answer);
+            let params = Some(program.typed.params());
+            push_run_refusal(alloc, program.path, params, path, memory, refusal, answer);
             None
         }
     }
 }
 
-// The outcome text beside a memory text, if there is one.
+// The outcome text beside a memory text, if there is one, without a line that names an exception.
 fn expected_of<F: Files>(
     alloc: Global,
     files: &mut F,
@@ -327,7 +352,7 @@ fn expected_of<F: Files>(
 ) -> Option<Vec<u8>>
     ensures held { F.held files.new ≡ F.held files.old }
 {
-    let stem = name.strip_suffix(".mem")?;
+    let stem = case_of(name)?;
     let Ok(name) = format!(in alloc; "{stem}.out") else {
         answer.fail();
         return None;
@@ -336,39 +361,6 @@ fn expected_of<F: Files>(
         return None;
     }
     let path = folder.path_of(alloc, name.as_str(), answer)?;
-    load(alloc, files, path.as_str(), MEMORY_LIMIT, answer)
-}
-
-// What a run should print, and what both runs print.
-#[derive(Clone, Copy)]
-struct Outcomes<'a> {
-    expected: Option<&'a [u8]>,
-    meant: &'a [u8],
-    done: &'a [u8],
-}
-
-// Says whether both runs print what they should, and gives whether they do.
-fn push_verdict(path: &str, outcomes: Outcomes, answer: &mut Answer) -> bool {
-    let out = &mut answer.out;
-    out.put(path);
-    let expected = match outcomes.expected {
-        Some(expected) => expected,
-        None => outcomes.meant,
-    };
-    if expected != outcomes.meant {
-        out.line(": FAILED: the program doesn't do what the outcome text says");
-        push_difference(out, expected, outcomes.meant);
-        false
-    } else if outcomes.meant != outcomes.done {
-        out.line(": FAILED: the code doesn't do what the program means, within so many steps");
-        push_difference(out, outcomes.meant, outcomes.done);
-        false
-    } else {
-        out.line(if outcomes.expected.is_some() {
-            ": ok"
-        } else {
-            ": ok, without an outcome text"
-        });
-        true
-    }
+    let text = load(alloc, files, path.as_str(), MEMORY_LIMIT, answer)?;
+    plain_of(alloc, text, answer)
 }

@@ -56,8 +56,12 @@ impl Answer {
 
     /// Appends a fault of a file.
     pub fn push(&mut self, name: &str, finding: Finding) {
+        self.push_in(Source { name, bytes: b"" }, finding)
+    }
+
+    /// Appends a fault that has a place in the bytes of a file.
+    pub fn push_in(&mut self, source: Source, finding: Finding) {
         self.ending = Ending::Failed;
-        let source = Source { name, bytes: b"" };
         finding.push(self.alloc, &mut self.err, self.form, source);
         drop(finding)
     }

@@ -121,19 +121,20 @@ const CHECK: [&str; 10] = [
     "The status is 1 where a source is refused. A warning doesn't change it.",
 ];
 
-const TEST: [&str; 13] = [
+const TEST: [&str; 14] = [
     "nova test SRC-or-FOLDER .. [--steps N]",
     "",
-    "Runs each source NAME.nova on the memory texts NAME*.mem in its folder, by the interpreter and by its compiled code.",
-    "Both have to print the same outcome. Where a memory text X.mem has an outcome text X.out beside it, they have to",
-    "print that. Of a FOLDER each source in it is tested.",
+    "Runs each source NAME.nova on the memory texts NAME*.mem and NAME*.nmem in its folder, by the interpreter and by its",
+    "compiled code. Both have to print the same outcome. Where a memory text X.mem or X.nmem has an outcome text X.out",
+    "beside it, they have to print that, but for a line that names an exception. Of a FOLDER each source in it is tested.",
     "",
     "  --steps N        how many steps the code, and how many calls the interpreter may take, 1 to 100000000; by default",
     "                   1000000",
     "",
     "Prints a line for each memory text, the first line that differs where one failed, and how many passed and failed.",
     "A memory text belongs to the source with the longest name that it begins with.",
-    "The status is 0 where all passed, and 1 where one failed, a source is refused, or there is no memory text.",
+    "The status is 0 where all passed, and 1 where one failed, a source is refused, there is no memory text, or an outcome",
+    "text has none.",
     "`novac exec SRC MEM steps=N` prints an outcome text.",
 ];
 

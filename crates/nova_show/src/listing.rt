@@ -27,7 +27,7 @@ pub fn list_object(alloc: Global, name: &str, bytes: &[u8], form: &[u8], answer:
             push_object(alloc, &mut answer.out, &object, form);
             drop(object)
         }
-        Err(ObjectError::Bad(at)) => push_refusal(name, name, Refusal::BadObject(at), answer),
+        Err(ObjectError::Bad(at)) => push_refusal(name, Refusal::BadObject(at), answer),
         Err(ObjectError::NoMemory) => answer.fail(),
     }
 }
