@@ -5,7 +5,7 @@ ghost use Rattle.nova_show.specs.Paths.{system_path};
 ghost use Rattle.nova_fmt_files.specs.Formatted.{IsFormattedFile};
 ghost use Rattle.nova_fmt.specs.Same.{IsFormatted};
 
-use diag_source::push_fault_as;
+use diag_source::Checked;
 use nova_fmt::formatted;
 use nova_show::{Answer, Ending, Saving, add_saving, load};
 use nova_words::Format;
@@ -116,7 +116,9 @@ fn format_text(alloc: Global, name: &str, text: &[u8], answer: &mut Answer) -> O
 }
 
 fn push_refused(alloc: Global, name: &str, text: &[u8], answer: &mut Answer) {
-    let _ = push_fault_as(alloc, &mut answer.err, answer.form, name, text);
+    let it = Checked::new(alloc, name, text);
+    let _ = it.push_faults(alloc, &mut answer.err, answer.form);
+    drop(it);
     answer.ending = Ending::Failed;
 }
 
