@@ -9,6 +9,7 @@ ghost use Rattle.nova_middle.specs.Reduced.{AreReduced};
 use crate::program::reduce;
 use flow_ir::Flow;
 use flow_merge::copy_joins;
+use flow_words::simpler_words;
 use nv_base::NoMemory;
 use std::alloc::Global;
 
@@ -17,7 +18,8 @@ fn improved_once(alloc: Global, f: &Flow) -> Result<Flow, NoMemory>
     ensures kept { IfOk result (λ g. KeepsOutcomes (flow_params (map label_view f.now.labels.items)) (flow_params (map label_view g.labels.items)) (flow_meaning (map label_view f.now.labels.items)) (flow_meaning (map label_view g.labels.items))) }
     ensures reduced { IfOk result (λ g. AreReduced (map label_view g.labels.items)) }
 {
-    let copied = copy_joins(alloc, f)?;
+    let simple = simpler_words(alloc, f)?;
+    let copied = copy_joins(alloc, &simple)?;
     reduce(alloc, &copied)
 }
 
