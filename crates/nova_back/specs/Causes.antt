@@ -16,6 +16,7 @@ use Rattle.uc_isa_executions.specs.Starts.{AreStarts}
 use Rattle.ucode_emit.specs.SpillBase.{SpillsByBase}
 use Rattle.ucode_emit.specs.Operations.{code_operations, form_operations}
 use Rattle.nova_back.specs.LeftOut.{LeavesOut}
+use Rattle.nova_back.specs.Placed.{IsPlacedBy}
 use Rattle.zo_model.specs.Contents.{contents}
 use Rattle.zo_model.specs.Program.{columns, cost_of, vector}
 use Rattle.zo_cert.specs.Certificate.{IsTreeWith, branches}
@@ -122,12 +123,13 @@ pub record IsWithout (labels : List Label) (slots : ℕ) (ws : List ℕ) (budget
   pub over_bank : 15 < peak labels
   pub over_slots : slots < peak labels
 
--- the code by a report's vector has so many instructions, more than were allowed
+-- the code that a report's vector gives has so many instructions, more than were allowed
 pub record IsLong (labels : List Label) (slots : ℕ) (ws : List ℕ) (budget store n : ℕ) : Type 0 where
   pub r : Report
   pub c : CodeView
   pub starts : List ℕ
   pub code : IsCodeBy labels slots ws budget r c starts
+  pub placed : IsPlacedBy labels slots (vector r.x.on.items) c.list
   pub counted : n ≡ length c.list
   pub bounded : n ≤ code_bound labels
   pub long : store < n

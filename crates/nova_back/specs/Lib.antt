@@ -1,5 +1,5 @@
 pub mod LeftOut
+pub mod Placed
 pub mod Causes
 pub mod Memory
-pub mod Placed
 pub mod inner

@@ -149,6 +149,7 @@ long p labels slots ws budget store n form none h = record {
   starts = h.starts;
   code = code-for p labels slots h.c form h.code.code;
   banks = banks-of p labels slots ws budget h.c h.starts h.r form h.code.report h.code.found h.code.code h.code.labels_start h.code.light h.code.cheap;
+  placed = h.placed;
   few = columns-few labels slots none;
   few_rows = rows-few labels slots none;
   counted = h.counted;

@@ -22,6 +22,7 @@ use Rattle.zo_cert.specs.declared.report.Report.{Report}
 use Rattle.zo_cert.specs.declared.report.Verdict.{Verdict}
 use Rattle.zo_cert.specs.declared.report.Verdict.TheVariants.{Optimal}
 use Rattle.nova_back.specs.Causes.{IsCodeOf, AreStartsOf, IsReportOn, IsCheapFor, IsWithout, HasVector, report_cost}
+use Rattle.nova_back.specs.Placed.{IsPlacedBy}
 
 -- what bounds the size of a program's form, and the length of its code
 abbrev pub form_bound : ProgramTree → ℕ
@@ -90,14 +91,15 @@ pub record HasNoBanks (program : ProgramTree) (slots : ℕ) (ws : List ℕ) (bud
   pub without : IsWithout form slots ws budget verdict r
   pub few_slots : slots < room program
 
--- the program of the banks of a form of the program fits, and the code by the report on them has so many instructions, more than were
--- allowed
+-- the program of the banks of a form of the program fits, and the code that the vector of the report on them gives has so many instructions,
+-- more than were allowed
 pub record HasLongCode (program : ProgramTree) (slots : ℕ) (ws : List ℕ) (budget store n : ℕ) : Type 0 where
   pub r : Report
   pub c : CodeView
   pub starts : List ℕ
   pub code : IsCodeFor program c
   pub banks : HasBanks program slots ws budget c starts r
+  pub placed : IsPlacedBy banks.form slots (vector r.x.on.items) c.list
   pub few : length (columns banks.form) ≤ 2 ^ 26
   pub few_rows : length (rows banks.form slots) ≤ 2 ^ 26
   pub counted : n ≡ length c.list

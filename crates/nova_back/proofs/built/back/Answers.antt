@@ -109,6 +109,7 @@ returns-then-instructions-store-clause-refused g =
       starts = g.in_ok-emitted.emitted.starts.items;
       code = subst (λ (t : Ssu). IsCodeBy (labels_view t) g.args.slots g.args.w.now g.args.budget report g.in_ok-emitted.emitted.code g.in_ok-emitted.emitted.starts.items) g.in_ok-bank.ensures.form
           (code-by labels g.args.slots g.args.w.now g.args.budget report g.in_ok-emitted.emitted.code g.in_ok-emitted.emitted.starts.items g.in_ok-report.ensures.chosen code.code code.starts (code.light g.args.w.now));
+      placed = subst (λ (t : Ssu). IsPlacedBy (labels_view t) g.args.slots (vector report.x.on.items) g.in_ok-emitted.emitted.code.list) g.in_ok-bank.ensures.form code.placed;
       counted = same;
       bounded = omega (arith, same, brief);
       long = omega (arith, g.if-instructions-store.true);
