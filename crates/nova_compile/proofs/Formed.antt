@@ -24,6 +24,7 @@ use Rattle.ssu_ir.specs.Single.{single}
 use Rattle.ssu_ir.specs.Tree.{Label}
 use Rattle.ssu_make.specs.Bounds.{size_bound, length_bound}
 use Rattle.nova_middle.proofs.SourceBounds.{size_end, code_end}
+use Rattle.nova_middle.specs.Reduced.{IsMadeOfReduced}
 use Rattle.bank_prog_form.specs.Columns.{columns}
 use Rattle.bank_prog_form.specs.Program.{rows, IsTooLarge}
 use Rattle.uc_isa.specs.Code.{CodeView}
@@ -68,9 +69,10 @@ roomy p = eight _
 pub form-of : (p : ProgramTree) (funs : List FlatFun) (main : ℕ) (labels : List Label) → is_program funs main ≡ true
     → KeepsOutcomes (main_words p) (params_in funs main) (source p) (flat_meaning funs main) → wide funs main ≤ room p → IsAtMost (bulk funs main) (of_size (expanded_size p))
     → single labels ≡ true → KeepsOutcomes (params_in funs main) (ssu_params labels) (flat_meaning funs main) (ssu_meaning labels) → peak labels ≤ wide funs main → size labels ≤ size_bound (wide funs main) (bulk funs main)
-    → code_bound labels ≤ length_bound (wide funs main) (bulk funs main) → IsBoundedFormOf p labels
-form-of p funs main labels formed kept narrow most once later held bounded coded = record {
+    → code_bound labels ≤ length_bound (wide funs main) (bulk funs main) → IsMadeOfReduced labels → IsBoundedFormOf p labels
+form-of p funs main labels formed kept narrow most once later held bounded coded made = record {
   form = record { used_once = once; kept = keeps-trans (main_words p) (params_in funs main) (ssu_params labels) (source p) (flat_meaning funs main) (ssu_meaning labels) kept later };
+  made = made;
   narrow = le_trans held narrow;
   small = le_trans bounded (size_end (expanded_size p) (room p) (wide funs main) (bulk funs main) (some-size funs main (expanded_size p) formed most) (roomy p) narrow most);
   brief = le_trans coded (code_end (expanded_size p) (room p) (wide funs main) (bulk funs main) (some-size funs main (expanded_size p) formed most) (roomy p) narrow most);

@@ -23,6 +23,7 @@ use Rattle.zo_cert.specs.declared.report.Verdict.{Verdict}
 use Rattle.zo_cert.specs.declared.report.Verdict.TheVariants.{Optimal}
 use Rattle.nova_back.specs.Causes.{IsCodeOf, AreStartsOf, IsReportOn, IsCheapFor, IsWithout, HasVector, report_cost}
 use Rattle.nova_back.specs.Placed.{IsPlacedBy}
+use Rattle.nova_middle.specs.Reduced.{IsMadeOfReduced}
 
 -- what bounds the size of a program's form, and the length of its code
 abbrev pub form_bound : ProgramTree → ℕ
@@ -37,9 +38,10 @@ pub record IsFormOf (program : ProgramTree) (labels : List Label) : Type 0 where
   pub used_once : single labels ≡ true
   pub kept : KeepsOutcomes (main_words program) (ssu_params labels) (source program) (ssu_meaning labels)
 
--- the same of a form that keeps to the program's bounds
+-- the same of a form that keeps to the program's bounds, made of a flow in which the passes have nothing left to do
 pub record IsBoundedFormOf (program : ProgramTree) (labels : List Label) : Type 0 where
   pub form : IsFormOf program labels
+  pub made : IsMadeOfReduced labels
   pub narrow : peak labels ≤ room program
   pub small : size labels ≤ form_bound program
   pub brief : code_bound labels ≤ form_bound program

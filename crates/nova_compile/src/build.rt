@@ -11,7 +11,6 @@ ghost use Rattle.nova_back.specs.Causes.{IsCodeOf, AreStartsOf, IsReportOn, HasV
 ghost use Rattle.nova_back.specs.Memory.{IsWithinBound};
 ghost use Rattle.nova_back.specs.Placed.{IsPlacedBy};
 ghost use Rattle.nova_front.specs.Sources.{IsTypedSource};
-ghost use Rattle.nova_middle.specs.Reduced.{IsMadeOfReduced};
 ghost use Rattle.nova_compile.specs.Building.{IsCompileCause, IsFormCause, IsTextCause};
 ghost use Rattle.nova_compile.specs.Forms.{form_bound, IsCodeFor, IsBoundedFormOf, HasBanks};
 
@@ -136,8 +135,6 @@ pub fn compile_text(
     ensures cheap { IfOk result (λ t. peak (labels_view t.built.ssu) ≤ 15 → IsCheapFor (labels_view t.built.ssu) w.now (report_cost t.built.report)) }
     ensures banks { IfOk result (λ t. HasBanks (typed_program t.typed) slots w.now budget t.built.code t.built.starts.items t.built.report) }
     ensures bounded { IfOk result (λ t. IsWithinBound (labels_view t.built.ssu)) }
-    // The form is that of a flow in which the passes have nothing left to do.
-    ensures made { IfOk result (λ t. IsMadeOfReduced (labels_view t.built.ssu)) }
     ensures only_program { (p : ProgramTree) → IsTypedSource bytes.now p → MatchResult result (λ t. typed_program t.typed ≡ p) (λ e. (e ≡ CompileError.NoMemory) ⊎ IsFormCause p slots w.now budget store e) }
     ensures refused { IfErr result (λ e. (e ≡ CompileError.NoMemory) ⊎ IsCompileCause bytes.now slots w.now budget store e) }
     ensures only_refused { (f : CompileError) → IsTextCause bytes.now f → MatchResult result (λ _. ⊥) (λ e. (e ≡ CompileError.NoMemory) ⊎ (e ≡ f)) }

@@ -10,17 +10,15 @@ use Rattle.zo_model.specs.Program.{vector}
 use Rattle.nova_back.specs.Causes.{IsCodeOf, AreStartsOf, IsReportOn}
 use Rattle.nova_back.specs.Placed.{IsPlacedBy}
 use Rattle.nova_front.specs.Sources.{IsTypedSource}
-use Rattle.nova_middle.specs.Reduced.{IsMadeOfReduced}
 use Rattle.nova_compile.specs.Forms.{form_bound, IsCodeFor, IsBoundedFormOf, HasBanks, HasNoBanks}
 use Rattle.nova_compile.specs.declared.build.Compiled.{Compiled}
 use Rattle.nova_compile.specs.declared.build.CompileError.{CompileError}
 use Rattle.nova_compile.specs.declared.build.CompileError.TheVariants as compile
 
--- The form that is returned beside the code is one of the program, made of a flow in which the passes have nothing left to do. The code is that
--- of this form, whose labels start at these places. The report is on its banks, and the code is by a placement that is read from its vector.
+-- The form that is returned beside the code is one of the program. The code is that of this form, whose labels start at these places. The
+-- report is on its banks, and the code is by a placement that is read from its vector.
 pub record IsOfItsForm (slots : ℕ) (ws : List ℕ) (budget : ℕ) (t : Compiled) : Type 0 where
   pub is_form : IsBoundedFormOf (typed_program t.typed) (labels_view t.built.ssu)
-  pub made : IsMadeOfReduced (labels_view t.built.ssu)
   pub code : IsCodeOf (labels_view t.built.ssu) slots t.built.code
   pub starts : AreStartsOf (labels_view t.built.ssu) t.built.code t.built.starts.items
   pub report : IsReportOn (labels_view t.built.ssu) slots ws budget t.built.report

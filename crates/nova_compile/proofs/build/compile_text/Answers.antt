@@ -15,13 +15,13 @@ returns-in_err-typed-clause-only_refused c = λ f h.
 
 pub returns-in_err-built-clause-only_program : goal.returns-in_err-built-clause-only_program
 returns-in_err-built-clause-only_program c = λ p s.
-    let form : IsBoundedFormOf (typed_program c.in_ok-typed.typed) (labels_view c.in_ok-form.form) = form-of _ c.in_ok-typed.flat.funs.items c.in_ok-typed.flat.main _ c.in_ok-typed.flat.formed c.in_ok-typed.ensures.kept c.in_ok-typed.ensures.wide c.in_ok-typed.ensures.bulk c.in_ok-form.ensures.single c.in_ok-form.ensures.kept c.in_ok-form.ensures.peak c.in_ok-form.ensures.size c.in_ok-form.ensures.code in
+    let form : IsBoundedFormOf (typed_program c.in_ok-typed.typed) (labels_view c.in_ok-form.form) = form-of _ c.in_ok-typed.flat.funs.items c.in_ok-typed.flat.main _ c.in_ok-typed.flat.formed c.in_ok-typed.ensures.kept c.in_ok-typed.ensures.wide c.in_ok-typed.ensures.bulk c.in_ok-form.ensures.single c.in_ok-form.ensures.kept c.in_ok-form.ensures.peak c.in_ok-form.ensures.size c.in_ok-form.ensures.code c.in_ok-form.ensures.made in
     let e = err_from_is_err_and c.from_residual-in_err-built.result c.from_residual-in_err-built.ensures.1 in
     rw e.1 (form-want c.args.bytes.now c.args.slots c.args.w.now c.args.budget c.args.store (typed_program c.in_ok-typed.typed) p e.0 c.in_ok-typed.ensures.program s (back-caused _ (labels_view c.in_ok-form.form) c.args.slots c.args.w.now c.args.budget c.args.store _ e.0 form c.in_err-built.ensures.only_large c.in_err-built.ensures.refused e.2))
 
 pub returns-in_err-built-clause-refused : goal.returns-in_err-built-clause-refused
 returns-in_err-built-clause-refused c =
-    let form : IsBoundedFormOf (typed_program c.in_ok-typed.typed) (labels_view c.in_ok-form.form) = form-of _ c.in_ok-typed.flat.funs.items c.in_ok-typed.flat.main _ c.in_ok-typed.flat.formed c.in_ok-typed.ensures.kept c.in_ok-typed.ensures.wide c.in_ok-typed.ensures.bulk c.in_ok-form.ensures.single c.in_ok-form.ensures.kept c.in_ok-form.ensures.peak c.in_ok-form.ensures.size c.in_ok-form.ensures.code in
+    let form : IsBoundedFormOf (typed_program c.in_ok-typed.typed) (labels_view c.in_ok-form.form) = form-of _ c.in_ok-typed.flat.funs.items c.in_ok-typed.flat.main _ c.in_ok-typed.flat.formed c.in_ok-typed.ensures.kept c.in_ok-typed.ensures.wide c.in_ok-typed.ensures.bulk c.in_ok-form.ensures.single c.in_ok-form.ensures.kept c.in_ok-form.ensures.peak c.in_ok-form.ensures.size c.in_ok-form.ensures.code c.in_ok-form.ensures.made in
     let e = err_from_is_err_and c.from_residual-in_err-built.result c.from_residual-in_err-built.ensures.1 in
     rw e.1 (form-cause c.args.bytes.now c.args.slots c.args.w.now c.args.budget c.args.store (typed_program c.in_ok-typed.typed) e.0 c.in_ok-typed.ensures.program (back-caused _ (labels_view c.in_ok-form.form) c.args.slots c.args.w.now c.args.budget c.args.store _ e.0 form c.in_err-built.ensures.only_large c.in_err-built.ensures.refused e.2))
 
@@ -30,12 +30,12 @@ returns-in_err-built-clause-only_refused c = λ f h. absurd (text-good c.args.by
 
 pub returns-clause-form : goal.returns-clause-form
 returns-clause-form c =
-    let form : IsBoundedFormOf (typed_program c.in_ok-typed.typed) (labels_view c.in_ok-form.form) = form-of _ c.in_ok-typed.flat.funs.items c.in_ok-typed.flat.main _ c.in_ok-typed.flat.formed c.in_ok-typed.ensures.kept c.in_ok-typed.ensures.wide c.in_ok-typed.ensures.bulk c.in_ok-form.ensures.single c.in_ok-form.ensures.kept c.in_ok-form.ensures.peak c.in_ok-form.ensures.size c.in_ok-form.ensures.code in
+    let form : IsBoundedFormOf (typed_program c.in_ok-typed.typed) (labels_view c.in_ok-form.form) = form-of _ c.in_ok-typed.flat.funs.items c.in_ok-typed.flat.main _ c.in_ok-typed.flat.formed c.in_ok-typed.ensures.kept c.in_ok-typed.ensures.wide c.in_ok-typed.ensures.bulk c.in_ok-form.ensures.single c.in_ok-form.ensures.kept c.in_ok-form.ensures.peak c.in_ok-form.ensures.size c.in_ok-form.ensures.code c.in_ok-form.ensures.made in
     subst (IsBoundedFormOf (typed_program c.in_ok-typed.typed)) (sym c.in_ok-built.ensures.form) form
 
 pub returns-clause-code : goal.returns-clause-code
 returns-clause-code c =
-    let form : IsBoundedFormOf (typed_program c.in_ok-typed.typed) (labels_view c.in_ok-form.form) = form-of _ c.in_ok-typed.flat.funs.items c.in_ok-typed.flat.main _ c.in_ok-typed.flat.formed c.in_ok-typed.ensures.kept c.in_ok-typed.ensures.wide c.in_ok-typed.ensures.bulk c.in_ok-form.ensures.single c.in_ok-form.ensures.kept c.in_ok-form.ensures.peak c.in_ok-form.ensures.size c.in_ok-form.ensures.code in
+    let form : IsBoundedFormOf (typed_program c.in_ok-typed.typed) (labels_view c.in_ok-form.form) = form-of _ c.in_ok-typed.flat.funs.items c.in_ok-typed.flat.main _ c.in_ok-typed.flat.formed c.in_ok-typed.ensures.kept c.in_ok-typed.ensures.wide c.in_ok-typed.ensures.bulk c.in_ok-form.ensures.single c.in_ok-form.ensures.kept c.in_ok-form.ensures.peak c.in_ok-form.ensures.size c.in_ok-form.ensures.code c.in_ok-form.ensures.made in
     code-for _ _ _ _ form c.in_ok-built.ensures.code
 
 pub returns-clause-form_code : goal.returns-clause-form_code
@@ -43,7 +43,7 @@ returns-clause-form_code c = rw c.in_ok-built.ensures.form c.in_ok-built.ensures
 
 pub returns-clause-brief : goal.returns-clause-brief
 returns-clause-brief c =
-    let form : IsBoundedFormOf (typed_program c.in_ok-typed.typed) (labels_view c.in_ok-form.form) = form-of _ c.in_ok-typed.flat.funs.items c.in_ok-typed.flat.main _ c.in_ok-typed.flat.formed c.in_ok-typed.ensures.kept c.in_ok-typed.ensures.wide c.in_ok-typed.ensures.bulk c.in_ok-form.ensures.single c.in_ok-form.ensures.kept c.in_ok-form.ensures.peak c.in_ok-form.ensures.size c.in_ok-form.ensures.code in
+    let form : IsBoundedFormOf (typed_program c.in_ok-typed.typed) (labels_view c.in_ok-form.form) = form-of _ c.in_ok-typed.flat.funs.items c.in_ok-typed.flat.main _ c.in_ok-typed.flat.formed c.in_ok-typed.ensures.kept c.in_ok-typed.ensures.wide c.in_ok-typed.ensures.bulk c.in_ok-form.ensures.single c.in_ok-form.ensures.kept c.in_ok-form.ensures.peak c.in_ok-form.ensures.size c.in_ok-form.ensures.code c.in_ok-form.ensures.made in
     le_trans c.in_ok-built.ensures.brief form.brief
 
 pub returns-clause-report : goal.returns-clause-report
@@ -55,9 +55,6 @@ returns-clause-starts c = rw c.in_ok-built.ensures.form c.in_ok-built.ensures.st
 pub returns-clause-cheap : goal.returns-clause-cheap
 returns-clause-cheap c = rw c.in_ok-built.ensures.form c.in_ok-built.ensures.cheap
 
-pub returns-clause-made : goal.returns-clause-made
-returns-clause-made c = rw c.in_ok-built.ensures.form c.in_ok-form.ensures.made
-
 pub returns-clause-placed : goal.returns-clause-placed
 returns-clause-placed c = rw c.in_ok-built.ensures.form c.in_ok-built.ensures.placed
 
@@ -66,7 +63,7 @@ returns-clause-bounded c = rw c.in_ok-built.ensures.form c.in_ok-built.ensures.b
 
 pub returns-clause-banks : goal.returns-clause-banks
 returns-clause-banks c =
-    let form : IsBoundedFormOf (typed_program c.in_ok-typed.typed) (labels_view c.in_ok-form.form) = form-of _ c.in_ok-typed.flat.funs.items c.in_ok-typed.flat.main _ c.in_ok-typed.flat.formed c.in_ok-typed.ensures.kept c.in_ok-typed.ensures.wide c.in_ok-typed.ensures.bulk c.in_ok-form.ensures.single c.in_ok-form.ensures.kept c.in_ok-form.ensures.peak c.in_ok-form.ensures.size c.in_ok-form.ensures.code in
+    let form : IsBoundedFormOf (typed_program c.in_ok-typed.typed) (labels_view c.in_ok-form.form) = form-of _ c.in_ok-typed.flat.funs.items c.in_ok-typed.flat.main _ c.in_ok-typed.flat.formed c.in_ok-typed.ensures.kept c.in_ok-typed.ensures.wide c.in_ok-typed.ensures.bulk c.in_ok-form.ensures.single c.in_ok-form.ensures.kept c.in_ok-form.ensures.peak c.in_ok-form.ensures.size c.in_ok-form.ensures.code c.in_ok-form.ensures.made in
     banks-of _ (labels_view c.in_ok-form.form) c.args.slots c.args.w.now c.args.budget _ _ _ form c.in_ok-built.ensures.report c.in_ok-built.ensures.found c.in_ok-built.ensures.code c.in_ok-built.ensures.starts c.in_ok-built.ensures.light c.in_ok-built.ensures.cheap
 
 pub returns-clause-only_refused : goal.returns-clause-only_refused

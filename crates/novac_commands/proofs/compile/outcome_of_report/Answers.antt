@@ -13,6 +13,6 @@ returns-in-Ok-clause-found c = record {
   code = c.in-Ok.ensures.code;
   short = c.in-Ok.ensures.short;
   brief = c.in-Ok.ensures.brief;
-  form = record { is_form = c.in-Ok.ensures.form; made = c.in-Ok.ensures.made; code = c.in-Ok.ensures.form_code; starts = c.in-Ok.ensures.starts; report = c.in-Ok.ensures.report; placed = c.in-Ok.ensures.placed };
+  form = record { is_form = c.in-Ok.ensures.form; code = c.in-Ok.ensures.form_code; starts = c.in-Ok.ensures.starts; report = c.in-Ok.ensures.report; placed = c.in-Ok.ensures.placed };
   banks = c.in-Ok.ensures.banks;
 }
