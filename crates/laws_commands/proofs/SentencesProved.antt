@@ -19,10 +19,26 @@ says_report old new source_name object_name report_name slots budget store weigh
       d.banks.form,
       d.banks.is_form.form.kept,
       c.ws,
+      c.weighed,
       record { is_true = d.banks.report.holds; banks = d.banks.report.program; meets = d.banks.meets; optimal = d.banks.optimal; cheapest = d.banks.cheapest },
     )
 
 pub says_moves : SaysMoves
 says_moves old new source_name object_name report_name slots budget store weights_name line c =
-    let d = c.compiled in
-    (c.object, c.saved, d.tagged, d.decodes, c.r, c.reported ∙ ap (λ bytes. Some bytes) d.reports.spelled, c.ws, d.banks.light)
+    let d = c.compiled in (
+      c.text,
+      c.held,
+      d.program,
+      d.is_source.is_source,
+      c.object,
+      c.saved,
+      d.tagged,
+      d.decodes,
+      c.r,
+      c.reported ∙ ap (λ bytes. Some bytes) d.reports.spelled,
+      d.banks.form,
+      d.banks.is_form.form.kept,
+      c.ws,
+      c.weighed,
+      record { banks = d.banks.report.program; starts_are = d.banks.labels_start.starts_are; visited = d.banks.labels_start.visited; light = d.banks.light },
+    )
