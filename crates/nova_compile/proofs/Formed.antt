@@ -1,5 +1,5 @@
 -- The form, the banks and the code of a program, through all passes.
-use Rattle.std.proofs.Common.{◌≡◌, ℕ, ◌+◌, ◌*◌, ◌<◌, ◌≤◌, ◌^◌, ◌⊎◌, inl, inr, Bool, true, ◌&&◌, List, Option, None, Some, length, refl, sym, subst, arith}
+use Rattle.std.proofs.Common.{◌≡◌, ℕ, ◌+◌, ◌*◌, ◌<◌, ◌≤◌, ◌^◌, ◌⊎◌, inl, inr, Bool, true, ◌&&◌, List, Option, None, Some, length, refl, sym, subst, ◌∙◌, arith}
 use Rattle.std.specs.Prelude.{slice_get}
 use Rattle.std.specs.List.{list_all}
 use Rattle.std.proofs.Math.Nat.{le_trans}
@@ -32,12 +32,12 @@ use Rattle.uc_isa.specs.Moves.{moves}
 use Rattle.uc_isa.proofs.Through.{agrees-through}
 use Rattle.zo_model.specs.Program.{vector, cost_of, Feasible, IsValid}
 use Rattle.zo_cert.specs.Report.{VerdictHolds}
-use Rattle.zo_cert_tree.specs.declared.cert.Claim.TheVariants.{Least}
+use Rattle.zo_cert_tree.specs.declared.cert.Claim.TheVariants.{Least, Nothing}
 use Rattle.zo_cert.specs.declared.report.Report.{Report}
 use Rattle.zo_cert.specs.declared.report.Verdict.{Verdict}
 use Rattle.zo_cert.specs.declared.report.Verdict.TheVariants as verdict
 use Rattle.zo_cert_tree.proofs.Duality.{proves_holds}
-use Rattle.nova_back.proofs.Cheapest.{cheapest-of}
+use Rattle.nova_back.proofs.Cheapest.{cheapest-of, none-fits}
 use Rattle.nova_back.specs.Causes.{IsCodeOf, AreStartsOf, IsReportOn, IsCheapFor, IsWithout, HasLargeProgram, IsCause, IsLong, HasVector, report_cost}
 use Rattle.nova_back.specs.declared.error.BackError.{BackError}
 use Rattle.nova_back.specs.declared.error.BackError.TheVariants as back
@@ -127,8 +127,20 @@ large p labels slots n form h = record { form = labels; is_form = form; large = 
 pub fewer : (s k r : ℕ) → s < k → k ≤ r → s < r
 fewer s k r lt le = omega arith
 
+infeasible-none : (v : Verdict) (r : Report) → v ≡ verdict.Infeasible → IsValid r.z → VerdictHolds v r → (x : ℕ → Bool) → Feasible r.z x → ⊥
+infeasible-none verdict.Optimal r e valid h = absurd cc
+infeasible-none verdict.Feasible r e valid h = absurd cc
+infeasible-none verdict.Infeasible r e valid h = proves_holds r.z h.0 Nothing valid h.2
+infeasible-none verdict.Spent r e valid h = absurd cc
+
 without : (p : ProgramTree) (labels : List Label) (slots : ℕ) (ws : List ℕ) (budget : ℕ) (v : Verdict) (r : Report) → IsBoundedFormOf p labels → IsWithout labels slots ws budget v r → HasNoBanks p slots ws budget v r
-without p labels slots ws budget v r form h = record { form = labels; is_form = form; without = h; few_slots = fewer slots (peak labels) (room p) h.over_slots form.narrow }
+without p labels slots ws budget v r form h = record {
+  form = labels;
+  is_form = form;
+  without = h;
+  none = λ e. none-fits labels slots ws budget r form.form.used_once h.report (infeasible-none r.verdict r (h.says ∙ e) h.report.valid.program_valid h.report.holds.verdict_holds);
+  few_slots = fewer slots (peak labels) (room p) h.over_slots form.narrow;
+}
 
 -- no number of columns or rows is too large
 abbrev pub NoneLarge : List Label → ℕ → Type 0

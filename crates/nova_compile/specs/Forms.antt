@@ -20,7 +20,7 @@ use Rattle.uc_isa.specs.Moves.{moves}
 use Rattle.zo_model.specs.Program.{cost_of, vector, Feasible}
 use Rattle.zo_cert.specs.declared.report.Report.{Report}
 use Rattle.zo_cert.specs.declared.report.Verdict.{Verdict}
-use Rattle.zo_cert.specs.declared.report.Verdict.TheVariants.{Optimal}
+use Rattle.zo_cert.specs.declared.report.Verdict.TheVariants.{Optimal, Infeasible}
 use Rattle.nova_back.specs.Causes.{IsCodeOf, AreStartsOf, IsReportOn, IsCheapFor, IsWithout, HasVector, report_cost}
 use Rattle.nova_back.specs.Placed.{IsPlacedBy}
 use Rattle.nova_middle.specs.Reduced.{IsMadeOfReduced}
@@ -55,6 +55,10 @@ pub record IsCodeFor (program : ProgramTree) (c : CodeView) : Type 0 where
 abbrev pub IsCheapest : List Label → ℕ → List ℕ → ℕ → Type 0
 IsCheapest labels slots ws n = (p : Plan) → Fits labels p → p.slots ≡ slots → n ≤ weighted_cost labels ws p
 
+-- no placement fits the form with N slots
+abbrev pub NoneFits : List Label → ℕ → Type 0
+NoneFits labels slots = (p : Plan) → Fits labels p → p.slots ≡ slots → ⊥
+
 -- The report is on the banks of a form of the program, whose labels have these weights, with a vector that meets the rows. Where the
 -- verdict is optimal, no vector that meets them costs less, and so no placement that fits the form. The code is that of the form with these slots, and the form's labels start at these
 -- places. Under the weights the code's moves cost no more than the report's vector; where all live values at once fit a bank, that
@@ -85,12 +89,13 @@ HasSmallBanks program slots =
     (banks_bound program ≤ 2 ^ 26)
     ⊎ ((form : List Label) → IsBoundedFormOf program form → (length (columns form) ≤ 2 ^ 26) × (length (rows form slots) ≤ 2 ^ 26))
 
--- The report is on the banks of a form of the program, has no vector, and says why. The form holds more values at once than there are
--- slots, so the program has more room.
+-- The report is on the banks of a form of the program, has no vector, and says why. Where the verdict is infeasible, no placement fits the
+-- form. The form holds more values at once than there are slots, so the program has more room.
 pub record HasNoBanks (program : ProgramTree) (slots : ℕ) (ws : List ℕ) (budget : ℕ) (verdict : Verdict) (r : Report) : Type 0 where
   pub form : List Label
   pub is_form : IsBoundedFormOf program form
   pub without : IsWithout form slots ws budget verdict r
+  pub none : verdict ≡ Infeasible → NoneFits form slots
   pub few_slots : slots < room program
 
 -- the program of the banks of a form of the program fits, and the code that the vector of the report on them gives has so many instructions,
