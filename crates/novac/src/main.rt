@@ -6,7 +6,9 @@
 mod tests;
 
 use novac_commands::exit_code;
-pub use novac_commands::{CompileError, Compiled, Weights, compile_text, run};
+pub use novac_commands::{
+    CompileError, Compiled, Weights, WeightsError, compile_text, print_counts, read_weights, run,
+};
 pub use novac_words::Status;
 use nv_outside::{DiskFiles, StdSink};
 use std::process::ExitCode;
