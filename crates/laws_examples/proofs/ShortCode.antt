@@ -137,4 +137,4 @@ live_around_test = record {
 }
 
 pub rules_answer : RulesAnswer
-rules_answer = record { dead = refl; live = refl; flagged = refl; idle = refl; not_idle = refl; back = refl; zero = refl; wanted = refl }
+rules_answer = record { dead = refl; live = refl; flagged = refl; idle = refl; not_idle = refl; back = refl; zero = refl; wanted = refl; repeated = refl; carried = refl; held = refl; other = refl }

@@ -25,7 +25,7 @@ use Rattle.uc_object.specs.Worked.{raising}
 use Rattle.uc_object.specs.Object.{exception_of, code_of}
 use Rattle.uc_object.specs.declared.object.Object.TheVariants.{One, Two}
 use Rattle.uc_asm.specs.Starts.{object_listing}
-use Rattle.uc_peep.specs.Needless.{dead_rule, idle_rule, back_rule, zero_rule}
+use Rattle.uc_peep.specs.Needless.{dead_rule, idle_rule, back_rule, zero_rule, repeated_rule, held_rule}
 use Rattle.ucode_emit.specs.SpillBase.{SpillsByBase}
 
 -- ---- contexts
@@ -96,7 +96,7 @@ pub record LiveAroundTest : Type 0 where
   pub no_zero : Live zero_test (In (InB 0)) 4 → ⊥
   pub target : IsEntered zero_test 4
 
--- the bits of A0, A1 and B0 are 1, 2 and 65,536, that of the flag Z is 2 ^ 64: what each rule answers
+-- the bits of A0, A1 and B0 are 1, 2 and 65,536, those of zero and of the carry 2 ^ 64 and 2 ^ 65: what each rule answers
 pub record RulesAnswer : Type 0 where
   pub dead : dead_rule (Immed (dst.B 0) 0 0 ∷ []) 3 ≡ Some []
   pub live : dead_rule (Immed (dst.B 0) 0 0 ∷ []) 65536 ≡ None
@@ -106,3 +106,7 @@ pub record RulesAnswer : Type 0 where
   pub back : back_rule (Un (dst.B 0) Copy (src.A 0) ∷ Un (dst.A 0) Copy (src.B 0) ∷ []) 3 ≡ Some (Un (dst.B 0) Copy (src.A 0) ∷ [])
   pub zero : zero_rule (Immed (dst.B 0) 0 0 ∷ Alu dst.Nowhere Sub (src.A 0) (src.B 0) ∷ []) 18446744073709551619 ≡ Some (Un dst.Nowhere Copy (src.A 0) ∷ [])
   pub wanted : zero_rule (Immed (dst.B 0) 0 0 ∷ Alu dst.Nowhere Sub (src.A 0) (src.B 0) ∷ []) 65539 ≡ None
+  pub repeated : repeated_rule (Alu (dst.A 0) Sub (src.A 0) (src.B 0) ∷ Un dst.Nowhere Copy (src.A 0) ∷ []) 18446744073709551617 ≡ Some (Alu (dst.A 0) Sub (src.A 0) (src.B 0) ∷ [])
+  pub carried : repeated_rule (Alu (dst.A 0) Sub (src.A 0) (src.B 0) ∷ Un dst.Nowhere Copy (src.A 0) ∷ []) 36893488147419103233 ≡ None
+  pub held : held_rule (Immed (dst.B 0) 7 0 ∷ Un (dst.A 0) Copy (src.B 0) ∷ Immed (dst.B 0) 7 0 ∷ []) 65537 ≡ Some (Immed (dst.B 0) 7 0 ∷ Un (dst.A 0) Copy (src.B 0) ∷ [])
+  pub other : held_rule (Immed (dst.B 0) 7 0 ∷ Un (dst.A 0) Copy (src.B 0) ∷ Immed (dst.B 0) 8 0 ∷ []) 65537 ≡ None
