@@ -48,13 +48,14 @@ function instruction(text, kind) {
   return it;
 }
 
+// A listing, as `nova list` prints it or without places and with the first letters of remarks.
+const KINDS = { mbb: 'move between banks', m: 'move', l: 'literal', s: 'spill' };
 function readListing(text) {
   const listing = { code: [], labels: [] };
   for (const line of text.split('\n')) {
-    const label = /^L([0-9]+):$/.exec(line);
+    const label = /^L([0-9]+):$/.exec(line), row = /^(?: *[0-9]+ +)?([a-z][^;]*?) *(?:; ?(.*))?$/.exec(line);
     if (label) listing.labels.push({ number: Number(label[1]), start: listing.code.length });
-    const row = /^ *[0-9]+  ([a-z].*?)(?: +; (.*))?$/.exec(line);
-    if (row) listing.code.push(instruction(row[1], row[2] || ''));
+    else if (row && !line.startsWith('params ')) listing.code.push(instruction(row[1], KINDS[row[2]] || row[2] || ''));
   }
   return listing;
 }
@@ -97,7 +98,7 @@ const UN = {
 // Runs code from place 0 for at most so many steps, and keeps what the first steps did. It changes the memory.
 function runCode(code, memory, most, kept) {
   const registers = new Uint32Array(NONE + 1);
-  const ran = { end: 'going', steps: 0, counts: new Float64Array(code.length), places: [], accesses: [], writes: [], writeCount: 0, memory };
+  const ran = { end: 'going', steps: 0, counts: new Float64Array(code.length), places: [], accesses: [], writes: [], writeCount: 0, fault: null, last: 0, memory };
   ran.history = REGISTERS.map(() => ({ steps: [], words: [] }));
   memory.args.forEach((word, n) => { registers[n] = word; });
   registers[NUMBER.get('B15')] = SPILL_BASE;
@@ -111,11 +112,13 @@ function runCode(code, memory, most, kept) {
   };
   const access = it => {
     const words = memory[it.memory], address = registers[it.x] + it.offset, at = address * it.unit;
+    const made = { step: ran.steps, place, isWrite: it.op === 'write', memory: it.memory, at, count: it.count };
     if (at + it.count > words.length) {
       ran.end = 'fault ' + it.memory + ' ' + address;
+      ran.fault = made;
       return false;
     }
-    if (isKept) ran.accesses.push({ step: ran.steps, isWrite: it.op === 'write', memory: it.memory, at, count: it.count });
+    if (ran.accesses.length < kept) ran.accesses.push(made);
     if (it.op === 'read') {
       it.list.forEach((register, n) => put(register, words[at + n]));
     } else {
@@ -164,6 +167,7 @@ function runCode(code, memory, most, kept) {
         isOver = !access(it);
     }
     ran.steps += 1;
+    ran.last = place;
     if (isOver) break;
     place = next;
   }
@@ -185,24 +189,27 @@ function outcomeText(ran) {
 
 // Which registers and flags are live before each instruction: A and B, the transfer registers, and the flags, each as bits.
 function liveBefore(code) {
-  const sets = code.map(() => [0, 0, 0]);
-  const masks = list => list.reduce((sum, r) => { sum[r >> 5] |= 1 << (r & 31); return sum; }, [0, 0]);
-  const uses = code.map(it => [...masks(it.reads), it.readsFlags]);
-  const kept = code.map(it => [...masks(it.writes).map(bits => ~bits), ~it.writesFlags]);
+  const size = code.length, parts = [0, 1, 2].map(() => new Int32Array(size + 1)), masks = [0, 1, 2].map(() => [new Int32Array(size), new Int32Array(size)]);
+  code.forEach((it, n) => {
+    for (const [list, side] of [[it.reads, 0], [it.writes, 1]]) for (const r of list) masks[r >> 5][side][n] |= 1 << (r & 31);
+    masks[2][0][n] = it.readsFlags;
+    masks[2][1][n] = it.writesFlags;
+  });
+  const targets = Int32Array.from(code, it => (it.target < 0 ? size : it.target)), nexts = Int32Array.from(code, (it, n) => (it.goesOn ? n + 1 : size));
   for (let isSame = false; !isSame;) {
     isSame = true;
-    for (let n = code.length - 1; n >= 0; n -= 1) {
-      for (let part = 0; part < 3; part += 1) {
-        const after = (code[n].goesOn && n + 1 < code.length ? sets[n + 1][part] : 0) | (code[n].target >= 0 ? sets[code[n].target][part] : 0);
-        const bits = (after & kept[n][part]) | uses[n][part];
-        if (bits !== sets[n][part]) {
-          sets[n][part] = bits;
+    for (let part = 0; part < 3; part += 1) {
+      const live = parts[part], [uses, kills] = masks[part];
+      for (let n = size - 1; n >= 0; n -= 1) {
+        const bits = (live[nexts[n]] | live[targets[n]]) & ~kills[n] | uses[n];
+        if (bits !== live[n]) {
+          live[n] = bits;
           isSame = false;
         }
       }
     }
   }
-  return sets;
+  return code.map((_, n) => parts.map(part => part[n]));
 }
 
 const isLive = (set, register) => (set[register >> 5] >>> (register & 31) & 1) === 1;

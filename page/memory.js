@@ -49,19 +49,20 @@ function fieldRow(before, after) {
   const any = after || before, side = field => (field ? safe(field.text) + isRight(field) : '\u2013');
   const isSame = before && after && before.text === after.text && before.isRight === after.isRight;
   const bytes = [any.bit >> 3, any.size === 0 ? 0 : ((any.bit + any.size - 1) >> 3) - (any.bit >> 3) + 1];
-  return '<tr' + (isSame ? '' : ' class="changed"') + ' data-from="' + bytes[0] + '" data-size="' + bytes[1] + '"><td>' + safe(any.name) + '</td><td>' + side(before) + '</td><td>' + (isSame ? '' : '\u2192 ' + side(after)) + '</td></tr>';
+  return '<tr' + (isSame ? '' : ' class="changed"') + ' data-from="' + bytes[0] + '" data-size="' + bytes[1] + '"><td>' + safe(any.name) + (any.where ? ' <small>' + any.where + '</small>' : '') + '</td><td>' + side(before) + '</td><td>' + (isSame ? '' : '\u2192 ' + side(after)) + '</td></tr>';
 }
 function showFields() {
   const { before, after } = now.bytes;
   const known = packetGroups(before), first = known.length > 0 ? known : packetGroups(before, packetGroups(after)[0]);
   put('fields', fieldRows(first, packetGroups(after, first[0])));
-  const layout = layouts[Number(at('layout').value)], from = 4 * Number(at('layout-at').value);
-  put('layout-fields', layout && from < before.length ? fieldRows([layoutGroup(before, layout, from)], [layoutGroup(after, layout, from)]) : '');
+  const chosen = at('layout').value, layout = layouts.find(it => it.name === chosen), from = 4 * Number(at('layout-at').value);
+  const groups = bytes => (layout ? [layoutGroup(bytes, layout, from)] : headersAt(bytes, chosen, from));
+  put('layout-fields', chosen && from < before.length ? fieldRows(groups(before), groups(after)) : '');
 }
 function showMemory() {
   showBytes();
   showFields();
-  at('memories').querySelectorAll('button').forEach(it => it.setAttribute('aria-pressed', it.textContent.toLowerCase() === now.memory));
+  at('memories-choice').querySelectorAll('button').forEach(it => it.setAttribute('aria-pressed', it.textContent.toLowerCase() === now.memory));
   if (now.hasCounts) markAccesses();
 }
 
@@ -78,36 +79,40 @@ function markAccesses() {
 
 // Runs the input of the page as it is now. The run of nova has nova's outcome, and its replay is held to that and to nova's counts.
 function runInput(isOurs) {
-  const most = isOurs ? mostSteps : profile.steps;
   now.isOurs = isOurs;
-  now.ran = most > 20 * mostSteps ? null : runCode(code, copyMemory(now.input), most, keptSteps);
-  const found = isOurs ? '' : now.ran ? disagreement(listing, now.ran, text('outcome'), profile) : 'it is too long to be replayed here';
+  now.ran = isOurs ? runCode(code, copyMemory(now.input), mostSteps, keptSteps) : now.run.ran;
+  const found = isOurs ? '' : now.run.found;
   now.hasCounts = found === '';
   const end = now.ran ? now.ran.end : '';
   const said = now.isOurs ? 'This is a run of the page\u2019s own engine, not the proved one: ' + end
-    : found ? 'The replay isn\u2019t shown, since ' + found + '. The proved run: ' + lines(text('outcome'))[0] : '\u2713 The replay agrees with the proved run: ' + end;
+    : found ? 'The replay isn\u2019t shown, since ' + found + '. The proved run: ' + lines(now.run.outcome)[0] : '\u2713 The replay agrees with the proved run: ' + end;
   at('trust').className = found || isOurs ? 'wrong' : 'right';
   at('trust').textContent = said;
   if (isOurs) {
     const again = document.createElement('button');
     again.textContent = 'back to the proved run';
-    again.onclick = () => startWith(given);
+    again.onclick = () => startWith(now.run);
     at('trust').append(' ', again);
   }
   at('time').hidden = !now.hasCounts;
-  now.after = isOurs ? now.ran.memory : readMemory(text('outcome'));
+  now.after = isOurs ? now.ran.memory : readMemory(now.run.outcome);
   showCounts();
   showMemory();
   if (now.hasCounts) showSteps();
 }
-function startWith(input) {
-  now.input = copyMemory(input);
+function startWith(run) {
+  now.run = run;
+  now.step = -1;
+  now.input = copyMemory(run.memory);
+  at('outcome-text').textContent = run.outcome;
+  at('profile-text').textContent = run.profileText;
+  all('#runs button').forEach((it, n) => it.setAttribute('aria-selected', runs[n] === run));
   put('given', now.input.args.length === 0 ? '' : 'arguments ' + now.input.args.map((word, n) => '<input aria-label="argument ' + (n + 1) + '" maxlength="8" data-arg="' + n + '" value="' + hex(word) + '">').join(' '));
   runInput(false);
 }
 
 // Changes of the input.
-at('given').addEventListener('change', event => {
+on(at('given'), 'change', event => {
   const cell = event.target;
   if (!/^[0-9a-fA-F]{1,8}$/.test(cell.value)) cell.value = hex(now.input.args[Number(cell.dataset.arg)]);
   now.input.args[Number(cell.dataset.arg)] = parseInt(cell.value, 16);
@@ -147,28 +152,31 @@ function editByte(cell) {
     }
   };
 }
-at('bytes').addEventListener('click', event => {
-  const cell = event.target.closest('.before [data-byte]');
-  if (cell && cell.firstElementChild === null) editByte(cell);
+on(at('bytes'), 'click', event => {
+  const cell = event.target.closest('[data-byte]');
+  if (!cell) return;
+  at('layout-at').value = Number(cell.dataset.byte) >> 2;
+  if (cell.closest('.before') && cell.firstElementChild === null) editByte(cell);
+  showFields();
 });
 function lightBytes(from, size) {
-  document.querySelectorAll('#packet .lit').forEach(it => it.classList.remove('lit'));
+  all('#packet .lit').forEach(it => it.classList.remove('lit'));
   for (let n = from; n < from + size; n += 1) at('bytes').querySelectorAll('[data-byte="' + n + '"]').forEach(it => it.classList.add('lit'));
 }
 for (const id of ['fields', 'layout-fields']) {
-  at(id).addEventListener('mousemove', event => {
+  on(at(id), 'mousemove', event => {
     const row = event.target.closest('[data-from]');
     lightBytes(row ? Number(row.dataset.from) : 0, row ? Number(row.dataset.size) : 0);
     if (row) row.classList.add('lit');
   });
 }
-at('bytes').addEventListener('mousemove', event => {
+on(at('bytes'), 'mousemove', event => {
   const cell = event.target.closest('[data-byte]'), n = cell ? Number(cell.dataset.byte) : -1;
   lightBytes(Math.max(0, n), n < 0 ? 0 : 1);
-  for (const row of document.querySelectorAll('#packet tr[data-from]')) {
+  for (const row of all('#packet tr[data-from]')) {
     if (Number(row.dataset.from) <= n && n < Number(row.dataset.from) + Number(row.dataset.size)) row.classList.add('lit');
   }
 });
-at('packet').addEventListener('mouseleave', () => lightBytes(0, 0));
-at('layout').addEventListener('change', showFields);
-at('layout-at').addEventListener('input', showFields);
+on(at('packet'), 'mouseleave', () => lightBytes(0, 0));
+on(at('layout'), 'change', showFields);
+on(at('layout-at'), 'input', showFields);

@@ -76,7 +76,7 @@ class Reader {
   }
 
   push(header, at) {
-    if (at + sizeOf(header) > this.bytes.length) return null;
+    if (at + sizeOf(header) > this.bytes.length || this.groups.length >= 24) return null;
     const group = { title: header, at, size: sizeOf(header), fields: fieldsAt(this.bytes, header, at) };
     this.groups.push(group);
     return name => group.fields.find(field => field.name === name);
@@ -208,12 +208,15 @@ function packetGroups(bytes, like) {
     else reader.push('ARP', at);
     return reader.groups;
   }
-  if (like) {
-    const title = like.title.toLowerCase();
-    if (title === 'ethernet') reader.tagged('Ethernet', like.at);
-    else if (title === 'ipv4' || title === 'ipv6') reader[title](like.at);
-    else reader.push(like.title, like.at);
-  }
+  return like ? headersAt(bytes, like.title, like.at) : reader.groups;
+}
+
+// A header of this name at a place, and those inside it.
+function headersAt(bytes, title, at) {
+  const reader = new Reader(bytes);
+  if (title === 'Ethernet' || title === 'VLAN') reader.tagged(title, at);
+  else if (title === 'IPv4' || title === 'IPv6' || title === 'MPLS' || title === 'GRE') reader[title.toLowerCase()](at);
+  else reader.push(title, at);
   return reader.groups;
 }
 
@@ -245,7 +248,9 @@ function layoutGroup(bytes, layout, at) {
     const bit = 8 * at + field.bit;
     if (bit + field.size > 8 * bytes.length) break;
     const value = bitsOf(bytes, bit, field.size);
-    group.fields.push({ name: '\u2007'.repeat(2 * parts.length) + name, bit, size: field.size, text: field.size > 3 ? value + ' = ' + shown.hex(value, field.size) : String(value), value });
+    const first = field.bit & 31, last = first + field.size - 1;
+    const where = 'word ' + (field.bit >> 5) + (field.size === 32 && first === 0 ? '' : first === last ? ', bit ' + first : last > 31 ? ', from bit ' + first : ', bits ' + first + ' to ' + last);
+    group.fields.push({ name: '\u2007'.repeat(2 * parts.length) + name, where, bit, size: field.size, text: field.size > 3 ? value + ' = ' + shown.hex(value, field.size) : String(value), value });
   }
   return group;
 }

@@ -15,7 +15,7 @@ function goTo(step) {
   now.step = Math.max(0, Math.min(step, now.ran.places.length - 1));
   at('step').value = now.step;
   const place = now.ran.places[now.step];
-  document.querySelectorAll('.row.at').forEach(it => it.classList.remove('at'));
+  all('.row.at').forEach(it => it.classList.remove('at'));
   const row = rowOf(place), pane = row.closest('.scroll');
   row.classList.add('at');
   pane.scrollTop = Math.max(0, row.offsetTop - pane.clientHeight / 2);
@@ -25,8 +25,8 @@ function goTo(step) {
     if (line.offsetTop < source.scrollTop || line.offsetTop + 24 > source.scrollTop + source.clientHeight) source.scrollTop = Math.max(0, line.offsetTop - source.clientHeight / 2);
   }
   const written = [...new Set(code[place].writes)].map(r => REGISTERS[r] + ' = ' + hex(wordAt(r, now.step)));
-  const all = now.ran.steps === now.ran.places.length ? '' : ' (the first ' + now.ran.places.length + ' are shown)';
-  at('where').textContent = 'step ' + (now.step + 1) + ' of ' + now.ran.steps + all + '   place ' + place + '   ' + code[place].text + (written.length ? '   ' + written.join('  ') : '');
+  const rest = now.ran.steps === now.ran.places.length ? '' : ' (the first ' + now.ran.places.length + ' are shown)';
+  at('where').textContent = 'step ' + (now.step + 1) + ' of ' + now.ran.steps + rest + '   place ' + place + '   ' + code[place].text + (written.length ? '   ' + written.join('  ') : '');
   markAccesses();
   draw();
 }
@@ -87,16 +87,16 @@ function stepAt(event) {
   const step = chart.from + Math.floor((event.offsetX - nameWidth) / chart.wide);
   return event.offsetX >= nameWidth && step < chart.to ? step : -1;
 }
-at('chart').addEventListener('mousemove', event => {
+on(at('chart'), 'mousemove', event => {
   const step = stepAt(event), register = chart.registers[Math.floor((event.offsetY - stripHeight - 4) / rowHeight)];
   if (step < 0) return showTip('', event);
   const place = now.ran.places[step], [inA, inB] = liveCounts(live[place]), head = 'step ' + (step + 1) + ', place ' + place + ': ' + code[place].text;
   if (register === undefined || event.offsetY < stripHeight + 4) return showTip(head + '\nlive: ' + inA + ' of 15 in A, ' + inB + ' of 15 in B', event);
   return showTip(head + '\n' + REGISTERS[register] + ' = ' + hex(wordAt(register, step)) + (isLive(live[place], register) ? ', live' : ', not read again before it is written'), event);
 });
-at('chart').addEventListener('mouseleave', event => showTip('', event));
-at('chart').addEventListener('click', event => { if (stepAt(event) >= 0) goTo(stepAt(event)); });
-at('step').addEventListener('input', () => goTo(Number(at('step').value)));
+on(at('chart'), 'mouseleave', event => showTip('', event));
+on(at('chart'), 'click', event => { if (stepAt(event) >= 0) goTo(stepAt(event)); });
+on(at('step'), 'input', () => goTo(Number(at('step').value)));
 at('back').onclick = () => goTo(now.step - 1);
 at('on').onclick = () => goTo(now.step + 1);
 addEventListener('resize', () => { if (now.hasCounts) draw(); });
@@ -120,15 +120,15 @@ function walkLabels() {
 function showLabels() {
   const { order, loops } = walkLabels(), gap = 36, high = 24;
   const said = order.map(number => {
-    const entries = (profile.labels.get(number) || { entries: 0 }).entries, points = forms.get(number).rows.filter(row => row.live).length;
-    return 'L' + number + ': ' + several(points, 'point') + (given ? ', entered ' + several(entries, 'time') : '');
+    const entries = (profileNow().labels.get(number) || { entries: 0 }).entries, points = forms.get(number).rows.filter(row => row.live).length;
+    return labelTitle(number) + ': ' + several(points, 'point') + (now.run ? ', entered ' + several(entries, 'time') : '');
   });
   const wide = Math.ceil(Math.max(60, ...said.map(it => it.length * 7.4 + 20))), rows = new Map(order.map((number, n) => [number, n * gap + 22]));
   const reach = (from, to) => Math.min(140, 24 + Math.abs(rows.get(to) - rows.get(from)) / 3.5);
   const arcs = order.flatMap(from => [...forms.get(from).next].filter(to => rows.has(to)).map(to => ({ from, to, isLoop: loops.has(from + ' ' + to) })));
   const margin = isLoop => Math.max(8, ...arcs.filter(it => it.isLoop === isLoop).map(it => .8 * reach(it.from, it.to)));
   const left = margin(true);
-  const most = Math.max(1, ...[...profile.labels.values()].map(it => it.entries));
+  const most = Math.max(1, ...[...profileNow().labels.values()].map(it => it.entries));
   let out = '<svg role="img" aria-label="labels and jumps" width="' + Math.ceil(left + wide + margin(false)) + '" height="' + (order.length * gap + 10) + '"><defs>'
     + ['on', 'loop'].map(kind => '<marker id="arrow-' + kind + '" class="' + kind + '" viewBox="0 0 8 8" refX="7" refY="4" markerWidth="7" markerHeight="7" orient="auto"><path d="M0 0L8 4L0 8z"/></marker>').join('') + '</defs>';
   for (const { from, to, isLoop } of arcs) {
@@ -139,43 +139,60 @@ function showLabels() {
     out += '<path class="' + kind + '" d="' + path + '" marker-end="url(#arrow-' + kind + ')"/>';
   }
   order.forEach((number, n) => {
-    const y = rows.get(number), isHot = given && (profile.labels.get(number) || { entries: 0 }).entries === most;
-    out += '<g data-go="' + number + '"><rect class="' + (isHot ? 'hot' : '') + '" x="' + left + '" y="' + (y - high / 2) + '" width="' + wide + '" height="' + high + '" rx="4"/><text x="' + (left + 10) + '" y="' + (y + 4) + '">' + said[n] + '</text></g>';
+    const y = rows.get(number), isHot = now.run && (profileNow().labels.get(number) || { entries: 0 }).entries === most;
+    out += '<g data-go="' + number + '"><rect class="' + (isHot ? 'hot' : '') + '" x="' + left + '" y="' + (y - high / 2) + '" width="' + wide + '" height="' + high + '" rx="4"/><text x="' + (left + 10) + '" y="' + (y + 4) + '">' + safe(said[n]) + '</text></g>';
   });
   put('graph', out + '</svg>');
-  at('graph').addEventListener('click', event => {
-    const box = event.target.closest('[data-go]');
-    if (box) document.querySelector('[data-label="' + box.dataset.go + '"]').scrollIntoView({ block: 'nearest' });
+}
+on(at('graph'), 'click', event => {
+  const box = event.target.closest('[data-go]');
+  if (box) first('[data-label="' + box.dataset.go + '"]').scrollIntoView({ block: 'nearest' });
+});
+
+// The tabs of the memory texts.
+function showRuns() {
+  at('runs').hidden = runs.length < 2;
+  put('runs', runs.map(run => '<button role="tab" title="' + safe(run.title) + '">' + safe(baseName(run.title)) + '</button>').join(''));
+  on(at('runs'), 'click', event => {
+    const n = [...at('runs').children].indexOf(event.target);
+    if (n < 0) return;
+    startWith(runs[n]);
+    showLabels();
+    showSummary();
   });
 }
-
+function showSummary() {
+  const steps = now.run ? '; ' + several(now.run.profile.steps, 'step') : '';
+  at('summary-line').innerHTML = safe(lines(text('summary')).map(it => it.trim()).join('; ') + steps).replace(/[0-9]+/g, '<b>$&</b>');
+}
 function showPage() {
-  document.title = name.replace(/^.*\//, '') + ' \u00b7 Nova';
-  at('title').textContent = name.replace(/^.*\//, '');
+  document.title = baseName(name) + ' \u00b7 Nova';
+  at('title').textContent = baseName(name);
   at('title').title = name;
-  at('summary-line').innerHTML = safe(lines(text('summary')).map(it => it.trim()).join('; ') + (given ? '; ' + several(profile.steps, 'step') : '')).replace(/[0-9]+/g, '<b>$&</b>');
-  at('code-aside').textContent = given ? 'with how often each instruction ran' : '';
-  const most = Math.max(0, ...[...forms.values()].flatMap(form => form.rows.map(row => (row.live ? row.live.length : 0))));
+  showSummary();
+  at('code-aside').textContent = now.run ? 'with how often each instruction ran' : '';
+  const most = Math.max(0, ...[...forms.values()].flatMap(form => form.rows.map(row => (row.live ? row.live.size : 0))));
   at('values-note').textContent = 'At most ' + several(most, 'value') + (most === 1 ? ' is' : ' are') + ' live at once. Banks A and B have 15 registers each for values. The banks are those of the report that the proof checks.';
-  put('values', [...banks].map(([value, homes]) => '<span data-v="' + value + '">' + value + ' ' + homes.map(home => '<span class="r ' + home.slice(0, 1) + '">' + home + '</span>').join(', ') + '</span>').join(''));
+  const homed = new Map();
+  for (const [value, homes] of banks) homed.set(homes.join(', '), (homed.get(homes.join(', ')) || []).concat(value));
+  put('values', [...homed].map(([homes, values]) => '<p><b class="r ' + homes[0] + '">' + homes + ':</b> ' + values.map(value => '<span data-v="' + value + '">' + safe(titleOf(value)) + '</span>').join(' ') + '</p>').join(''));
   at('sizes-text').textContent = text('sizes');
-  at('outcome-text').textContent = text('outcome');
-  at('profile-text').textContent = text('profile');
   put('key', [['A', 'bank A'], ['B', 'bank B'], ['L', 'read registers L and LD'], ['S', 'write registers S and SD']].map(([bank, said]) => '<span class="r ' + bank + '">\u25a0 ' + said + '</span>').join('') + '<span>the lines of the strip: 15 and 15 + 15</span>');
   showLabels();
-  document.body.classList.toggle('plain', given === null);
-  document.body.classList.toggle('uncounted', given === null);
-  if (given === null) return;
-  now.memory = given.sdram.length > 0 ? 'sdram' : 'sram';
-  put('memories', ['sdram', 'sram', 'scratch'].map(it => '<button>' + (it === 'scratch' ? it : it.toUpperCase()) + '</button>').join(' '));
-  at('memories').addEventListener('click', event => {
+  document.body.classList.toggle('plain', now.run === null);
+  document.body.classList.toggle('uncounted', now.run === null);
+  if (now.run === null) return;
+  now.memory = now.run.memory.sdram.length > 0 ? 'sdram' : 'sram';
+  put('memories-choice', ['sdram', 'sram', 'scratch'].map(it => '<button>' + (it === 'scratch' ? it : it.toUpperCase()) + '</button>').join(' '));
+  on(at('memories-choice'), 'click', event => {
     if (event.target.tagName !== 'BUTTON') return;
     now.memory = event.target.textContent.toLowerCase();
     showMemory();
   });
-  put('layout', '<option value="-1">none</option>' + layouts.map((it, n) => '<option value="' + n + '">' + safe(it.name) + '</option>').join(''));
-  at('layout-choice').hidden = layouts.length === 0;
-  startWith(given);
+  const options = (title, names) => (names.length > 0 ? '<optgroup label="' + title + '">' + names.map(it => '<option>' + safe(it) + '</option>').join('') + '</optgroup>' : '');
+  put('layout', '<option value="">none</option>' + options('layouts of the source', layouts.map(it => it.name)) + options('headers', Object.keys(HEADERS)));
+  showRuns();
+  startWith(now.run);
 }
 function followLink() {
   const row = /^#[Li][0-9]+$/.test(location.hash) ? at(location.hash.slice(1)) : null;

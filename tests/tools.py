@@ -98,9 +98,14 @@ class PageRow:
         page = open(os.path.join(at, "p.html"), encoding="utf-8").read()
         blocks = {name: html.unescape(text) for name, text in re.findall(r'<pre id="(\w+)">\n(.*?)</pre>', page, re.S)}
         with open(self.example, encoding="utf-8") as source, open(memory, encoding="utf-8") as text:
-            wanted = {"name": self.example, "source": source.read(), "memory": text.read(), "listing": said(nova, "list", "o"), "outcome": said(nova, "run", "o", memory)}
+            wanted = {"name": self.example, "source": source.read(), "memory": text.read(), "listing": self.dense(said(nova, "list", "o")), "outcome": said(nova, "run", "o", memory)}
         found = [difference(f"the page's {name}", text.encode(), blocks.get(name, "").encode(), is_exact=True) for name, text in wanted.items() if blocks.get(name) != text]
         return found + self.in_browser(blocks, at)
+
+    def dense(self, listing):
+        """A listing as a page has it: without places, and with the first letters of remarks."""
+        lines = [re.sub("^ *[0-9]+ +", "", it) for it in listing.splitlines(True)]
+        return "".join(re.sub(" +;(.*)", lambda remark: " ;" + "".join(it[0] for it in remark[1].split()), it) for it in lines)
 
     def in_browser(self, blocks, at):
         browser = next((it for it in ("chromium", "chromium-browser", "google-chrome") if shutil.which(it)), None)
@@ -108,16 +113,17 @@ class PageRow:
             return []
         words = [browser, "--headless", "--no-sandbox", "--disable-gpu", "--dump-dom", "p.html"]
         shown = subprocess.run(words, cwd=at, capture_output=True, text=True, timeout=60).stdout
-        marks = {"between": "move between banks", "within": "move", "literal": "literal", "spill": "spill"}
-        counts = {kind: len(re.findall(f"; {mark}$", blocks["listing"], re.M)) for kind, mark in marks.items()}
+        marks = {"between": "mbb", "within": "m", "literal": "l", "spill": "s"}
+        counts = {kind: len(re.findall(f";{mark}$", blocks["listing"], re.M)) for kind, mark in marks.items()}
         coloured = {kind: len(re.findall(f'<div class="row {kind}[ "]', shown)) for kind in marks}
         found = [] if counts == coloured else [f"the browser colours {coloured}, the listing has {counts}"]
         found += [] if "The replay agrees with the proved run" in shown else ["the replay doesn't agree"]
-        return found + ([] if len(re.findall('<rect class="(?:hot)?" x=', shown)) == len(re.findall("^label ", blocks["form"], re.M)) else ["a label isn't drawn"])
+        return found + ([] if len(re.findall('<rect class="(?:hot)?" x=', shown)) == len(re.findall("^label", blocks["form"], re.M)) else ["a label isn't drawn"])
 
 
 class ReplayRow:
-    """The engine of the page comes on each example to the outcome and the counts of `nova run --profile`. It wants node, and passes without."""
+    """The engine of the page comes on each example to the outcome and the counts of `nova run --profile`, what the page says to be live is
+    what `nova list` prints, and each write of the run has its place in the source. It wants node, and passes without."""
 
     where, wants, name = "tests/tools.py", ("nova",), "the page's replay of the examples"
 
@@ -136,9 +142,12 @@ class ReplayRow:
             example = os.path.join(self.top, "examples", name)
             memory = example.removesuffix("nova") + "mem"
             said(nova, "build", example, "-o", "o")
-            ran, listing = said(nova, "run", "o", memory, "--profile"), said(nova, "list", "o")
-            with open(memory, encoding="utf-8") as it:
-                runs.append({"name": name, "listing": listing.stdout, "memory": it.read(), "outcome": ran.stdout, "profile": ran.stderr})
+            ran, listing, form = said(nova, "run", "o", memory, "--profile"), said(nova, "list", "o"), said(nova, "list", example)
+            said(nova, "page", example, memory, "-o", "p.html")
+            events = re.search(r'<pre id="events">\n(.*?)</pre>', open(os.path.join(at, "p.html"), encoding="utf-8").read(), re.S)[1]
+            with open(memory, encoding="utf-8") as text, open(example, encoding="utf-8") as source:
+                run = {"name": name, "source": source.read(), "memory": text.read(), "events": events}
+            runs.append({**run, "listing": listing.stdout, "outcome": ran.stdout, "profile": ran.stderr, "form": form.stdout})
         return in_node(self.top, [os.path.join(self.top, "page", "test.js")], json.dumps(runs))
 
 

@@ -7,7 +7,7 @@ use ssu_ir::{Ssu, single};
 use std::alloc::Global;
 use zo_cert::Report;
 
-/// Appends a line for each bank that a value is put into: `v3 A`, or `v3 B copied` where a copy puts it there.
+/// Appends each value with each bank that it is put into: `3A`, or `3Bc` where a copy puts it there.
 pub fn push_banks(alloc: Global, out: &mut Message, ssu: &Ssu, report: &Report) {
     if !single(ssu) {
         return;
@@ -35,26 +35,25 @@ fn push_chosen(alloc: Global, out: &mut Message, tables: &BankTables<'_>, on: &[
 fn push_choice(out: &mut Message, column: Column) {
     match column {
         Column::Def(value, bank) => push_bank(out, value, bank, ""),
-        Column::Fill(value, bank) => push_bank(out, value, bank, " copied"),
+        Column::Fill(value, bank) => push_bank(out, value, bank, "c"),
         _ => {}
     }
 }
 
 fn push_bank(out: &mut Message, value: u32, bank: Bank, remark: &str) {
-    out.put("v");
     out.number(u64::from(value));
-    out.put(" ");
-    out.put(bank_name(bank));
-    out.line(remark)
+    out.put(bank_letter(bank));
+    out.put(remark)
 }
 
-fn bank_name(bank: Bank) -> &'static str {
+// A register through which nothing is moved for a cost is `X`, a slot `M`.
+fn bank_letter(bank: Bank) -> &'static str {
     match bank {
         Bank::A => "A",
         Bank::B => "B",
-        Bank::M => "slot",
-        Bank::T | Bank::L => "read register",
-        Bank::A15 => "A15",
-        Bank::W => "write register",
+        Bank::M => "M",
+        Bank::T | Bank::L => "L",
+        Bank::A15 => "X",
+        Bank::W => "W",
     }
 }

@@ -15,6 +15,7 @@ mod page;
 mod simulation;
 mod testing;
 mod top;
+mod traces;
 mod verdict;
 
 pub use folders::{FolderError, Folders};

@@ -1,5 +1,5 @@
 //! The command `page`.
-ghost use Rattle.std.specs.Prelude.{◌≡◌, ◌≤◌, length, IfSome};
+ghost use Rattle.std.specs.Prelude.{◌≡◌, ◌≤◌, length};
 ghost use Rattle.novac_words.specs.Limits.{memory_limit, source_limit};
 ghost use Rattle.nova_compile.specs.inner.Parts.{HasParts};
 
@@ -8,27 +8,32 @@ use crate::build::push_summary;
 use crate::compiled::{compile, object_in, words_for};
 use crate::listing::form_of;
 use crate::simulation::run_object;
+use crate::traces::push_trace;
 use diag_source::sizes::push_typed_sizes;
 use nova_compile::{Compiled, no_weights};
-use nova_page::{push_page_block, push_page_end, push_page_head};
+use nova_page::{
+    push_page_block, push_page_end, push_page_form, push_page_head, push_page_listing,
+    push_page_part,
+};
 use nova_show::{
     Answer, Ending, MemoryText, Saving, add_saving, counts_of, list_object, load, load_memory,
 };
 use nova_words::{Page, Run};
-use novac_words::limits::SOURCE_LIMIT;
+use novac_words::limits::{MEMORY_LIMIT, SOURCE_LIMIT};
+use nv_ast::Typed;
 use nv_lines::Message;
 use nv_outside::Files;
 use std::alloc::{AllocError, Global};
 
-/// Makes a page of HTML on a source: its text, sizes, labels, live values and code, and on a memory text how often each label was
-/// entered; and gives it as a file that is to be saved.
+/// Makes a page of HTML on a source: its text, sizes, labels, live values and code, and on each memory text how often each label
+/// was entered and where the source has each write; and gives it as a file that is to be saved.
 pub fn make_page<F: Files>(
     alloc: Global,
     files: &mut F,
-    words: Page,
+    words: &Page,
     answer: &mut Answer,
 ) -> Vec<Saving>
-    requires steps { words.steps ≤ 100000000 }
+    requires steps { words.now.steps ≤ 100000000 }
     ensures held { F.held files.new ≡ F.held files.old }
 {
     let mut savings = Vec::new(alloc);
@@ -40,7 +45,7 @@ pub fn make_page<F: Files>(
 }
 
 // The name of the page: that of the source with `.html` in place of `.nova`, where the words don't say it.
-fn page_name(alloc: Global, words: Page, answer: &mut Answer) -> Option<String> {
+fn page_name(alloc: Global, words: &Page, answer: &mut Answer) -> Option<String> {
     let source = words.source;
     let made = match words.output {
         Some(name) => name.to_string(alloc),
@@ -61,12 +66,12 @@ fn page_name(alloc: Global, words: Page, answer: &mut Answer) -> Option<String> 
 fn page_as<F: Files>(
     alloc: Global,
     files: &mut F,
-    words: Page,
+    words: &Page,
     name: &str,
     savings: &mut Vec<Saving>,
     answer: &mut Answer,
 )
-    requires steps { words.steps ≤ 100000000 }
+    requires steps { words.now.steps ≤ 100000000 }
     ensures held { F.held files.new ≡ F.held files.old }
 {
     if !check_names(words, name, answer) {
@@ -75,30 +80,37 @@ fn page_as<F: Files>(
     let Some(source) = load(alloc, files, words.source, SOURCE_LIMIT, answer) else {
         return;
     };
-    if let Some(memory) = memory_for(alloc, files, words, answer) {
-        page_on(alloc, words, name, &source, &memory, savings, answer);
+    let mut memories = Vec::new(alloc);
+    if load_memories(alloc, files, words, &mut memories, answer) {
+        page_on(alloc, words, name, &source, &memories, savings, answer);
     }
 }
 
-// The memory text, and an empty one where the words don't name one.
-fn memory_for<F: Files>(
+// Adds the bytes of each memory text; gives false where one can't be had.
+fn load_memories<F: Files>(
     alloc: Global,
     files: &mut F,
-    words: Page,
+    words: &Page,
+    memories: &mut Vec<MemoryText>,
     answer: &mut Answer,
-) -> Option<MemoryText>
-    ensures within { IfSome result (λ memory. length memory.text.items ≤ memory_limit) }
+) -> bool
     ensures held { F.held files.new ≡ F.held files.old }
 {
-    match words.memory {
-        Some(name) => load_memory(alloc, files, name, answer),
-        None => Some(MemoryText::of(Vec::new(alloc))),
+    for name in words.memories.iter() {
+        let Some(memory) = load_memory(alloc, files, *name, answer) else {
+            return false;
+        };
+        if memories.push(memory).is_err() {
+            answer.fail();
+            return false;
+        }
     }
+    true
 }
 
 // Refuses to save over an input.
-fn check_names(words: Page, name: &str, answer: &mut Answer) -> bool {
-    let is_input = name == words.source || words.memory == Some(name);
+fn check_names(words: &Page, name: &str, answer: &mut Answer) -> bool {
+    let is_input = name == words.source || is_among(&words.memories, name);
     if name.is_empty() || is_input && name != "-" {
         answer.fault("nova", "the page would replace an input, or has no name");
         answer.ending = Ending::BadWords;
@@ -108,19 +120,27 @@ fn check_names(words: Page, name: &str, answer: &mut Answer) -> bool {
     }
 }
 
+fn is_among(names: &[&str], name: &str) -> bool {
+    for other in names.iter() {
+        if *other == name {
+            return true;
+        }
+    }
+    false
+}
+
 // Compiles the source, and adds its page.
 fn page_on(
     alloc: Global,
-    words: Page,
+    words: &Page,
     name: &str,
     source: &[u8],
-    memory: &MemoryText,
+    memories: &[MemoryText],
     savings: &mut Vec<Saving>,
     answer: &mut Answer,
 )
-    requires steps { words.steps ≤ 100000000 }
+    requires steps { words.now.steps ≤ 100000000 }
     requires source { length source.now ≤ source_limit }
-    requires memory { length memory.now.text.items ≤ memory_limit }
 {
     let ones = no_weights(alloc);
     let mut none = Vec::new(alloc);
@@ -130,11 +150,13 @@ fn page_on(
     };
     let mut page = Message::new(alloc);
     push_head(alloc, &mut page, words.source, source, &compiled, answer);
+    push_names(alloc, &mut page, words);
+    push_traces(alloc, &mut page, words, &compiled.typed, memories);
     let Some(object) = object_in(alloc, source, compiled, answer) else {
         return;
     };
     push_listing(alloc, &mut page, words.source, &object);
-    if push_run(alloc, &mut page, words, &object, memory, answer) {
+    if push_runs(alloc, &mut page, words, &object, memories, answer) {
         push_page_end(&mut page);
         add_page(alloc, name, page, savings, answer);
     }
@@ -176,12 +198,12 @@ fn push_head(
     let mut summary = Message::new(alloc);
     let counts = counts_of(compiled.built.code.list());
     push_summary(alloc, &mut summary, &compiled.built.report, counts);
-    push_text(page, "summary", summary);
+    push_text(page, "summary", 0, summary);
     let mut sizes = Message::new(alloc);
     push_typed_sizes(alloc, &mut sizes, name, &compiled.typed);
-    push_text(page, "sizes", sizes);
+    push_text(page, "sizes", 0, sizes);
     let form = form_of(alloc, &compiled.built.ssu, answer);
-    push_page_block(page, "form", &form);
+    push_page_form(page, "form", &form);
     let mut banks = Message::new(alloc);
     push_banks(
         alloc,
@@ -189,7 +211,7 @@ fn push_head(
         &compiled.built.ssu,
         &compiled.built.report,
     );
-    push_text(page, "banks", banks)
+    push_text(page, "banks", 0, banks)
 }
 
 fn push_listing(alloc: Global, page: &mut Message, name: &str, object: &[u8]) {
@@ -198,31 +220,79 @@ fn push_listing(alloc: Global, page: &mut Message, name: &str, object: &[u8]) {
     let (_, out, err) = listing.into_parts();
     page.fail_if(err.is_short());
     drop(err);
-    push_text(page, "listing", out)
+    match out.into_bytes() {
+        Ok(bytes) => push_page_listing(page, "listing", &bytes),
+        Err(AllocError) => page.fail(),
+    }
 }
 
-// The outcome on a memory text, and how often each label was entered. Gives false where the text is refused.
+// The names of the memory texts, one in each line.
+fn push_names(alloc: Global, page: &mut Message, words: &Page) {
+    let mut names = Message::new(alloc);
+    for name in words.memories.iter() {
+        names.line(*name);
+    }
+    push_text(page, "memories", 0, names)
+}
+
+// Where the text has the statement of each write, on each memory text.
+fn push_traces(
+    alloc: Global,
+    page: &mut Message,
+    words: &Page,
+    typed: &Typed,
+    memories: &[MemoryText],
+) {
+    let calls = 16 * u64::from(words.steps);
+    for (number, memory) in memories.iter().enumerate() {
+        push_trace(alloc, page, typed, calls, number, &memory.text);
+    }
+}
+
+// The outcomes on the memory texts, and how often each label was entered. Gives false where a text is refused.
+fn push_runs(
+    alloc: Global,
+    page: &mut Message,
+    words: &Page,
+    object: &[u8],
+    memories: &[MemoryText],
+    answer: &mut Answer,
+) -> bool
+    requires steps { words.now.steps ≤ 100000000 }
+{
+    for (number, name) in words.memories.iter().enumerate() {
+        let Some(memory) = memories.get(number) else {
+            return false;
+        };
+        let run = Run {
+            program: words.source,
+            memory: *name,
+            steps: words.steps,
+            has_profile: true,
+            counts: None,
+        };
+        if !push_run(alloc, page, run, number, object, memory, answer) {
+            return false;
+        }
+    }
+    true
+}
+
 fn push_run(
     alloc: Global,
     page: &mut Message,
-    words: Page,
+    run: Run,
+    number: usize,
     object: &[u8],
     memory: &MemoryText,
     answer: &mut Answer,
 ) -> bool
-    requires steps { words.steps ≤ 100000000 }
-    requires memory { length memory.now.text.items ≤ memory_limit }
+    requires steps { run.steps ≤ 100000000 }
 {
-    let Some(name) = words.memory else {
-        return true;
-    };
-    let run = Run {
-        program: words.source,
-        memory: name,
-        steps: words.steps,
-        has_profile: true,
-        counts: None,
-    };
+    if memory.text.len() as u64 > MEMORY_LIMIT {
+        answer.fail();
+        return false;
+    }
     let mut ran = Answer::new(alloc);
     let mut none = Vec::new(alloc);
     run_object(alloc, run, object, memory, &mut none, &mut ran);
@@ -233,17 +303,17 @@ fn push_run(
         answer.ending = Ending::Failed;
         answer.err.message_text(&err);
     } else {
-        push_page_block(page, "memory", &memory.text);
-        push_text(page, "outcome", out);
-        push_text(page, "profile", err);
+        push_page_part(page, "memory", number, &memory.text);
+        push_text(page, "outcome", number, out);
+        push_text(page, "profile", number, err);
     }
     !is_refused
 }
 
 // A text that the page's script reads.
-fn push_text(page: &mut Message, id: &str, text: Message) {
+fn push_text(page: &mut Message, id: &str, number: usize, text: Message) {
     match text.into_bytes() {
-        Ok(bytes) => push_page_block(page, id, &bytes),
+        Ok(bytes) => push_page_part(page, id, number, &bytes),
         Err(AllocError) => page.fail(),
     }
 }

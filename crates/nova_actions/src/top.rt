@@ -72,7 +72,11 @@ fn perform<F: Files, D: Folders>(
     match command {
         Command::Build(words) => return build(alloc, files, words, answer),
         Command::Run(words) => return simulate_program(alloc, files, words, answer),
-        Command::Page(words) => return make_page(alloc, files, words, answer),
+        Command::Page(words) => {
+            let savings = make_page(alloc, files, &words, answer);
+            drop(words);
+            return savings;
+        }
         Command::Format(words) => return format_sources(alloc, files, words, answer),
         Command::List(name) => list(alloc, files, name, answer),
         Command::Forms(words) => print_forms(alloc, files, words, answer),

@@ -8,224 +8,33 @@ pub fn push_engine(out: &mut Message) {
     out.put(ENGINE_1)
 }
 
-const ENGINE_0: &str = r#"'use strict';
-const BANKS = [['A', 16], ['B', 16], ['L', 8], ['LD', 8], ['S', 8], ['SD', 8]];
-const REGISTERS = BANKS.flatMap(([bank, size]) => Array.from({ length: size }, (_, n) => bank + n));
-const NONE = REGISTERS.length;
-const NUMBER = new Map([...REGISTERS.map((name, n) => [name, n]), ['none', NONE]]);
-const SPILL_BASE = 512;
-const ZERO = 1, CARRY = 2;
-const CONDITIONS = { ALWAYS: 0, Z: ZERO, NZ: ZERO, C: CARRY, NC: CARRY };
-const hex = (n, wide = 8) => (n >>> 0).toString(16).padStart(wide, '0');
-const bankOf = register => REGISTERS[register].replace(/[0-9]+$/, '');
-const several = (n, what) => n + ' ' + what + (n === 1 ? '' : 's');
-function instruction(text, kind) {
-const w = text.split(' ');
-const it = { text, kind, words: w, op: w[0], reads: [], writes: [], readsFlags: 0, writesFlags: 0, target: -1, goesOn: true };
-const number = name => NUMBER.get(name);
-const run = (bank, from, count) => Array.from({ length: count }, (_, n) => number(bank + (from + n)));
-if (w[0] === 'alu') {
-Object.assign(it, { operation: w[2], to: number(w[1]), x: number(w[3]), y: number(w[4]), writesFlags: ZERO | CARRY });
-it.reads = [it.x, it.y];
-it.writes = [it.to];
-} else if (w[0] === 'un') {
-const isShift = w.length === 5;
-Object.assign(it, { operation: w[2], to: number(w[1]), shift: isShift ? Number(w[3]) : 0, x: number(w[isShift ? 4 : 3]), writesFlags: ZERO | CARRY });
-it.reads = [it.x];
-it.writes = [it.to];
-} else if (w[0] === 'immed') {
-Object.assign(it, { to: number(w[1]), value: (Number(w[2]) << Number(w[3])) >>> 0 });
-it.writes = [it.to];
-} else if (w[0] === 'br') {
-Object.assign(it, { condition: w[1], target: Number(w[2].slice(1)), readsFlags: CONDITIONS[w[1]], goesOn: w[1] !== 'ALWAYS' });
-} else if (w[0] === 'read' || w[0] === 'write') {
-const isWide = w[1] === 'sdram';
-Object.assign(it, { memory: w[1], count: Number(w[3]), x: number(w[4]), offset: Number(w[5]), unit: isWide ? 2 : 1 });
-it.list = run((w[0] === 'read' ? 'L' : 'S') + (isWide ? 'D' : ''), Number(w[2]), it.count);
-it.reads = w[0] === 'read' ? [it.x] : [it.x, ...it.list];
-it.writes = w[0] === 'read' ? it.list : [];
-} else if (w[0] === 'halt') {
-Object.assign(it, { exception: Number(w[1]), count: Number(w[2]), goesOn: false });
-it.reads = run('A', 0, it.count);
-}
-it.writes = it.writes.filter(register => register !== NONE);
-return it;
-}
-function readListing(text) {
-const listing = { code: [], labels: [] };
-for (const line of text.split('\n')) {
-const label = /^L([0-9]+):$/.exec(line);
-if (label) listing.labels.push({ number: Number(label[1]), start: listing.code.length });
-const row = /^ *[0-9]+  ([a-z].*?)(?: +; (.*))?$/.exec(line);
-if (row) listing.code.push(instruction(row[1], row[2] || ''));
-}
-return listing;
-}
-function readMemory(text) {
-const memory = { sram: new Uint32Array(0), sdram: new Uint32Array(0), scratch: new Uint32Array(1024), args: [] };
-for (const line of text.split('\n')) {
-const w = line.split(' ');
-if (w[0] === 'memory') {
-memory.sram = new Uint32Array(Number(w[1]));
-memory.sdram = new Uint32Array(2 * Number(w[2]));
-} else if (w[0] === 'args') {
-memory.args = w.slice(1).map(word => parseInt(word, 16));
-} else if (memory[w[0]]) {
-const at = Number(w[1]) * (w[0] === 'sdram' ? 2 : 1);
-w.slice(2).forEach((word, n) => { memory[w[0]][at + n] = parseInt(word, 16); });
-}
-}
-return memory;
-}
-const copyMemory = it => ({ sram: it.sram.slice(), sdram: it.sdram.slice(), scratch: it.scratch.slice(), args: it.args.slice() });
-const ALU = {
-ADD: (x, y) => [x + y, x + y > 0xffffffff],
-SUB: (x, y) => [x - y, x >= y],
-AND: (x, y) => [x & y, false],
-OR: (x, y) => [x | y, false],
-XOR: (x, y) => [x ^ y, false],
-};
-const UN = {
-COPY: x => x,
-NOT: x => ~x,
-SHL: (x, k) => x << k,
-SHR: (x, k) => x >>> k,
-ROL: (x, k) => (x << k) | (x >>> (32 - k)),
-};
-function runCode(code, memory, most, kept) {
-const registers = new Uint32Array(NONE + 1);
-const ran = { end: 'going', steps: 0, counts: new Float64Array(code.length), places: [], accesses: [], writes: [], writeCount: 0, memory };
-ran.history = REGISTERS.map(() => ({ steps: [], words: [] }));
-memory.args.forEach((word, n) => { registers[n] = word; });
-registers[NUMBER.get('B15')] = SPILL_BASE;
-let zero = false, carry = false, place = 0, isKept = true;
-const put = (register, word) => {
-registers[register] = word;
-if (isKept && register !== NONE) {
-ran.history[register].steps.push(ran.steps);
-ran.history[register].words.push(word >>> 0);
-}
-};
-const access = it => {
-const words = memory[it.memory], address = registers[it.x] + it.offset, at = address * it.unit;
-if (at + it.count > words.length) {
-ran.end = 'fault ' + it.memory + ' ' + address;
-return false;
-}
-if (isKept) ran.accesses.push({ step: ran.steps, isWrite: it.op === 'write', memory: it.memory, at, count: it.count });
-if (it.op === 'read') {
-it.list.forEach((register, n) => put(register, words[at + n]));
-} else {
-it.list.forEach((register, n) => { words[at + n] = registers[register]; });
-if (it.memory !== 'scratch' || at < SPILL_BASE) {
-ran.writeCount += 1;
-if (ran.writes.length < 64) ran.writes.push('write ' + it.memory + ' ' + address + it.list.map(r => ' ' + hex(registers[r])).join(''));
-}
-}
-return true;
-};
-while (ran.steps < most) {
-const it = code[place];
-let next = place + 1, isOver = false;
-isKept = ran.steps < kept;
-if (isKept) ran.places.push(place);
-ran.counts[place] += 1;
-switch (it.op) {
-case 'alu': {
-const [word, isCarried] = ALU[it.operation](registers[it.x], registers[it.y]);
-carry = isCarried;
-zero = word >>> 0 === 0;
-put(it.to, word);
-break;
-}
-case 'un': {
-const word = UN[it.operation](registers[it.x], it.shift);
-carry = false;
-zero = word >>> 0 === 0;
-put(it.to, word);
-break;
-}
-case 'immed':
-put(it.to, it.value);
-break;
-case 'br': {
-const isTaken = it.condition === 'ALWAYS' || (it.readsFlags === ZERO ? zero : carry) === (it.condition.length === 1);
-if (isTaken) next = it.target;
-break;
-}
-case 'halt':
-ran.end = (it.exception === 0 ? 'ended' : 'raised ' + it.exception) + it.reads.map(r => ' ' + hex(registers[r])).join('');
+const ENGINE_0: &str =
+    r#"'use strict';const BANKS=[['A',16],['B',16],['L',8],['LD',8],['S',8],['SD',8]];const REGISTERS=BANKS.flatMap(([bank,size])=>Array.from({length:size},(_,n)=>bank+n));const NONE=REGISTERS.length;const NUMBER=new Map([...REGISTERS.map((name,n)=>[name,n]),['none',NONE]]);const SPILL_BASE=512;const ZERO=1,CARRY=2;
+const CONDITIONS={ALWAYS:0,Z:ZERO,NZ:ZERO,C:CARRY,NC:CARRY};const hex=(n,wide=8)=>(n>>>0).toString(16).padStart(wide,'0');const bankOf=register=>REGISTERS[register].replace(/[0-9]+$/,'');const several=(n,what)=>n+' '+what+(n===1?'':'s');function instruction(text,kind){const w=text.split(' ');const it={text,kind,words:w,op:w[0],reads:[],writes:[],readsFlags:0,writesFlags:0,target:-1,goesOn:true};
+const number=name=>NUMBER.get(name);const run=(bank,from,count)=>Array.from({length:count},(_,n)=>number(bank+(from+n)));if(w[0]==='alu'){Object.assign(it,{operation:w[2],to:number(w[1]),x:number(w[3]),y:number(w[4]),writesFlags:ZERO|CARRY});it.reads=[it.x,it.y];it.writes=[it.to];}else if(w[0]==='un'){
+const isShift=w.length===5;Object.assign(it,{operation:w[2],to:number(w[1]),shift:isShift?Number(w[3]):0,x:number(w[isShift?4:3]),writesFlags:ZERO|CARRY});it.reads=[it.x];it.writes=[it.to];}else if(w[0]==='immed'){Object.assign(it,{to:number(w[1]),value:(Number(w[2])<<Number(w[3]))>>>0});it.writes=[it.to];
+}else if(w[0]==='br'){Object.assign(it,{condition:w[1],target:Number(w[2].slice(1)),readsFlags:CONDITIONS[w[1]],goesOn:w[1]!=='ALWAYS'});}else if(w[0]==='read'||w[0]==='write'){const isWide=w[1]==='sdram';Object.assign(it,{memory:w[1],count:Number(w[3]),x:number(w[4]),offset:Number(w[5]),unit:isWide?2:1});
+it.list=run((w[0]==='read'?'L':'S')+(isWide?'D':''),Number(w[2]),it.count);it.reads=w[0]==='read'?[it.x]:[it.x,...it.list];it.writes=w[0]==='read'?it.list:[];}else if(w[0]==='halt'){Object.assign(it,{exception:Number(w[1]),count:Number(w[2]),goesOn:false});it.reads=run('A',0,it.count);}it.writes=it.writes.filter(register=>register!==NONE);
+return it;}const KINDS={mbb:'move between banks',m:'move',l:'literal',s:'spill'};function readListing(text){const listing={code:[],labels:[]};for(const line of text.split('\n')){const label=/^L([0-9]+):$/.exec(line),row=/^(?: *[0-9]+ +)?([a-z][^;]*?) *(?:; ?(.*))?$/.exec(line);if(label)listing.labels.push({number:Number(label[1]),start:listing.code.length});
+else if(row&&!line.startsWith('params '))listing.code.push(instruction(row[1],KINDS[row[2]]||row[2]||''));}return listing;}function readMemory(text){const memory={sram:new Uint32Array(0),sdram:new Uint32Array(0),scratch:new Uint32Array(1024),args:[]};for(const line of text.split('\n')){const w=line.split(' ');
+if(w[0]==='memory'){memory.sram=new Uint32Array(Number(w[1]));memory.sdram=new Uint32Array(2*Number(w[2]));}else if(w[0]==='args'){memory.args=w.slice(1).map(word=>parseInt(word,16));}else if(memory[w[0]]){const at=Number(w[1])*(w[0]==='sdram'?2:1);w.slice(2).forEach((word,n)=>{memory[w[0]][at+n]=parseInt(word,16);});
+}}return memory;}const copyMemory=it=>({sram:it.sram.slice(),sdram:it.sdram.slice(),scratch:it.scratch.slice(),args:it.args.slice()});const ALU={ADD:(x,y)=>[x+y,x+y>0xffffffff],SUB:(x,y)=>[x-y,x>=y],AND:(x,y)=>[x&y,false],OR:(x,y)=>[x|y,false],XOR:(x,y)=>[x^y,false],};const UN={COPY:x=>x,NOT:x=>~x,SHL:(x,k)=>x<<k,
+SHR:(x,k)=>x>>>k,ROL:(x,k)=>(x<<k)|(x>>>(32-k)),};function runCode(code,memory,most,kept){const registers=new Uint32Array(NONE+1);const ran={end:'going',steps:0,counts:new Float64Array(code.length),places:[],accesses:[],writes:[],writeCount:0,fault:null,last:0,memory};ran.history=REGISTERS.map(()=>({steps:[],words:[]}));
+memory.args.forEach((word,n)=>{registers[n]=word;});registers[NUMBER.get('B15')]=SPILL_BASE;let zero=false,carry=false,place=0,isKept=true;const put=(register,word)=>{registers[register]=word;if(isKept&&register!==NONE){ran.history[register].steps.push(ran.steps);ran.history[register].words.push(word>>>0);
+}};const access=it=>{const words=memory[it.memory],address=registers[it.x]+it.offset,at=address*it.unit;const made={step:ran.steps,place,isWrite:it.op==='write',memory:it.memory,at,count:it.count};if(at+it.count>words.length){ran.end='fault '+it.memory+' '+address;ran.fault=made;return false;}if(ran.accesses.length<kept)ran.accesses.push(made);
+if(it.op==='read'){it.list.forEach((register,n)=>put(register,words[at+n]));}else{it.list.forEach((register,n)=>{words[at+n]=registers[register];});if(it.memory!=='scratch'||at<SPILL_BASE){ran.writeCount+=1;if(ran.writes.length<64)ran.writes.push('write '+it.memory+' '+address+it.list.map(r=>' '+hex(registers[r])).join(''));
+}}return true;};while(ran.steps<most){const it=code[place];let next=place+1,isOver=false;isKept=ran.steps<kept;if(isKept)ran.places.push(place);ran.counts[place]+=1;switch(it.op){case'alu':{const[word,isCarried]=ALU[it.operation](registers[it.x],registers[it.y]);carry=isCarried;zero=word>>>0===0;put(it.to,word);
+break;}case'un':{const word=UN[it.operation](registers[it.x],it.shift);carry=false;zero=word>>>0===0;put(it.to,word);break;}case'immed':put(it.to,it.value);break;case'br':{const isTaken=it.condition==='ALWAYS'||(it.readsFlags===ZERO?zero:carry)===(it.condition.length===1);if(isTaken)next=it.target;break;
+}case'halt':ran.end=(it.exception===0?'ended':'raised '+it.exception)+it.reads.map(r=>' '+hex(registers[r])).join('');isOver=true;break;default:isOver=!access(it);}ran.steps+=1;ran.last=place;if(isOver)break;place=next;}return ran;}function outcomeText(ran){const{sram,sdram,scratch}=ran.memory;const lines=[ran.end,'writes '+ran.writeCount,...ran.writes,'memory '+sram.length+' '+sdram.length/2];
+for(const[name,words,unit]of[['sram',sram,1],['sdram',sdram,2],['scratch',scratch.subarray(0,SPILL_BASE),1]]){for(let at=0;at<words.length;at+=8){const stretch=[...words.subarray(at,at+8)];if(stretch.some(word=>word!==0))lines.push(name+' '+at/unit+stretch.map(word=>' '+hex(word)).join(''));}}return lines.join('\n')+'\n';
 "#;
 
-const ENGINE_1: &str = r#"isOver = true;
-break;
-default:
-isOver = !access(it);
-}
-ran.steps += 1;
-if (isOver) break;
-place = next;
-}
-return ran;
-}
-function outcomeText(ran) {
-const { sram, sdram, scratch } = ran.memory;
-const lines = [ran.end, 'writes ' + ran.writeCount, ...ran.writes, 'memory ' + sram.length + ' ' + sdram.length / 2];
-for (const [name, words, unit] of [['sram', sram, 1], ['sdram', sdram, 2], ['scratch', scratch.subarray(0, SPILL_BASE), 1]]) {
-for (let at = 0; at < words.length; at += 8) {
-const stretch = [...words.subarray(at, at + 8)];
-if (stretch.some(word => word !== 0)) lines.push(name + ' ' + at / unit + stretch.map(word => ' ' + hex(word)).join(''));
-}
-}
-return lines.join('\n') + '\n';
-}
-function liveBefore(code) {
-const sets = code.map(() => [0, 0, 0]);
-const masks = list => list.reduce((sum, r) => { sum[r >> 5] |= 1 << (r & 31); return sum; }, [0, 0]);
-const uses = code.map(it => [...masks(it.reads), it.readsFlags]);
-const kept = code.map(it => [...masks(it.writes).map(bits => ~bits), ~it.writesFlags]);
-for (let isSame = false; !isSame;) {
-isSame = true;
-for (let n = code.length - 1; n >= 0; n -= 1) {
-for (let part = 0; part < 3; part += 1) {
-const after = (code[n].goesOn && n + 1 < code.length ? sets[n + 1][part] : 0) | (code[n].target >= 0 ? sets[code[n].target][part] : 0);
-const bits = (after & kept[n][part]) | uses[n][part];
-if (bits !== sets[n][part]) {
-sets[n][part] = bits;
-isSame = false;
-}
-}
-}
-}
-return sets;
-}
-const isLive = (set, register) => (set[register >> 5] >>> (register & 31) & 1) === 1;
-const ones = bits => bits.toString(2).split('1').length - 1;
-const liveCounts = set => [ones(set[0] & 0x7fff), ones(set[0] >>> 16 & 0x7fff)];
-function readProfile(text) {
-const profile = { steps: 0, labels: new Map() };
-for (const line of text.split('\n')) {
-const total = /^([0-9]+) steps?/.exec(line), row = /^ *([0-9]+) +([0-9]+)  L([0-9]+)$/.exec(line);
-if (total) profile.steps = Number(total[1]);
-if (row) profile.labels.set(Number(row[3]), { steps: Number(row[1]), entries: Number(row[2]) });
-}
-return profile;
-}
-function labelCounts(listing, counts) {
-return listing.labels.map((label, n) => {
-const end = n + 1 < listing.labels.length ? listing.labels[n + 1].start : counts.length;
-let steps = 0;
-for (let at = label.start; at < end; at += 1) steps += counts[at];
-return { number: label.number, entries: counts[label.start], steps };
-});
-}
-function disagreement(listing, ran, outcome, profile) {
-if (outcomeText(ran) !== outcome.replace(/^exception .*\n/m, '')) return 'its outcome is another';
-if (ran.steps !== profile.steps) return 'it takes ' + several(ran.steps, 'step');
-for (const label of labelCounts(listing, ran.counts)) {
-const told = profile.labels.get(label.number) || { steps: 0, entries: 0 };
-if (label.entries !== told.entries || label.entries > 0 && label.steps !== told.steps) return 'L' + label.number + ' has other counts';
-}
-return '';
-}
+const ENGINE_1: &str =
+    r#"}function liveBefore(code){const size=code.length,parts=[0,1,2].map(()=>new Int32Array(size+1)),masks=[0,1,2].map(()=>[new Int32Array(size),new Int32Array(size)]);code.forEach((it,n)=>{for(const[list,side]of[[it.reads,0],[it.writes,1]])for(const r of list)masks[r>>5][side][n]|=1<<(r&31);masks[2][0][n]=it.readsFlags;
+masks[2][1][n]=it.writesFlags;});const targets=Int32Array.from(code,it=>(it.target<0?size:it.target)),nexts=Int32Array.from(code,(it,n)=>(it.goesOn?n+1:size));for(let isSame=false;!isSame;){isSame=true;for(let part=0;part<3;part+=1){const live=parts[part],[uses,kills]=masks[part];for(let n=size-1;n>=0;n-=1){
+const bits=(live[nexts[n]]|live[targets[n]])&~kills[n]|uses[n];if(bits!==live[n]){live[n]=bits;isSame=false;}}}}return code.map((_,n)=>parts.map(part=>part[n]));}const isLive=(set,register)=>(set[register>>5]>>>(register&31)&1)===1;const ones=bits=>bits.toString(2).split('1').length-1;const liveCounts=set=>[ones(set[0]&0x7fff),ones(set[0]>>>16&0x7fff)];
+function readProfile(text){const profile={steps:0,labels:new Map()};for(const line of text.split('\n')){const total=/^([0-9]+) steps?/.exec(line),row=/^ *([0-9]+) +([0-9]+)  L([0-9]+)$/.exec(line);if(total)profile.steps=Number(total[1]);if(row)profile.labels.set(Number(row[3]),{steps:Number(row[1]),entries:Number(row[2])});
+}return profile;}function labelCounts(listing,counts){return listing.labels.map((label,n)=>{const end=n+1<listing.labels.length?listing.labels[n+1].start:counts.length;let steps=0;for(let at=label.start;at<end;at+=1)steps+=counts[at];return{number:label.number,entries:counts[label.start],steps};});}function disagreement(listing,ran,outcome,profile){
+if(outcomeText(ran)!==outcome.replace(/^exception .*\n/m,''))return'its outcome is another';if(ran.steps!==profile.steps)return'it takes '+several(ran.steps,'step');for(const label of labelCounts(listing,ran.counts)){const told=profile.labels.get(label.number)||{steps:0,entries:0};if(label.entries!==told.entries||label.entries>0&&label.steps!==told.steps)return'L'+label.number+' has other counts';
+}return'';}
 "#;

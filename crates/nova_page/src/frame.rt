@@ -11,12 +11,12 @@ const FRAME: &str = r#"</style>
 </head>
 <body>
 <div id="page">
-<header><h1 id="title"></h1><span id="summary-line"></span><span id="trust" role="status"></span></header>
+<header><h1 id="title"></h1><span id="summary-line"></span><span id="trust" role="status"></span><span id="runs" role="tablist" aria-label="memory texts" hidden></span></header>
 <main>
 <section aria-label="Source"><h2>Source</h2><div class="scroll" tabindex="0"><div class="code" id="source-rows"></div></div></section>
 <section aria-label="Code"><h2>Code <span class="aside" id="code-aside"></span>
 <label class="switch"><input type="checkbox" id="with-form">single-use form</label></h2><div class="scroll" tabindex="0"><div class="code" id="code-rows"></div></div></section>
-<section aria-label="Packet" id="packet"><h2>Packet <span class="aside">before and after</span><span id="memories" class="switch"></span></h2>
+<section aria-label="Packet" id="packet"><h2>Packet <span class="aside">before and after</span><span id="memories-choice" class="switch"></span></h2>
 <div class="scroll" tabindex="0"><div id="given"></div><div id="bytes"></div><table id="fields"></table>
 <div id="layout-choice"><label>Layout <select id="layout"></select></label> <label>at word <input id="layout-at" type="number" min="0" value="0"></label></div>
 <table id="layout-fields"></table></div></section>
@@ -33,14 +33,19 @@ const FRAME: &str = r#"</style>
 <details open class="legend"><summary>How to read this page</summary><dl>
 <dt>Code</dt><dd>Each instruction has its place, how often it ran, and a bar for that count.
 <span class="mark between">moves between banks</span>, <span class="mark within">moves within a bank</span>, <span class="mark literal">literals</span> and
-<span class="mark spill">spills</span> have a colour each. Point at one to read what it does and what is live there. A click goes to its first step.</dd>
-<dt>Source</dt><dd>A line with a blue edge has a memory access, or a <code>raise</code> that ends the run, which the code is known to have from it. Its number is how often the code did that. Other lines aren't tied to code.</dd>
-<dt>Packet</dt><dd>Bytes before the run stand left, those after it right, and what differs is red. A change of a byte or an argument runs the code again, by the engine of this page alone.</dd>
+<span class="mark spill">spills</span> have a colour each. Point at one to read what it does, why a move is there, and what is live. A click goes to its first step.</dd>
+<dt>Source</dt><dd>A line with a coloured edge has an access or a <code>raise</code> that the code is known to have from it: instructions of its colour. Its number is how often the code did that.
+A write of a run is tied to the line where the interpreter of <code>nova</code> made it, if all writes are the same: memory, address and count.
+A read, a <code>raise</code>, and a write that no run came to are tied where one line alone does such a thing. The others aren't tied.</dd>
+<dt>Labels and values</dt><dd><code>with f</code> at a label says that what is tied in it comes from the function <code>f</code>. A value has a name where
+<code>main</code> gets it, a <code>let</code> reads it, or it is written or raised by that name, in a line that is tied. Others have numbers.</dd>
+<dt>Packet</dt><dd>Bytes before the run stand left, those after it right, and what differs is red. A change of a byte or an argument runs the code again, by the engine of this page alone.
+A layout of the source or a header can be laid over any word: a click on a byte chooses it.</dd>
 <dt>Registers</dt><dd><span class="r A">A</span> and <span class="r B">B</span> have 15 registers each for values. <span class="r L">L</span> and <span class="r LD">LD</span> hold what was read,
 <span class="r S">S</span> and <span class="r SD">SD</span> what will be written. The strip above them shows how many values of A and B are live.</dd>
 <dt>Links</dt><dd><code>#L42</code> is a line of the source, <code>#i27</code> an instruction.</dd>
-<dt>Trust</dt><dd>Outcome, counts of labels, banks and sizes are texts of the program <code>nova</code>. The count of each instruction, the steps and the registers are a replay by this page's engine.
-They are shown where its outcome and its counts of labels are those of <code>nova</code>.</dd>
+<dt>Trust</dt><dd>Outcome, counts of labels, banks and sizes are texts of the program <code>nova</code>. The count of each instruction, the steps, the registers, and what is said of values and moves
+are worked out by this page. They are shown where its outcome and its counts of labels are those of <code>nova</code>.</dd>
 </dl></details>
 </div>
 <div id="tip" role="tooltip" hidden></div>

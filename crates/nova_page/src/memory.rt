@@ -9,167 +9,28 @@ pub fn push_memory(out: &mut Message) {
 }
 
 const MEMORY_0: &str =
-    r#"const bytesOf = words => [...words].flatMap(word => [word >>> 24, word >>> 16 & 255, word >>> 8 & 255, word & 255]);
-function shownStretches(before, after) {
-const out = [];
-for (let from = 0; from < before.length && out.length < 512; from += 8) {
-let isZero = from >= 64;
-for (let n = from; isZero && n < from + 8 && n < before.length; n += 1) isZero = before[n] === 0 && after[n] === 0;
-if (!isZero) out.push(from);
-}
-return out;
-}
-function showBytes() {
-const shownWords = memory => memory[now.memory].subarray(0, now.memory === 'scratch' ? SPILL_BASE : memory[now.memory].length);
-const before = bytesOf(shownWords(now.input)), after = bytesOf(shownWords(now.after));
-now.bytes = { before, after };
-const cells = (bytes, other, from, side) => '<span class="' + side + '">' + bytes.slice(from, from + 8).map((byte, n) => '<b data-byte="' + (from + n) + '"'
-+ (byte !== other[from + n] && side === 'after' ? ' class="changed"' : '') + '>' + hex(byte, 2) + '</b>').join('') + '</span>';
-put('bytes', shownStretches(before, after).map(from => '<span>' + hex(from, 4) + '</span>' + cells(before, after, from, 'before') + cells(after, before, from, 'after')).join(''));
-}
-function fieldRows(first, second) {
-const keyed = groups => {
-const seen = new Map();
-return groups.map(group => {
-seen.set(group.title, (seen.get(group.title) || 0) + 1);
-return [group.title + ' ' + seen.get(group.title), group];
-});
-};
-const old = new Map(keyed(first)), pairs = keyed(second).map(([key, group]) => [old.get(key) || null, group, key]);
-const used = new Set(pairs.map(it => it[2]));
-for (const [key, group] of old) if (!used.has(key)) pairs.push([group, null, key]);
-return pairs.map(([before, after]) => {
-const any = after || before, moved = before && after && before.at !== after.at ? ', from byte ' + before.at : '';
-const remark = before && after ? moved : after ? ', new' : ', gone';
-const rows = any.fields.map((field, n) => {
-const same = group => (group ? group.fields.find((it, m) => it.name === field.name && (m === n || it.name !== 'reserved')) : null);
-return fieldRow(same(before), same(after));
-});
-return '<tr class="group"><td colspan="3">' + safe(any.title) + ' at byte ' + any.at + remark + '</td></tr>' + rows.join('');
-}).join('');
-}
-const isRight = field => (field.isRight === undefined ? '' : field.isRight ? ' <span class="right" title="right">\u2713</span>' : ' <span class="wrong" title="wrong">\u2717</span>');
-function fieldRow(before, after) {
-const any = after || before, side = field => (field ? safe(field.text) + isRight(field) : '\u2013');
-const isSame = before && after && before.text === after.text && before.isRight === after.isRight;
-const bytes = [any.bit >> 3, any.size === 0 ? 0 : ((any.bit + any.size - 1) >> 3) - (any.bit >> 3) + 1];
-return '<tr' + (isSame ? '' : ' class="changed"') + ' data-from="' + bytes[0] + '" data-size="' + bytes[1] + '"><td>' + safe(any.name) + '</td><td>' + side(before) + '</td><td>' + (isSame ? '' : '\u2192 ' + side(after)) + '</td></tr>';
-}
-function showFields() {
-const { before, after } = now.bytes;
-const known = packetGroups(before), first = known.length > 0 ? known : packetGroups(before, packetGroups(after)[0]);
-put('fields', fieldRows(first, packetGroups(after, first[0])));
-const layout = layouts[Number(at('layout').value)], from = 4 * Number(at('layout-at').value);
-put('layout-fields', layout && from < before.length ? fieldRows([layoutGroup(before, layout, from)], [layoutGroup(after, layout, from)]) : '');
-}
-function showMemory() {
-showBytes();
-showFields();
-at('memories').querySelectorAll('button').forEach(it => it.setAttribute('aria-pressed', it.textContent.toLowerCase() === now.memory));
-if (now.hasCounts) markAccesses();
-}
-function markAccesses() {
-at('bytes').querySelectorAll('.read, .wrote').forEach(it => it.classList.remove('read', 'wrote'));
-for (const it of now.ran.accesses) {
-if (it.step !== now.step || it.memory !== now.memory) continue;
-for (let n = 4 * it.at; n < 4 * (it.at + it.count); n += 1) {
-at('bytes').querySelectorAll('[data-byte="' + n + '"]').forEach(cell => cell.classList.add(it.isWrite ? 'wrote' : 'read'));
-}
-}
-}
-function runInput(isOurs) {
-const most = isOurs ? mostSteps : profile.steps;
-now.isOurs = isOurs;
-now.ran = most > 20 * mostSteps ? null : runCode(code, copyMemory(now.input), most, keptSteps);
-const found = isOurs ? '' : now.ran ? disagreement(listing, now.ran, text('outcome'), profile) : 'it is too long to be replayed here';
-now.hasCounts = found === '';
-const end = now.ran ? now.ran.end : '';
-const said = now.isOurs ? 'This is a run of the page\u2019s own engine, not the proved one: ' + end
-: found ? 'The replay isn\u2019t shown, since ' + found + '. The proved run: ' + lines(text('outcome'))[0] : '\u2713 The replay agrees with the proved run: ' + end;
-at('trust').className = found || isOurs ? 'wrong' : 'right';
-at('trust').textContent = said;
-if (isOurs) {
-const again = document.createElement('button');
-again.textContent = 'back to the proved run';
-again.onclick = () => startWith(given);
-at('trust').append(' ', again);
-}
-at('time').hidden = !now.hasCounts;
-now.after = isOurs ? now.ran.memory : readMemory(text('outcome'));
-showCounts();
-showMemory();
-if (now.hasCounts) showSteps();
-}
-function startWith(input) {
-now.input = copyMemory(input);
-put('given', now.input.args.length === 0 ? '' : 'arguments ' + now.input.args.map((word, n) => '<input aria-label="argument ' + (n + 1) + '" maxlength="8" data-arg="' + n + '" value="' + hex(word) + '">').join(' '));
-runInput(false);
-}
-at('given').addEventListener('change', event => {
-const cell = event.target;
-if (!/^[0-9a-fA-F]{1,8}$/.test(cell.value)) cell.value = hex(now.input.args[Number(cell.dataset.arg)]);
-now.input.args[Number(cell.dataset.arg)] = parseInt(cell.value, 16);
-runInput(true);
-});
-function editByte(cell) {
-const n = Number(cell.dataset.byte), field = document.createElement('input');
-field.maxLength = 2;
-field.value = cell.textContent;
-field.setAttribute('aria-label', 'byte ' + n);
+    r#"const bytesOf=words=>[...words].flatMap(word=>[word>>>24,word>>>16&255,word>>>8&255,word&255]);function shownStretches(before,after){const out=[];for(let from=0;from<before.length&&out.length<512;from+=8){let isZero=from>=64;for(let n=from;isZero&&n<from+8&&n<before.length;n+=1)isZero=before[n]===0&&after[n]===0;
+if(!isZero)out.push(from);}return out;}function showBytes(){const shownWords=memory=>memory[now.memory].subarray(0,now.memory==='scratch'?SPILL_BASE:memory[now.memory].length);const before=bytesOf(shownWords(now.input)),after=bytesOf(shownWords(now.after));now.bytes={before,after};const cells=(bytes,other,from,side)=>'<span class="'+side+'">'+bytes.slice(from,from+8).map((byte,n)=>'<b data-byte="'+(from+n)+'"'
++(byte!==other[from+n]&&side==='after'?' class="changed"':'')+'>'+hex(byte,2)+'</b>').join('')+'</span>';put('bytes',shownStretches(before,after).map(from=>'<span>'+hex(from,4)+'</span>'+cells(before,after,from,'before')+cells(after,before,from,'after')).join(''));}function fieldRows(first,second){const keyed=groups=>{
+const seen=new Map();return groups.map(group=>{seen.set(group.title,(seen.get(group.title)||0)+1);return[group.title+' '+seen.get(group.title),group];});};const old=new Map(keyed(first)),pairs=keyed(second).map(([key,group])=>[old.get(key)||null,group,key]);const used=new Set(pairs.map(it=>it[2]));for(const[key,group]of old)if(!used.has(key))pairs.push([group,null,key]);
+return pairs.map(([before,after])=>{const any=after||before,moved=before&&after&&before.at!==after.at?', from byte '+before.at:'';const remark=before&&after?moved:after?', new':', gone';const rows=any.fields.map((field,n)=>{const same=group=>(group?group.fields.find((it,m)=>it.name===field.name&&(m===n||it.name!=='reserved')):null);
+return fieldRow(same(before),same(after));});return'<tr class="group"><td colspan="3">'+safe(any.title)+' at byte '+any.at+remark+'</td></tr>'+rows.join('');}).join('');}const isRight=field=>(field.isRight===undefined?'':field.isRight?' <span class="right" title="right">\u2713</span>':' <span class="wrong" title="wrong">\u2717</span>');
+function fieldRow(before,after){const any=after||before,side=field=>(field?safe(field.text)+isRight(field):'\u2013');const isSame=before&&after&&before.text===after.text&&before.isRight===after.isRight;const bytes=[any.bit>>3,any.size===0?0:((any.bit+any.size-1)>>3)-(any.bit>>3)+1];return'<tr'+(isSame?'':' class="changed"')+' data-from="'+bytes[0]+'" data-size="'+bytes[1]+'"><td>'+safe(any.name)+(any.where?' <small>'+any.where+'</small>':'')+'</td><td>'+side(before)+'</td><td>'+(isSame?'':'\u2192 '+side(after))+'</td></tr>';
+}function showFields(){const{before,after}=now.bytes;const known=packetGroups(before),first=known.length>0?known:packetGroups(before,packetGroups(after)[0]);put('fields',fieldRows(first,packetGroups(after,first[0])));const chosen=at('layout').value,layout=layouts.find(it=>it.name===chosen),from=4*Number(at('layout-at').value);
+const groups=bytes=>(layout?[layoutGroup(bytes,layout,from)]:headersAt(bytes,chosen,from));put('layout-fields',chosen&&from<before.length?fieldRows(groups(before),groups(after)):'');}function showMemory(){showBytes();showFields();at('memories-choice').querySelectorAll('button').forEach(it=>it.setAttribute('aria-pressed',it.textContent.toLowerCase()===now.memory));
+if(now.hasCounts)markAccesses();}function markAccesses(){at('bytes').querySelectorAll('.read, .wrote').forEach(it=>it.classList.remove('read','wrote'));for(const it of now.ran.accesses){if(it.step!==now.step||it.memory!==now.memory)continue;for(let n=4*it.at;n<4*(it.at+it.count);n+=1){at('bytes').querySelectorAll('[data-byte="'+n+'"]').forEach(cell=>cell.classList.add(it.isWrite?'wrote':'read'));
+}}}function runInput(isOurs){now.isOurs=isOurs;now.ran=isOurs?runCode(code,copyMemory(now.input),mostSteps,keptSteps):now.run.ran;const found=isOurs?'':now.run.found;now.hasCounts=found==='';const end=now.ran?now.ran.end:'';const said=now.isOurs?'This is a run of the page\u2019s own engine, not the proved one: '+end
+:found?'The replay isn\u2019t shown, since '+found+'. The proved run: '+lines(now.run.outcome)[0]:'\u2713 The replay agrees with the proved run: '+end;at('trust').className=found||isOurs?'wrong':'right';at('trust').textContent=said;if(isOurs){const again=document.createElement('button');again.textContent='back to the proved run';
+again.onclick=()=>startWith(now.run);at('trust').append(' ',again);}at('time').hidden=!now.hasCounts;now.after=isOurs?now.ran.memory:readMemory(now.run.outcome);showCounts();showMemory();if(now.hasCounts)showSteps();}function startWith(run){now.run=run;now.step=-1;now.input=copyMemory(run.memory);at('outcome-text').textContent=run.outcome;
+at('profile-text').textContent=run.profileText;all('#runs button').forEach((it,n)=>it.setAttribute('aria-selected',runs[n]===run));put('given',now.input.args.length===0?'':'arguments '+now.input.args.map((word,n)=>'<input aria-label="argument '+(n+1)+'" maxlength="8" data-arg="'+n+'" value="'+hex(word)+'">').join(' '));
+runInput(false);}on(at('given'),'change',event=>{const cell=event.target;if(!/^[0-9a-fA-F]{1,8}$/.test(cell.value))cell.value=hex(now.input.args[Number(cell.dataset.arg)]);now.input.args[Number(cell.dataset.arg)]=parseInt(cell.value,16);runInput(true);});function editByte(cell){const n=Number(cell.dataset.byte),field=document.createElement('input');
+field.maxLength=2;field.value=cell.textContent;field.setAttribute('aria-label','byte '+n);cell.replaceChildren(field);field.focus();field.select();let isLeft=false;const leave=next=>{if(isLeft)return;isLeft=true;const byte=/^[0-9a-fA-F]{1,2}$/.test(field.value)?parseInt(field.value,16):now.bytes.before[n];
 "#;
 
-const MEMORY_1: &str = r#"cell.replaceChildren(field);
-field.focus();
-field.select();
-let isLeft = false;
-const leave = next => {
-if (isLeft) return;
-isLeft = true;
-const byte = /^[0-9a-fA-F]{1,2}$/.test(field.value) ? parseInt(field.value, 16) : now.bytes.before[n];
-const words = now.input[now.memory], shift = 24 - 8 * (n & 3);
-if (byte === now.bytes.before[n]) {
-cell.textContent = hex(byte, 2);
-} else {
-words[n >> 2] = (words[n >> 2] & ~(255 << shift)) | byte << shift;
-runInput(true);
-}
-const after = next ? at('bytes').querySelector('.before [data-byte="' + (n + 1) + '"]') : null;
-if (after) editByte(after);
-};
-field.onblur = () => leave(false);
-field.onkeydown = event => {
-if (event.key === 'Enter' || event.key === 'Tab' && !event.shiftKey) {
-event.preventDefault();
-leave(true);
-} else if (event.key === 'Escape') {
-field.value = '';
-leave(false);
-}
-};
-}
-at('bytes').addEventListener('click', event => {
-const cell = event.target.closest('.before [data-byte]');
-if (cell && cell.firstElementChild === null) editByte(cell);
-});
-function lightBytes(from, size) {
-document.querySelectorAll('#packet .lit').forEach(it => it.classList.remove('lit'));
-for (let n = from; n < from + size; n += 1) at('bytes').querySelectorAll('[data-byte="' + n + '"]').forEach(it => it.classList.add('lit'));
-}
-for (const id of ['fields', 'layout-fields']) {
-at(id).addEventListener('mousemove', event => {
-const row = event.target.closest('[data-from]');
-lightBytes(row ? Number(row.dataset.from) : 0, row ? Number(row.dataset.size) : 0);
-if (row) row.classList.add('lit');
-});
-}
-at('bytes').addEventListener('mousemove', event => {
-const cell = event.target.closest('[data-byte]'), n = cell ? Number(cell.dataset.byte) : -1;
-lightBytes(Math.max(0, n), n < 0 ? 0 : 1);
-for (const row of document.querySelectorAll('#packet tr[data-from]')) {
-if (Number(row.dataset.from) <= n && n < Number(row.dataset.from) + Number(row.dataset.size)) row.classList.add('lit');
-}
-});
-at('packet').addEventListener('mouseleave', () => lightBytes(0, 0));
-at('layout').addEventListener('change', showFields);
-at('layout-at').addEventListener('input', showFields);
+const MEMORY_1: &str =
+    r#"const words=now.input[now.memory],shift=24-8*(n&3);if(byte===now.bytes.before[n]){cell.textContent=hex(byte,2);}else{words[n>>2]=(words[n>>2]&~(255<<shift))|byte<<shift;runInput(true);}const after=next?at('bytes').querySelector('.before [data-byte="'+(n+1)+'"]'):null;if(after)editByte(after);};field.onblur=()=>leave(false);
+field.onkeydown=event=>{if(event.key==='Enter'||event.key==='Tab'&&!event.shiftKey){event.preventDefault();leave(true);}else if(event.key==='Escape'){field.value='';leave(false);}};}on(at('bytes'),'click',event=>{const cell=event.target.closest('[data-byte]');if(!cell)return;at('layout-at').value=Number(cell.dataset.byte)>>2;
+if(cell.closest('.before')&&cell.firstElementChild===null)editByte(cell);showFields();});function lightBytes(from,size){all('#packet .lit').forEach(it=>it.classList.remove('lit'));for(let n=from;n<from+size;n+=1)at('bytes').querySelectorAll('[data-byte="'+n+'"]').forEach(it=>it.classList.add('lit'));
+}for(const id of['fields','layout-fields']){on(at(id),'mousemove',event=>{const row=event.target.closest('[data-from]');lightBytes(row?Number(row.dataset.from):0,row?Number(row.dataset.size):0);if(row)row.classList.add('lit');});}on(at('bytes'),'mousemove',event=>{const cell=event.target.closest('[data-byte]'),n=cell?Number(cell.dataset.byte):-1;
+lightBytes(Math.max(0,n),n<0?0:1);for(const row of all('#packet tr[data-from]')){if(Number(row.dataset.from)<=n&&n<Number(row.dataset.from)+Number(row.dataset.size))row.classList.add('lit');}});on(at('packet'),'mouseleave',()=>lightBytes(0,0));on(at('layout'),'change',showFields);on(at('layout-at'),'input',showFields);
 "#;

@@ -49,7 +49,7 @@ const USAGE: [&str; 22] = [
     "  nova list OBJ-or-SRC           lists code with its labels, moves and spills",
     "  nova check SRC ..              prints where sources are refused, what may be wrong with them, and how large they are",
     "  nova test SRC-or-FOLDER ..     runs sources on the memory texts beside them, and compares the outcomes",
-    "  nova page SRC [MEM]            makes a page of HTML on a source and its code",
+    "  nova page SRC [MEM..]          makes a page of HTML on a source and its code",
     "  nova forms SRC [FORM]          prints the forms between the source and its code",
     "  nova fmt SRC ..                formats sources: sets their blanks, and leaves tokens, comments and ends of lines",
     "  nova explain CODE              prints what a refusal means, as `nova explain type 14`",
@@ -138,18 +138,19 @@ const TEST: [&str; 14] = [
     "`novac exec SRC MEM steps=N` prints an outcome text.",
 ];
 
-const PAGE: [&str; 11] = [
-    "nova page SRC [MEM] [-o FILE] [--steps N]",
+const PAGE: [&str; 12] = [
+    "nova page SRC [MEM..] [-o FILE] [--steps N]",
     "",
     "Compiles the source SRC as `nova build` does it, and saves a page of HTML that needs no other file: the source, its sizes,",
     "its labels as a graph, how many values are live at each point, the banks of each value, and the listing with moves,",
     "literals and spills in colours.",
-    "On a memory text MEM it also runs the code, and shows the outcome and how often each label was entered.",
+    "On each memory text MEM it also runs the code, and shows the outcome, how often each instruction ran, the packet before",
+    "and after, the registers over time, and which line of the source each write comes from.",
     "",
     "  -o FILE          where the page is saved; by default SRC with `.html` in place of `.nova`",
-    "  --steps N        how many steps the run may take, 1 to 100000000; by default 1000000",
+    "  --steps N        how many steps a run may take, 1 to 100000000; by default 1000000",
     "",
-    "The status is 1 where the source or the memory text is refused. How the run ended doesn't change it.",
+    "The status is 1 where the source or a memory text is refused. How a run ended doesn't change it.",
 ];
 
 const FORMS: [&str; 9] = [

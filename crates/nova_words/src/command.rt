@@ -68,11 +68,11 @@ pub struct Check<'a> {
 }
 
 /// What `page` is asked for.
-#[derive(Clone, Copy)]
+#[derive(Drop)]
 pub struct Page<'a> {
     pub source: &'a str,
-    /// The memory text that the code is run on, if it is.
-    pub memory: Option<&'a str>,
+    /// The memory texts that the code is run on, one after the other.
+    pub memories: Vec<&'a str>,
     /// Where the page is saved, if that is said.
     pub output: Option<&'a str>,
     pub steps: u32,
@@ -207,7 +207,7 @@ fn command_in<'a>(
         Verb::List => Ok(Command::List(only_name(parts, "OBJ or SRC")?)),
         Verb::Check => check_in(alloc, parts),
         Verb::Test => test_in(alloc, parts),
-        Verb::Page => page_in(parts),
+        Verb::Page => page_in(alloc, parts),
         Verb::Forms => forms_in(parts),
         Verb::Format => format_in(alloc, parts),
         Verb::Explain => explain_in(parts, words),
@@ -300,7 +300,7 @@ fn format_in<'a>(alloc: Global, parts: &Parts<'a>) -> Result<Command<'a>, WordFa
     }))
 }
 
-fn page_in<'a>(parts: &Parts<'a>) -> Result<Command<'a>, WordFault<'a>>
+fn page_in<'a>(alloc: Global, parts: &Parts<'a>) -> Result<Command<'a>, WordFault<'a>>
     ensures limits { IfOk result HasLimits }
     ensures some { IfOk result AllowsSome }
     ensures numbers { IfOk result (HasNumbers parts.now.given.items) }
@@ -308,16 +308,12 @@ fn page_in<'a>(parts: &Parts<'a>) -> Result<Command<'a>, WordFault<'a>>
     ensures asks { IfOk result (λ c. IsHelp c → ⊥) }
     ensures refused { IfErr result (IsFaultAt (name_of parts.now.verb)) }
 {
-    parts.check_names(2)?;
     let source = parts.name(0, "SRC")?;
     let steps = number_in(parts, Setting::Steps, 1, MOST_STEPS, USUAL_STEPS)?;
-    let memory = match parts.names.get(1) {
-        Some(name) => Some(*name),
-        None => None,
-    };
+    let memories = names_after(alloc, parts)?;
     Ok(Command::Page(Page {
         source,
-        memory,
+        memories,
         output: parts.value(Setting::Output),
         steps,
     }))
@@ -365,6 +361,21 @@ fn names_in<'a>(
     let mut names = Vec::new(alloc);
     for name in parts.names.iter() {
         names.push(*name)?;
+    }
+    Ok(names)
+}
+
+// All names but the first.
+fn names_after<'a>(alloc: Global, parts: &Parts<'a>) -> Result<Vec<&'a str>, WordFault<'a>>
+    ensures { IfErr result (IsFaultAt (name_of parts.now.verb)) }
+{
+    let mut names = Vec::new(alloc);
+    let mut is_first = true;
+    for name in parts.names.iter() {
+        if !is_first {
+            names.push(*name)?;
+        }
+        is_first = false;
     }
     Ok(names)
 }

@@ -1,0 +1,27 @@
+//! A part of the script of a page, source.js, written by page/make.
+
+use nv_lines::Message;
+
+/// Appends source.js.
+pub fn push_source(out: &mut Message) {
+    out.put(SOURCE)
+}
+
+const SOURCE: &str =
+    r#"function readSource(text){const plain=text.replace(/\/\/.*/g,it=>' '.repeat(it.length));const isAscii=/^[\0-\x7f]*$/.test(text),starts=[0],bytes=new TextEncoder().encode(text);const decoded=at=>(isAscii?at:new TextDecoder().decode(bytes.slice(0,at)).length);for(const it of text.matchAll(/\n/g))starts.push(it.index+1);
+const functions=[...plain.matchAll(/\b(?:fun|and)\s+(\w+)\s*\[/g)].map(it=>({name:it[1],from:it.index}));const lineAt=at=>starts.filter(it=>it<=at).length;const functionAt=at=>(functions.filter(it=>it.from<=at).pop()||{name:''}).name;return{text,plain,functions,decoded,lineAt,functionAt};}function behind(plain,at){
+let depth=0;for(let n=at;n<plain.length;n+=1){if('([{'.includes(plain[n]))depth+=1;if(')]}'.includes(plain[n]))depth-=1;if(depth===0)return n+1;}return plain.length;}function partsOf(text){const out=[''];let depth=0;for(const c of text){if('([{'.includes(c))depth+=1;if(')]}'.includes(c))depth-=1;if(c===','&&depth===0)out.push('');
+else out[out.length-1]+=c;}return out.map(it=>it.trim()).filter(it=>it!=='');}function readEvents(text){const[list,tail]=text.split('\n');if(tail===undefined)return null;const numbers=tail.split(' ').map(Number),sum=numbers.pop(),[here,last]=numbers;return{list:[...list.matchAll(/([cbfs])([0-9]+)/g)].map(it=>({kind:it[1],at:Number(it[2])})),here,last,sum,hasAll:here!==undefined};
+}const isAccess=event=>event.kind==='f'||event.kind==='s';function sumOf(accesses){let sum=2166136261;for(const it of accesses){const unit=it.memory==='sdram'?2:1,memory=['sram','sdram','scratch'].indexOf(it.memory);for(const n of[memory+(it.isWrite?3:0),it.at/unit,it.count])sum=Math.imul(sum^n,16777619);
+}return sum>>>0;}function functionsBetween(events,names){const stack=['main'];let now=new Set(stack);const out=[now];for(const event of events.list){if(event.kind==='c')stack.push(names[event.at]||'');if(event.kind==='b')stack.length=event.at+1;if(isAccess(event)){now=new Set();out.push(now);}now.add(stack[stack.length-1]);
+}return out;}function linksOf(code,source,ran,events,mostEvents,exceptions){const links={places:new Map(),labels:new Map(),isKnown:false};if(!events)return links;const noted=events.list.filter(isAccess),isCut=events.list.length>=mostEvents;const made=ran.accesses.filter(it=>!code[it.place].kind.startsWith('spill')&&(events.hasAll||it.isWrite));
+if(events.hasAll&&ran.fault&&!ran.fault.isWrite)made.push(ran.fault);const isSame=noted.length===made.length||isCut&&noted.length<made.length;if(!isSame||sumOf(made.slice(0,noted.length))!==events.sum||noted.some((event,n)=>(event.kind==='s')!==made[n].isWrite))return links;links.isKnown=true;const tie=(place,at)=>{
+if(!links.places.has(place))links.places.set(place,new Set());links.places.get(place).add(at);};noted.forEach((event,n)=>tie(made[n].place,source.decoded(event.at)));if(!events.hasAll)return links;const end=code[ran.last],raised=end.op==='halt'&&end.exception>0?raiseAt(source,source.decoded(events.last),exceptions.get(end.exception)):null;
+if(raised)tie(ran.last,raised.index);else if(end.op==='halt'&&end.exception===0||ran.fault&&ran.fault.isWrite)tie(ran.last,source.decoded(events.here));const between=functionsBetween(events,source.functions.map(it=>it.name));let done=0;ran.places.forEach((place,step)=>{while(done<made.length&&made[done].step<step)done+=1;
+if(isCut&&done>=noted.length||!between[done])return;const before=links.labels.get(place);links.labels.set(place,before?new Set([...before].filter(it=>between[done].has(it))):between[done]);});return links;}function raiseAt(source,at,name){const found=[...source.plain.matchAll(/\braise\s+(\w+)\s*/g)].filter(it=>it[1]===name&&it.index<=at);
+return found.reverse().find(it=>{const open=it.index+it[0].length;return at<open||source.plain[open]==='['&&at<behind(source.plain,open);});}const isName=it=>/^[A-Za-z_][\w.]*$/.test(it)&&it!=='_';function namesAt(source,layouts,at,count,what){const{plain}=source,fitting=parts=>(parts.length===count?parts.map(it=>(isName(it)?it:'')):[]);
+const inBrackets=(text,open)=>(text[0]===open?partsOf(text.slice(1,-1)):[text]);if(what==='read'){const before=/\blet\s+(\w+|\([^()]*\))\s*=\s*(?:unpack\s*\[\s*(\w+)\s*\]\s*\(\s*)?$/.exec(plain.slice(0,at));if(!before)return[];if(!before[2])return fitting(inBrackets(before[1],'('));const layout=layouts.find(it=>it.name===before[2]);
+if(!layout||!isName(before[1])||layout.words!==count)return[];return Array.from({length:count},(_,n)=>{const field=layout.fields.find(it=>it.bit===32*n&&it.size===32);return before[1]+(field?'.'+field.path:', word '+n);});}if(what==='write'){const open=plain.indexOf('(',at),arrow=/^\s*<-\s*/.exec(plain.slice(behind(plain,open)));
+if(open<0||!arrow)return[];const from=behind(plain,open)+arrow[0].length;const end=plain[from]==='('?behind(plain,from):plain.indexOf(';',from);return fitting(inBrackets(plain.slice(from,end).trim(),'('));}const raised=raiseAt(source,at,what);const open=raised?raised.index+raised[0].length:-1;return raised&&plain[open]==='['?fitting(partsOf(plain.slice(open+1,behind(plain,open)-1))):[];
+}function mainNames(source,count){const found=/\bfun\s+main\s*\[([^\]]*)\]/.exec(source.plain);const names=found?partsOf(found[1]).map(it=>it.split(':')[0].trim()):[];return names.length===count?names:[];}
+"#;
