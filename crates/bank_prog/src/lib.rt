@@ -1,5 +1,9 @@
 //! The 0-1 program that chooses where the values of a program in single-use form stand: its columns with their costs, its
 //! rows, and bounds on its size.
+//!
+//! An integer linear program in place of a heuristic: register banks, spilling and the moves between banks are one choice, by
+//! 0-1 columns over the points of a program in single use. A row says that a value is somewhere, that a use is served from
+//! where it is, or that a bank is full. The cost counts moves and accesses to slots, under a weight for each label.
 #![tactic(auto)]
 
 mod all_rows;

@@ -1,5 +1,9 @@
 //! Contraction of flows: labels to which one jump leads are put in its place, and choices between literals are
 //! made.
+//!
+//! Block merging and jump threading: a block with one way in is joined to the block before it, and a block that only ends is
+//! copied to each jump. A choice between literals is made (branch folding). The plan of what to join is found without a
+//! proof; the copies mean the same whatever it says, and whether the result is merged is tested.
 #![tactic(auto)]
 
 mod checks;

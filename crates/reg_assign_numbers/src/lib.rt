@@ -1,5 +1,9 @@
 //! Numbers of registers and slots for the homes of values. Those of registers go by what the values want: a word that
 //! a jump hands on wants the register of the parameter that takes it.
+//!
+//! Graph colouring with aggressive coalescing: a word and the parameter that takes it are joined while they don't interfere,
+//! and then each group takes the least number that no neighbour has. Fixed numbers are wishes too. The colours are found
+//! without a proof and tested; where they fail, numbers without wishes are taken.
 #![tactic(auto)]
 
 mod allocation_hints;

@@ -1,4 +1,7 @@
 //! Assembly text: the assembler, and the listings of code and objects.
+//!
+//! Two passes: the first gives each label its place, the second makes the instructions. So a branch may name a label that is
+//! declared below it, and a name that is declared twice is told at its second line.
 #![tactic(auto)]
 
 mod assembler;

@@ -1,4 +1,8 @@
 //! Needless instructions of straight code, removed by stored rules.
+//!
+//! A peephole optimiser over live registers and flags. Liveness is a backward data-flow analysis by a work list over bit
+//! sets; it is tested closed afterwards, and the proofs rest on the test alone. A rule is a slice pattern with a proof that
+//! its answer does the same; passes go on until no rule has an answer at any window.
 #![tactic(auto)]
 
 mod compacting;

@@ -1,4 +1,8 @@
 //! Code of a form in single use under a placement.
+//!
+//! Instruction selection by a table: each node of a form is an operation of the machine, or a short sequence of them. Moves
+//! before and after it are a parallel copy of the placement's choices. Branches name points first, and are given places
+//! at the end (backpatching).
 #![tactic(auto)]
 
 mod access;
