@@ -41,6 +41,7 @@ pub fn eval<'a>(
     ensures extends { Extends scope.old.items scope.new.items }
     ensures same { OnOk result (scope.new.items ≡ scope.old.items) }
 {
+    log.set_here(e.span);
     match &e.kind {
         Kind::Number(n) => Ok(Step::Done(Value::Word(*n))),
         Kind::Truth(b) => Ok(Step::Done(Value::Truth(*b))),
@@ -532,7 +533,18 @@ fn of_operand<'a>(
     ensures same { OnOk result (scope.new.items ≡ scope.old.items) }
 {
     let v = settled(alloc, t, a, scope, p, log, left)?;
+    note_fetch(e, &v, log);
     Ok(Step::Done(made_of(alloc, t, e, v, p)?))
+}
+
+// Notes a fetch from the address that the operand is.
+#[inline(never)]
+fn note_fetch(e: &Expr, v: &Value, log: &mut Notes)
+    ensures { log.new ≡ log.old }
+{
+    if let (Kind::Fetch(m, n, _), Value::Word(at)) = (&e.kind, v) {
+        log.fetch(e.span, *m, *at, *n);
+    }
 }
 
 // What an expression of one operand makes of the operand's value.

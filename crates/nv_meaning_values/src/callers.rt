@@ -4,7 +4,7 @@ ghost use Rattle.std.specs.Prelude.{◌≡◌, ◌<◌, ◌-◌, List, IfOk, OnO
 ghost use Rattle.nv_meaning_values.specs.Running.{InCall, innermost, is_own, called};
 ghost use Rattle.nv_meaning_values.specs.Callers.{call_of, calls_of, maybe_call, IsMark, LieAbove};
 
-use nv_ast::Name;
+use nv_ast::{Name, Span};
 use nv_base::NoMemory;
 use std::alloc::Global;
 
@@ -15,11 +15,14 @@ pub struct Caller<'a> {
     pub group: u32,
 }
 
-/// How many calls were in progress, and the innermost of them.
+/// How many calls were in progress, and the innermost of them; and for people how many calls a trace counted, and where the
+/// text was evaluated.
 #[derive(Clone, Copy)]
 pub struct Mark<'a> {
     pub depth: usize,
     pub innermost: Option<Caller<'a>>,
+    pub level: u32,
+    pub here: Span,
 }
 
 // The innermost call.
@@ -33,13 +36,15 @@ fn last<'a>(callers: &[Caller<'a>]) -> Option<Caller<'a>>
     }
 }
 
-/// The calls in progress, to come back to.
-pub fn marked<'a>(callers: &[Caller<'a>]) -> Mark<'a>
+/// The calls in progress, to come back to, at this level and this place of the text.
+pub fn marked<'a>(callers: &[Caller<'a>], level: u32, here: Span) -> Mark<'a>
     ensures { IsMark result (calls_of callers.now) }
 {
     Mark {
         depth: callers.len(),
         innermost: last(callers),
+        level,
+        here,
     }
 }
 

@@ -3,6 +3,7 @@
 #![tactic(auto)]
 
 mod callers;
+mod events;
 mod exceptions;
 mod grouping;
 mod memory;
@@ -15,6 +16,7 @@ mod trace;
 mod value;
 
 pub use callers::{Caller, Mark};
+pub use events::{Event, Events};
 pub use exceptions::exception_at;
 pub use grouping::groups;
 pub use memory::{can_move, fetched};

@@ -9,9 +9,10 @@ ghost use Rattle.nv_meaning_values.specs.Chains.{trail_of};
 ghost use Rattle.nv_meaning_values.specs.Callers.{calls_of, IsMark, LieAbove};
 
 use crate::callers::{Caller, Mark, enter, leave, marked};
+use crate::events::Event;
 use crate::trace::{Made, Trace};
 use nv_ast::{Name, Span};
-use nv_base::{Access, NoMemory, Packet, Write, WriteLog};
+use nv_base::{Access, Mem, NoMemory, Packet, Write, WriteLog};
 use std::alloc::Global;
 use std::marker::Model;
 
@@ -61,7 +62,8 @@ impl<'a> Notes<'a> {
     pub fn mark(&self) -> Mark<'a>
         ensures { IsMark result self.now.chain.calls }
     {
-        marked(&self.callers)
+        let events = self.trace.events();
+        marked(&self.callers, events.level(), events.here())
     }
 
     /// Adds a call of the function at a place, in the innermost call's place where it is of the same group.
@@ -71,6 +73,7 @@ impl<'a> Notes<'a> {
         ensures called { OnOk result (HasRoom self.old.trail → self.new.chain ≡ record { groups = self.old.chain.groups; calls = called self.old.chain.calls (name.now, get_or self.old.chain.groups place 0) }) }
         ensures same { OnErr result (self.new ≡ self.old) }
     {
+        self.trace.call(place);
         if !self.trace.has_room() {
             return Ok(());
         }
@@ -84,9 +87,24 @@ impl<'a> Notes<'a> {
         ensures trail { self.new.trail ≡ self.old.trail }
         ensures calls { (c : Chain) → IsMark mark.entry c.calls → c.groups ≡ self.old.chain.groups → LieAbove c.calls self.old.chain.calls → HasRoom self.old.trail → self.new.chain ≡ c }
     {
+        self.trace.come_back(mark.level, mark.here);
         if self.trace.has_room() {
             leave(&mut self.callers, mark);
         }
+    }
+
+    /// Notes that an expression is begun.
+    pub fn set_here(&mut self, here: Span)
+        ensures { self.new ≡ self.old }
+    {
+        self.trace.set_here(here);
+    }
+
+    /// Notes that so many words are fetched, before that is done.
+    pub fn fetch(&mut self, span: Span, mem: Mem, at: u32, count: u32)
+        ensures { self.new ≡ self.old }
+    {
+        self.trace.access(Event::Fetch(span, mem, at, count));
     }
 
     /// Makes a write of a store statement, and notes it. `Bad` says that it reaches past the memory: then

@@ -6,6 +6,7 @@ ghost use Rattle.nv_meaning_values.specs.Chains.{Kept, none_kept, kept_one, kept
 ghost use Rattle.nv_meaning_values.specs.Callers.{calls_of};
 
 use crate::callers::{Caller, names};
+use crate::events::{Event, Events};
 use nv_ast::{Name, Span};
 use nv_base::{Mem, NoMemory, SOURCE_SCRATCH, Write};
 use std::alloc::Global;
@@ -19,13 +20,15 @@ pub struct Made {
     pub chain: u32,
 }
 
-/// A trace that counts all writes of a run and keeps the first of them, each with its chain of calls.
+/// A trace that counts all writes of a run and keeps the first of them, each with its chain of calls. Its events are for people alone,
+/// and aren't in its view.
 #[derive(Drop)]
 pub struct Trace {
     room: usize,
     first: Vec<Made>,
     all: u64,
     chains: Vec<Vec<Name>>,
+    events: Events,
 }
 
 impl Model for Trace {
@@ -44,6 +47,13 @@ impl Trace {
     pub fn new(alloc: Global, keep: u32) -> Result<Trace, NoMemory>
         ensures { IfOk result (λ t. t ≡ none_kept keep) }
     {
+        Trace::with_events(alloc, keep, 0)
+    }
+
+    /// An empty trace that keeps the first `keep` writes and, for people, the first `most` events.
+    pub fn with_events(alloc: Global, keep: u32, most: u32) -> Result<Trace, NoMemory>
+        ensures { IfOk result (λ t. t ≡ none_kept keep) }
+    {
         let room = keep as usize;
         let first = Vec::with_capacity(alloc, room)?;
         Ok(Trace {
@@ -51,7 +61,41 @@ impl Trace {
             first,
             all: 0,
             chains: Vec::new(alloc),
+            events: Events::new(alloc, most as usize),
         })
+    }
+
+    /// What the run did so far.
+    pub fn events(&self) -> &Events {
+        &self.events
+    }
+
+    /// Notes that an expression is begun.
+    pub fn set_here(&mut self, here: Span)
+        ensures { self.new ≡ self.old }
+    {
+        self.events.begin(here);
+    }
+
+    /// Notes a call of the function at a place.
+    pub fn call(&mut self, place: usize)
+        ensures { self.new ≡ self.old }
+    {
+        self.events.call(place);
+    }
+
+    /// Notes that a run comes back to a level and to a place of the text.
+    pub fn come_back(&mut self, level: u32, here: Span)
+        ensures { self.new ≡ self.old }
+    {
+        self.events.come_back(level, here);
+    }
+
+    /// Notes an access.
+    pub fn access(&mut self, event: Event)
+        ensures { self.new ≡ self.old }
+    {
+        self.events.add(event);
     }
 
     /// How many writes were noted.
@@ -134,6 +178,7 @@ impl Trace {
         requires chain { HasRoom (trail_of self.old) → m.chain < length self.old.chains }
         ensures { self.new ≡ kept_source self.old m }
     {
+        self.access(Event::Store(m.span, m.write));
         if m.write.mem != Mem::Scratch || m.write.at < SOURCE_SCRATCH {
             self.note(m);
         }

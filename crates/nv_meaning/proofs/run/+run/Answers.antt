@@ -33,7 +33,7 @@ use Rattle.nv_ast.proofs.Items.{next_item}
 
 pub eval-returns-in-Number : goal.eval-returns-in-Number
 eval-returns-in-Number t c = record {
-  ran = of-tree (declared_in c.args.t.now) (at c.args.left.now c.args.p.now c.args.log.now) (at c.args.left.now c.args.p.now c.args.log.now) (Ok (Done (code.Word c.in-Number.n))) (scope_of c.args.scope.now.items []) (tree_of c.args.e.now) (NumberTree (out-Expr c.args.e.now).span c.in-Number.n) (number-is c.args.e.now c.in-Number.n c.in-Number.is) (ran-here (declared_in c.args.t.now) (at c.args.left.now c.args.p.now c.args.log.now) (λ call now last. IsStep call (Ok (Done (code.Word c.in-Number.n))) last (Gives (Word (word c.in-Number.n)) now)) (λ call grows x same. ap (λ k. Gives (Word k) x) (word-same c.in-Number.n (omega arith))));
+  ran = rw (← c.set_here.ensures) (of-tree (declared_in c.args.t.now) (at c.args.left.now c.args.p.now c.set_here.new.self) (at c.args.left.now c.args.p.now c.set_here.new.self) (Ok (Done (code.Word c.in-Number.n))) (scope_of c.args.scope.now.items []) (tree_of c.args.e.now) (NumberTree (out-Expr c.args.e.now).span c.in-Number.n) (number-is c.args.e.now c.in-Number.n c.in-Number.is) (ran-here (declared_in c.args.t.now) (at c.args.left.now c.args.p.now c.set_here.new.self) (λ call now last. IsStep call (Ok (Done (code.Word c.in-Number.n))) last (Gives (Word (word c.in-Number.n)) now)) (λ call grows x same. ap (λ k. Gives (Word k) x) (word-same c.in-Number.n (omega arith)))));
   left = omega arith;
   extends = extends-nothing c.args.scope.now.items;
   same = refl;
@@ -41,7 +41,7 @@ eval-returns-in-Number t c = record {
 
 pub eval-returns-in-Truth : goal.eval-returns-in-Truth
 eval-returns-in-Truth t c = record {
-  ran = of-tree (declared_in c.args.t.now) (at c.args.left.now c.args.p.now c.args.log.now) (at c.args.left.now c.args.p.now c.args.log.now) (Ok (Done (code.Truth c.in-Truth.b))) (scope_of c.args.scope.now.items []) (tree_of c.args.e.now) (TruthTree (out-Expr c.args.e.now).span c.in-Truth.b) (truth-is c.args.e.now c.in-Truth.b c.in-Truth.is) (ran-here (declared_in c.args.t.now) (at c.args.left.now c.args.p.now c.args.log.now) (λ call now last. IsStep call (Ok (Done (code.Truth c.in-Truth.b))) last (Gives (Truth c.in-Truth.b) now)) (λ call grows x same. refl));
+  ran = rw (← c.set_here.ensures) (of-tree (declared_in c.args.t.now) (at c.args.left.now c.args.p.now c.set_here.new.self) (at c.args.left.now c.args.p.now c.set_here.new.self) (Ok (Done (code.Truth c.in-Truth.b))) (scope_of c.args.scope.now.items []) (tree_of c.args.e.now) (TruthTree (out-Expr c.args.e.now).span c.in-Truth.b) (truth-is c.args.e.now c.in-Truth.b c.in-Truth.is) (ran-here (declared_in c.args.t.now) (at c.args.left.now c.args.p.now c.set_here.new.self) (λ call now last. IsStep call (Ok (Done (code.Truth c.in-Truth.b))) last (Gives (Truth c.in-Truth.b) now)) (λ call grows x same. refl)));
   left = omega arith;
   extends = extends-nothing c.args.scope.now.items;
   same = refl;
@@ -49,7 +49,7 @@ eval-returns-in-Truth t c = record {
 
 pub eval-returns-in-Var : goal.eval-returns-in-Var
 eval-returns-in-Var t c = record {
-  ran = of-tree (declared_in c.args.t.now) (at c.args.left.now c.args.p.now c.args.log.now) (at c.args.left.now c.args.p.now c.args.log.now) c.look_up.result (scope_of c.args.scope.now.items []) (tree_of c.args.e.now) (VarTree (out-Expr c.args.e.now).span c.in-Var.x) (variable-is c.args.e.now c.in-Var.x c.in-Var.is) (looked-up (declared_in c.args.t.now) (at c.args.left.now c.args.p.now c.args.log.now) c.look_up.result c.in-Var.x c.deref.result.now c.args.scope.now.items c.deref.ensures.value c.look_up.ensures);
+  ran = rw (← c.set_here.ensures) (of-tree (declared_in c.args.t.now) (at c.args.left.now c.args.p.now c.set_here.new.self) (at c.args.left.now c.args.p.now c.set_here.new.self) c.look_up.result (scope_of c.args.scope.now.items []) (tree_of c.args.e.now) (VarTree (out-Expr c.args.e.now).span c.in-Var.x) (variable-is c.args.e.now c.in-Var.x c.in-Var.is) (looked-up (declared_in c.args.t.now) (at c.args.left.now c.args.p.now c.set_here.new.self) c.look_up.result c.in-Var.x c.deref.result.now c.args.scope.now.items c.deref.ensures.value c.look_up.ensures));
   left = omega arith;
   extends = extends-nothing c.args.scope.now.items;
   same = kept-given c.look_up.result _ refl;
@@ -57,7 +57,7 @@ eval-returns-in-Var t c = record {
 
 pub eval-returns-in-Paren : goal.eval-returns-in-Paren
 eval-returns-in-Paren t c = record {
-  ran = of-tree (declared_in c.args.t.now) (at c.args.left.now c.args.p.now c.args.log.now) (at c.eval.new.left c.eval.new.p c.eval.new.log) c.eval.result (scope_of c.args.scope.now.items []) (tree_of c.args.e.now) (ParenTree (out-Expr c.args.e.now).span (tree_of c.deref-in-Paren.result.now)) (paren-is c.args.e.now c.in-Paren.a c.deref-in-Paren.result.now c.in-Paren.is c.deref-in-Paren.ensures) c.eval.ensures.ran;
+  ran = rw (← c.set_here.ensures) (of-tree (declared_in c.args.t.now) (at c.args.left.now c.args.p.now c.set_here.new.self) (at c.eval.new.left c.eval.new.p c.eval.new.log) c.eval.result (scope_of c.args.scope.now.items []) (tree_of c.args.e.now) (ParenTree (out-Expr c.args.e.now).span (tree_of c.deref-in-Paren.result.now)) (paren-is c.args.e.now c.in-Paren.a c.deref-in-Paren.result.now c.in-Paren.is c.deref-in-Paren.ensures) c.eval.ensures.ran);
   left = c.eval.ensures.left;
   extends = c.eval.ensures.extends;
   same = c.eval.ensures.same;
@@ -65,7 +65,7 @@ eval-returns-in-Paren t c = record {
 
 pub eval-returns-in-Tuple : goal.eval-returns-in-Tuple
 eval-returns-in-Tuple t c = record {
-  ran = of-tree (declared_in c.args.t.now) (at c.args.left.now c.args.p.now c.args.log.now) (at c.tuple.new.left c.tuple.new.p c.tuple.new.log) c.tuple.result (scope_of c.args.scope.now.items []) (tree_of c.args.e.now) (TupleTree (out-Expr c.args.e.now).span (list_trees c.deref-in-Tuple.result.now)) (tuple-is c.args.e.now c.in-Tuple.es c.deref-in-Tuple.result.now c.in-Tuple.is c.deref-in-Tuple.ensures.value) c.tuple.ensures.ran;
+  ran = rw (← c.set_here.ensures) (of-tree (declared_in c.args.t.now) (at c.args.left.now c.args.p.now c.set_here.new.self) (at c.tuple.new.left c.tuple.new.p c.tuple.new.log) c.tuple.result (scope_of c.args.scope.now.items []) (tree_of c.args.e.now) (TupleTree (out-Expr c.args.e.now).span (list_trees c.deref-in-Tuple.result.now)) (tuple-is c.args.e.now c.in-Tuple.es c.deref-in-Tuple.result.now c.in-Tuple.is c.deref-in-Tuple.ensures.value) c.tuple.ensures.ran);
   left = c.tuple.ensures.left;
   extends = c.tuple.ensures.extends;
   same = c.tuple.ensures.same;
@@ -73,7 +73,7 @@ eval-returns-in-Tuple t c = record {
 
 pub eval-returns-in-Fields : goal.eval-returns-in-Fields
 eval-returns-in-Fields t c = record {
-  ran = of-tree (declared_in c.args.t.now) (at c.args.left.now c.args.p.now c.args.log.now) (at c.record.new.left c.record.new.p c.record.new.log) c.record.result (scope_of c.args.scope.now.items []) (tree_of c.args.e.now) (FieldsTree (out-Expr c.args.e.now).span (list_named_trees c.deref-in-Fields.result.now)) (record-is c.args.e.now c.in-Fields.es c.deref-in-Fields.result.now c.in-Fields.is c.deref-in-Fields.ensures.value) c.record.ensures.ran;
+  ran = rw (← c.set_here.ensures) (of-tree (declared_in c.args.t.now) (at c.args.left.now c.args.p.now c.set_here.new.self) (at c.record.new.left c.record.new.p c.record.new.log) c.record.result (scope_of c.args.scope.now.items []) (tree_of c.args.e.now) (FieldsTree (out-Expr c.args.e.now).span (list_named_trees c.deref-in-Fields.result.now)) (record-is c.args.e.now c.in-Fields.es c.deref-in-Fields.result.now c.in-Fields.is c.deref-in-Fields.ensures.value) c.record.ensures.ran);
   left = c.record.ensures.left;
   extends = c.record.ensures.extends;
   same = c.record.ensures.same;
@@ -81,7 +81,7 @@ eval-returns-in-Fields t c = record {
 
 pub eval-returns-in-Binary : goal.eval-returns-in-Binary
 eval-returns-in-Binary t c = record {
-  ran = of-tree (declared_in c.args.t.now) (at c.args.left.now c.args.p.now c.args.log.now) (at c.binary.new.left c.binary.new.p c.binary.new.log) c.binary.result (scope_of c.args.scope.now.items []) (tree_of c.args.e.now) (BinaryTree (out-Expr c.args.e.now).span c.in-Binary.op (tree_of c.deref-in-Binary.result.now) (tree_of c.deref-in-Binary-2.result.now)) (binary-is c.args.e.now c.in-Binary.op c.in-Binary.a c.in-Binary.b c.deref-in-Binary.result.now c.deref-in-Binary-2.result.now c.in-Binary.is c.deref-in-Binary.ensures c.deref-in-Binary-2.ensures) c.binary.ensures.ran;
+  ran = rw (← c.set_here.ensures) (of-tree (declared_in c.args.t.now) (at c.args.left.now c.args.p.now c.set_here.new.self) (at c.binary.new.left c.binary.new.p c.binary.new.log) c.binary.result (scope_of c.args.scope.now.items []) (tree_of c.args.e.now) (BinaryTree (out-Expr c.args.e.now).span c.in-Binary.op (tree_of c.deref-in-Binary.result.now) (tree_of c.deref-in-Binary-2.result.now)) (binary-is c.args.e.now c.in-Binary.op c.in-Binary.a c.in-Binary.b c.deref-in-Binary.result.now c.deref-in-Binary-2.result.now c.in-Binary.is c.deref-in-Binary.ensures c.deref-in-Binary-2.ensures) c.binary.ensures.ran);
   left = c.binary.ensures.left;
   extends = c.binary.ensures.extends;
   same = c.binary.ensures.same;
@@ -89,7 +89,7 @@ eval-returns-in-Binary t c = record {
 
 pub eval-returns-in-Call : goal.eval-returns-in-Call
 eval-returns-in-Call t c = record {
-  ran = of-tree (declared_in c.args.t.now) (at c.args.left.now c.args.p.now c.args.log.now) (at c.again.new.left c.again.new.p c.again.new.log) c.again.result (scope_of c.args.scope.now.items []) (tree_of c.args.e.now) (CallTree (out-Expr c.args.e.now).span c.in-Call.f (list_trees c.deref-in-Call.result.now)) (call-is c.args.e.now c.in-Call.f c.in-Call.es c.deref-in-Call.result.now c.in-Call.is c.deref-in-Call.ensures.value) c.again.ensures.ran;
+  ran = rw (← c.set_here.ensures) (of-tree (declared_in c.args.t.now) (at c.args.left.now c.args.p.now c.set_here.new.self) (at c.again.new.left c.again.new.p c.again.new.log) c.again.result (scope_of c.args.scope.now.items []) (tree_of c.args.e.now) (CallTree (out-Expr c.args.e.now).span c.in-Call.f (list_trees c.deref-in-Call.result.now)) (call-is c.args.e.now c.in-Call.f c.in-Call.es c.deref-in-Call.result.now c.in-Call.is c.deref-in-Call.ensures.value) c.again.ensures.ran);
   left = c.again.ensures.left;
   extends = c.again.ensures.extends;
   same = c.again.ensures.same;
@@ -97,7 +97,7 @@ eval-returns-in-Call t c = record {
 
 pub eval-returns-in-Raise : goal.eval-returns-in-Raise
 eval-returns-in-Raise t c = record {
-  ran = of-tree (declared_in c.args.t.now) (at c.args.left.now c.args.p.now c.args.log.now) (at c.raise.new.left c.raise.new.p c.raise.new.log) c.raise.result (scope_of c.args.scope.now.items []) (tree_of c.args.e.now) (RaiseTree (out-Expr c.args.e.now).span c.in-Raise.x (list_trees c.deref-in-Raise.result.now)) (raise-is c.args.e.now c.in-Raise.x c.in-Raise.es c.deref-in-Raise.result.now c.in-Raise.is c.deref-in-Raise.ensures.value) c.raise.ensures.ran;
+  ran = rw (← c.set_here.ensures) (of-tree (declared_in c.args.t.now) (at c.args.left.now c.args.p.now c.set_here.new.self) (at c.raise.new.left c.raise.new.p c.raise.new.log) c.raise.result (scope_of c.args.scope.now.items []) (tree_of c.args.e.now) (RaiseTree (out-Expr c.args.e.now).span c.in-Raise.x (list_trees c.deref-in-Raise.result.now)) (raise-is c.args.e.now c.in-Raise.x c.in-Raise.es c.deref-in-Raise.result.now c.in-Raise.is c.deref-in-Raise.ensures.value) c.raise.ensures.ran);
   left = c.raise.ensures.left;
   extends = c.raise.ensures.extends;
   same = c.raise.ensures.same;
@@ -105,7 +105,7 @@ eval-returns-in-Raise t c = record {
 
 pub eval-returns-in-If : goal.eval-returns-in-If
 eval-returns-in-If t c = record {
-  ran = of-tree (declared_in c.args.t.now) (at c.args.left.now c.args.p.now c.args.log.now) (at c.choose.new.left c.choose.new.p c.choose.new.log) c.choose.result (scope_of c.args.scope.now.items []) (tree_of c.args.e.now) (IfTree (out-Expr c.args.e.now).span (tree_of c.deref-in-If.result.now) (tree_of c.deref-in-If-2.result.now) (tree_of c.deref-in-If-3.result.now)) (if-is c.args.e.now c.in-If.c c.in-If.a c.in-If.b c.deref-in-If.result.now c.deref-in-If-2.result.now c.deref-in-If-3.result.now c.in-If.is c.deref-in-If.ensures c.deref-in-If-2.ensures c.deref-in-If-3.ensures) c.choose.ensures.ran;
+  ran = rw (← c.set_here.ensures) (of-tree (declared_in c.args.t.now) (at c.args.left.now c.args.p.now c.set_here.new.self) (at c.choose.new.left c.choose.new.p c.choose.new.log) c.choose.result (scope_of c.args.scope.now.items []) (tree_of c.args.e.now) (IfTree (out-Expr c.args.e.now).span (tree_of c.deref-in-If.result.now) (tree_of c.deref-in-If-2.result.now) (tree_of c.deref-in-If-3.result.now)) (if-is c.args.e.now c.in-If.c c.in-If.a c.in-If.b c.deref-in-If.result.now c.deref-in-If-2.result.now c.deref-in-If-3.result.now c.in-If.is c.deref-in-If.ensures c.deref-in-If-2.ensures c.deref-in-If-3.ensures) c.choose.ensures.ran);
   left = c.choose.ensures.left;
   extends = c.choose.ensures.extends;
   same = c.choose.ensures.same;
@@ -113,7 +113,7 @@ eval-returns-in-If t c = record {
 
 pub eval-returns-in-Try : goal.eval-returns-in-Try
 eval-returns-in-Try t c = record {
-  ran = of-tree (declared_in c.args.t.now) (at c.args.left.now c.args.p.now c.args.log.now) (at c.try_.new.left c.try_.new.p c.try_.new.log) c.try_.result (scope_of c.args.scope.now.items []) (tree_of c.args.e.now) (TryTree (out-Expr c.args.e.now).span (tree_of c.deref-in-Try.result.now) c.in-Try.x (list_patterns c.deref-in-Try-2.result.now) (tree_of c.deref-in-Try-3.result.now)) (try-is c.args.e.now c.in-Try.a c.in-Try.x c.in-Try.ps c.in-Try.h c.deref-in-Try.result.now c.deref-in-Try-2.result.now c.deref-in-Try-3.result.now c.in-Try.is c.deref-in-Try.ensures c.deref-in-Try-2.ensures.value c.deref-in-Try-3.ensures) c.try_.ensures.ran;
+  ran = rw (← c.set_here.ensures) (of-tree (declared_in c.args.t.now) (at c.args.left.now c.args.p.now c.set_here.new.self) (at c.try_.new.left c.try_.new.p c.try_.new.log) c.try_.result (scope_of c.args.scope.now.items []) (tree_of c.args.e.now) (TryTree (out-Expr c.args.e.now).span (tree_of c.deref-in-Try.result.now) c.in-Try.x (list_patterns c.deref-in-Try-2.result.now) (tree_of c.deref-in-Try-3.result.now)) (try-is c.args.e.now c.in-Try.a c.in-Try.x c.in-Try.ps c.in-Try.h c.deref-in-Try.result.now c.deref-in-Try-2.result.now c.deref-in-Try-3.result.now c.in-Try.is c.deref-in-Try.ensures c.deref-in-Try-2.ensures.value c.deref-in-Try-3.ensures) c.try_.ensures.ran);
   left = c.try_.ensures.left;
   extends = c.try_.ensures.extends;
   same = c.try_.ensures.same;
@@ -121,7 +121,7 @@ eval-returns-in-Try t c = record {
 
 pub eval-returns-in-Block : goal.eval-returns-in-Block
 eval-returns-in-Block t c = record {
-  ran = of-tree (declared_in c.args.t.now) (at c.args.left.now c.args.p.now c.args.log.now) (at c.block.new.left c.block.new.p c.block.new.log) c.block.result (scope_of c.args.scope.now.items []) (tree_of c.args.e.now) (BlockTree (out-Expr c.args.e.now).span (list_statements c.deref-in-Block.result.now) (tree_of c.deref-in-Block-2.result.now)) (block-is c.args.e.now c.in-Block.sts c.in-Block.a c.deref-in-Block.result.now c.deref-in-Block-2.result.now c.in-Block.is c.deref-in-Block.ensures.value c.deref-in-Block-2.ensures) c.block.ensures.ran;
+  ran = rw (← c.set_here.ensures) (of-tree (declared_in c.args.t.now) (at c.args.left.now c.args.p.now c.set_here.new.self) (at c.block.new.left c.block.new.p c.block.new.log) c.block.result (scope_of c.args.scope.now.items []) (tree_of c.args.e.now) (BlockTree (out-Expr c.args.e.now).span (list_statements c.deref-in-Block.result.now) (tree_of c.deref-in-Block-2.result.now)) (block-is c.args.e.now c.in-Block.sts c.in-Block.a c.deref-in-Block.result.now c.deref-in-Block-2.result.now c.in-Block.is c.deref-in-Block.ensures.value c.deref-in-Block-2.ensures) c.block.ensures.ran);
   left = c.block.ensures.left;
   extends = c.block.ensures.extends;
   same = c.block.ensures.same;
@@ -130,7 +130,7 @@ eval-returns-in-Block t c = record {
 pub eval-returns-in-Dot : goal.eval-returns-in-Dot
 eval-returns-in-Dot t c =
     let it : OverOperand (tree_of c.args.e.now) (tree_of c.deref-in-Dot.result.now) = over-operand c.args.e.now c.in-Dot.a c.deref-in-Dot.result.now c.in-Dot.is c.deref-in-Dot.ensures in record {
-      ran = of-operand (declared_in c.args.t.now) (at c.args.left.now c.args.p.now c.args.log.now) (at c.of_operand.new.left c.of_operand.new.p c.of_operand.new.log) c.of_operand.result (scope_of c.args.scope.now.items []) (tree_of c.args.e.now) it.0 (tree_of c.deref-in-Dot.result.now) it.1 it.2 c.of_operand.ensures.ran;
+      ran = rw (← c.set_here.ensures) (of-operand (declared_in c.args.t.now) (at c.args.left.now c.args.p.now c.set_here.new.self) (at c.of_operand.new.left c.of_operand.new.p c.of_operand.new.log) c.of_operand.result (scope_of c.args.scope.now.items []) (tree_of c.args.e.now) it.0 (tree_of c.deref-in-Dot.result.now) it.1 it.2 c.of_operand.ensures.ran);
       left = c.of_operand.ensures.left;
       extends = c.of_operand.ensures.extends;
       same = c.of_operand.ensures.same;
@@ -725,7 +725,7 @@ of_operand-returns-in_err-v t c = record {
 
 pub of_operand-returns-in_err-made_of : goal.of_operand-returns-in_err-made_of
 of_operand-returns-in_err-made_of t c = record {
-  ran = (let p = err_from_is_err_and c.from_residual-in_err-made_of.result c.from_residual-in_err-made_of.ensures.1 in rw (p.1, p.2) (operand-made (declared_in c.args.t.now) (at c.args.left.now c.args.p.now c.args.log.now) (at c.settled.new.left c.settled.new.p c.settled.new.log) (tree_of c.args.a.now) (tree_of c.args.e.now) (scope_of c.args.scope.now.items []) c.in_ok-v.v (Err _) c.in_ok-v.ensures.ran (λ call now same. c.in_err-made_of.ensures now same)));
+  ran = (let p = err_from_is_err_and c.from_residual-in_err-made_of.result c.from_residual-in_err-made_of.ensures.1 in rw (p.1, p.2, c.note_fetch.ensures) (operand-made (declared_in c.args.t.now) (at c.args.left.now c.args.p.now c.args.log.now) (at c.settled.new.left c.settled.new.p c.settled.new.log) (tree_of c.args.a.now) (tree_of c.args.e.now) (scope_of c.args.scope.now.items []) c.in_ok-v.v (Err _) c.in_ok-v.ensures.ran (λ call now same. c.in_err-made_of.ensures now same)));
   left = c.in_ok-v.ensures.left;
   extends = c.in_ok-v.ensures.extends;
   same = (let p = err_from_is_err_and c.from_residual-in_err-made_of.result c.from_residual-in_err-made_of.ensures.1 in rw p.1 tt);
@@ -733,7 +733,7 @@ of_operand-returns-in_err-made_of t c = record {
 
 pub of_operand-returns : goal.of_operand-returns
 of_operand-returns t c = record {
-  ran = operand-made (declared_in c.args.t.now) (at c.args.left.now c.args.p.now c.args.log.now) (at c.settled.new.left c.settled.new.p c.settled.new.log) (tree_of c.args.a.now) (tree_of c.args.e.now) (scope_of c.args.scope.now.items []) c.in_ok-v.v (Ok (Done c.in_ok-made_of.field-0)) c.in_ok-v.ensures.ran (λ call now same. c.in_ok-made_of.ensures now same);
+  ran = rw c.note_fetch.ensures (operand-made (declared_in c.args.t.now) (at c.args.left.now c.args.p.now c.args.log.now) (at c.settled.new.left c.settled.new.p c.settled.new.log) (tree_of c.args.a.now) (tree_of c.args.e.now) (scope_of c.args.scope.now.items []) c.in_ok-v.v (Ok (Done c.in_ok-made_of.field-0)) c.in_ok-v.ensures.ran (λ call now same. c.in_ok-made_of.ensures now same));
   left = c.in_ok-v.ensures.left;
   extends = c.in_ok-v.ensures.extends;
   same = c.in_ok-v.ensures.same;
