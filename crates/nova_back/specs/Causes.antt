@@ -11,6 +11,7 @@ use Rattle.uc_isa.specs.Lawful.{IsLawful}
 use Rattle.uc_isa.specs.Moves.{moves}
 use Rattle.place_weights.specs.Weighted.{weight_of}
 use Rattle.uc_isa_executions.specs.Entries.{IsVisited}
+use Rattle.uc_isa_executions.specs.Entry.{AssumesNoMore}
 use Rattle.uc_peep.specs.Needless.{HasNoNeedless}
 use Rattle.uc_isa_executions.specs.Starts.{AreStarts}
 use Rattle.ucode_emit.specs.SpillBase.{SpillsByBase}
@@ -34,11 +35,13 @@ use Rattle.nova_back.specs.declared.error.BackError.TheVariants as back
 
 -- ---- code
 
--- lawful code that does what the form says. It has B15 for the addresses of N slots alone, and without its moves it is the operations
--- of the form's nodes in order, but for computations that nothing needs
+-- lawful code that does what the form says, from any engine that holds the arguments and the spill base. It has B15 for the addresses of N
+-- slots alone, and of scratch from 512 on reaches these alone. Without its moves it is the operations of the form's nodes in order, but for
+-- computations that nothing needs
 pub record IsCodeOf (labels : List Label) (slots : ℕ) (c : CodeView) : Type 0 where
   pub lawful : IsLawful c.list
   pub agrees : Agrees (ssu_params labels) (ssu_meaning labels) c
+  pub entry : AssumesNoMore (ssu_params labels) (ssu_meaning labels) slots c.list
   pub spills : SpillsByBase slots c.list
   pub does : LeavesOut (form_operations labels) (code_operations c.list)
 

@@ -13,8 +13,7 @@ use crate::save::Made;
 use novac_words::{Refusal, Status, peeped_line};
 use nv_base::NoMemory;
 use std::alloc::Global;
-use uc_isa::Code;
-use uc_object::{Object, Tag, Tagged, encode};
+use uc_object::{Object, Tagged, encode};
 use uc_peep::without_needless;
 
 /// Takes the needless instructions out of the code of the object that the bytes are, which is saved under a name.
@@ -28,47 +27,26 @@ pub fn peep_bytes<'a>(alloc: Global, bytes: &[u8], name: &'a str) -> Result<Made
     let code = object.code();
     check_lawful(code)?;
     let before = code.list().len() as u64;
-    let shorter = shorter_object(alloc, &object)?;
+    let shorter = shorter_object(alloc, object)?;
     let text = peeped_line(alloc, before, shorter.code().list().len() as u64)?;
     let bytes = encode(alloc, &shorter)?;
     Ok(Made::one(alloc, Status::Done, text, name, bytes)?)
 }
 
 // The object with shorter code in place of its own, and the starts in that code.
-fn shorter_object(alloc: Global, object: &Object) -> Result<Object, NoMemory>
-    requires { IsLawful (code_of object.now).list }
-    ensures { IfOk result (IsWithoutNeedless object.now) }
+fn shorter_object(alloc: Global, object: Object) -> Result<Object, NoMemory>
+    requires { IsLawful (code_of object).list }
+    ensures { IfOk result (IsWithoutNeedless object) }
 {
     match object {
         Object::One(code) => {
-            let peeped = without_needless(alloc, copy_of(alloc, code)?, Vec::new(alloc))?;
+            let peeped = without_needless(alloc, code, Vec::new(alloc))?;
             Ok(Object::One(peeped.code))
         }
         Object::Two(tagged) => {
-            let exceptions = exceptions_of(alloc, tagged.exceptions())?;
-            let starts = tagged.starts().to_vec(alloc)?;
-            let peeped = without_needless(alloc, copy_of(alloc, tagged.code())?, starts)?;
+            let (code, exceptions, starts) = tagged.into_parts();
+            let peeped = without_needless(alloc, code, starts)?;
             Ok(Object::Two(Tagged::new(peeped.code, exceptions, peeped.starts)))
         }
     }
-}
-
-// The same code.
-fn copy_of(alloc: Global, code: &Code) -> Result<Code, NoMemory>
-    ensures { IfOk result (λ c. c ≡ code.now) }
-{
-    let list = code.list().to_vec(alloc)?;
-    Ok(Code::new(code.params(), list))
-}
-
-// The same lines and names.
-fn exceptions_of(alloc: Global, list: &[(u32, Tag)]) -> Result<Vec<(u32, Tag)>, NoMemory>
-    ensures { IfOk result (λ exceptions. exceptions.items ≡ list.now) }
-{
-    let mut exceptions = Vec::new(alloc);
-    for (line, name) in list {
-        let name = Tag::new(alloc, name.bytes())?;
-        exceptions.push((*line, name))?;
-    }
-    Ok(exceptions)
 }

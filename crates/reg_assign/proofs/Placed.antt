@@ -22,9 +22,9 @@ use Rattle.bank_prog.specs.Meaning.{Chosen}
 use Rattle.bank_prog_form.specs.inner.Form.{value_view, access_view, summary_view, parts}
 use Rattle.bank_prog_form.proofs.Loops.{each-parts, flat-filter}
 use Rattle.reg_assign.specs.declared.given.AssignmentInputs.{AssignmentInputs}
-use Rattle.reg_assign_reading.specs.inner.ReadOff.{Numbers, goes_early, word_place, origin_place, place_in, fill_at, fills_of, copies_of, access_first, use_serve, pass_l, pass_s, pass_by, passes_from, read_off}
+use Rattle.reg_assign_reading.specs.ReadOff.{Numbers, goes_early, word_place, origin_place, place_in, fill_at, fills_of, copies_of, access_first, use_serve, pass_l, pass_s, pass_by, passes_from, read_off, IsReadOff}
 use Rattle.reg_assign.specs.inner.AssignmentInputs.{labels_in, says_in, numbers_in}
-use Rattle.reg_assign_reading.specs.inner.Reading.{known_place, place_noted, early_word, preferred_home, part_pass, IsReadOff}
+use Rattle.reg_assign_reading.specs.inner.Reading.{known_place, place_noted, early_word, preferred_home, part_pass}
 use Rattle.reg_assign_reading.proofs.HomesRead.{homes-read}
 
 -- ---- where values come

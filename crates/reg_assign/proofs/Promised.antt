@@ -21,9 +21,9 @@ use Rattle.reg_assign_reading.specs.declared.reading.Reading.{Reading}
 use Rattle.place_plan.specs.ByLabel.{label_cost}
 use Rattle.reg_assign_reading.specs.ByLabel.{label_price}
 use Rattle.reg_assign_reading.specs.inner.Facts.{OnlyThere}
-use Rattle.reg_assign_reading.specs.inner.ReadOff.{Numbers, AreNumbered, read_off}
+use Rattle.reg_assign_reading.specs.ReadOff.{Numbers, AreNumbered, read_off, IsReadOff}
 use Rattle.reg_assign.specs.inner.AssignmentInputs.{labels_in, says_in, numbers_in}
-use Rattle.reg_assign_reading.specs.inner.Reading.{labels_of, says, numbers_of, IsReadOff}
+use Rattle.reg_assign_reading.specs.inner.Reading.{labels_of, says, numbers_of}
 use Rattle.reg_assign.specs.Assigned.{IsAssigned}
 use Rattle.reg_assign_reading.proofs.CostAll.{plan-cost, label-paid}
 use Rattle.reg_assign_reading.proofs.Weighed.{weighted-paid}

@@ -14,8 +14,7 @@ use Rattle.place_plan.specs.ByLabel.{label_cost}
 use Rattle.place_plan.specs.Weighted.{weighted_cost}
 use Rattle.reg_assign_reading.specs.ByLabel.{label_price}
 use Rattle.reg_assign_reading.specs.inner.Chosen.{chosen}
-use Rattle.reg_assign_reading.specs.inner.ReadOff.{AreNumbered, Numbers}
-use Rattle.reg_assign_reading.specs.inner.Reading.{IsReadOff}
+use Rattle.reg_assign_reading.specs.ReadOff.{AreNumbered, Numbers, IsReadOff}
 
 -- the placement says what the columns that are 1 say, and gives each home a number: of a register of its bank, or of a slot, that no other
 -- value has while both live

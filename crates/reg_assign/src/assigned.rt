@@ -12,10 +12,10 @@ ghost use Rattle.bank_prog.specs.Meaning.{IsFeasible};
 ghost use Rattle.bank_prog.specs.Weighted.{weighted_costs};
 ghost use Rattle.place_plan.specs.ByLabel as by_label;
 ghost use Rattle.place_plan.specs.Weighted as under_weights;
+ghost use Rattle.reg_assign_reading.specs.ReadOff.{IsReadOff};
 ghost use Rattle.reg_assign_reading.specs.ByLabel.{label_price};
 ghost use Rattle.reg_assign.specs.Assigned.{IsAssigned, IsReadFrom};
 ghost use Rattle.reg_assign.specs.inner.AssignmentInputs.{labels_in, says_in, numbers_in};
-ghost use Rattle.reg_assign_reading.specs.inner.Reading.{IsReadOff};
 
 use crate::given::{AssignmentInputs, given_of};
 use crate::homes::{by_variable, homes_of};

@@ -3,7 +3,7 @@
 ghost use Rattle.std.specs.Prelude.{◌≡◌, ℕ, nat_eq, IfOk};
 ghost use Rattle.std.specs.HashMap.{get};
 ghost use Rattle.place_plan.specs.Uses.{values};
-ghost use Rattle.reg_assign_reading.specs.inner.ReadOff as pure;
+ghost use Rattle.reg_assign_reading.specs.ReadOff as pure;
 ghost use Rattle.reg_assign_reading.specs.inner.Reading.{says, labels_of, known_place};
 
 use crate::places::{ReadPlaces, read_places_of};

@@ -7,7 +7,7 @@ ghost use Rattle.place_plan.specs.Fits as fits;
 ghost use Rattle.place_plan.specs.Plan.{home_view};
 ghost use Rattle.place_plan.specs.inner.UseViews.{use_view};
 ghost use Rattle.bank_prog_form.specs.inner.Form.{value_view};
-ghost use Rattle.reg_assign_reading.specs.inner.ReadOff as pure;
+ghost use Rattle.reg_assign_reading.specs.ReadOff as pure;
 ghost use Rattle.reg_assign.specs.inner.AssignmentInputs.{labels_in, says_in, numbers_in};
 ghost use Rattle.reg_assign_reading.specs.inner.Reading.{says, early_word, preferred_home};
 

@@ -3,7 +3,7 @@
 ghost use Rattle.std.specs.Prelude.{◌≡◌, ◌++◌, map, IfOk, OnOk};
 ghost use Rattle.std.specs.List.{flat_map};
 ghost use Rattle.bank_prog_form.specs.inner.Form.{access_view, summary_view};
-ghost use Rattle.reg_assign_reading.specs.inner.ReadOff as pure;
+ghost use Rattle.reg_assign_reading.specs.ReadOff as pure;
 ghost use Rattle.reg_assign.specs.inner.AssignmentInputs.{labels_in, says_in, numbers_in};
 ghost use Rattle.reg_assign_reading.specs.inner.Reading.{says, part_pass};
 ghost use Rattle.place_plan.specs.inner.UseViews.{role_view, use_view};

@@ -13,7 +13,7 @@ use Rattle.place_plan.proofs.Sound.{Each}
 use Rattle.place_plan.proofs.Spilled.{each-all, all-each}
 use Rattle.bank_prog_form.specs.declared.column.Bank.{Bank}
 use Rattle.reg_assign_reading.specs.declared.reading.Reading.{Reading}
-use Rattle.reg_assign_reading.specs.inner.ReadOff.{has_home}
+use Rattle.reg_assign_reading.specs.ReadOff.{has_home}
 use Rattle.reg_assign_reading.specs.inner.Reading.{says, labels_of}
 use Rattle.reg_assign_reading.proofs.Numbered.{rows-kept}
 use Rattle.reg_assign_numbers.specs.Rows.{HasNumbers}

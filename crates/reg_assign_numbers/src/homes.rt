@@ -9,8 +9,8 @@ ghost use Rattle.ssu_ir.specs.Single.{single};
 ghost use Rattle.ssu_liveness.specs.LiveRows.{HaveNumbers, items_of};
 ghost use Rattle.zo_model.specs.Program.{vector};
 ghost use Rattle.bank_prog.specs.Meaning.{IsFeasible};
-ghost use Rattle.reg_assign_reading.specs.inner.ReadOff as pure;
-ghost use Rattle.reg_assign_reading.specs.inner.ReadOff.{AreNumbered};
+ghost use Rattle.reg_assign_reading.specs.ReadOff as pure;
+ghost use Rattle.reg_assign_reading.specs.ReadOff.{AreNumbered};
 ghost use Rattle.reg_assign_reading.specs.inner.Reading.{says, labels_of, numbers_of};
 
 use crate::allocation_hints::hints_in;

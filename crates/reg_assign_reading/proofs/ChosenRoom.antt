@@ -28,7 +28,7 @@ use Rattle.bank_prog_form.specs.Rows.{home, live_in, room_lines, capacity}
 use Rattle.bank_prog.specs.Meaning.{Chosen, Holds}
 use Rattle.bank_prog_rows.proofs.PlainLines.{mapped-each, Pairs}
 use Rattle.reg_assign_reading.specs.inner.Facts.{count, in_bank}
-use Rattle.reg_assign_reading.specs.inner.ReadOff.{room}
+use Rattle.reg_assign_reading.specs.ReadOff.{room}
 use Rattle.reg_assign_reading.specs.inner.Chosen.{is_in_bank, IsChosen}
 use Rattle.reg_assign_reading.proofs.Counts.{In, count-append, in-kept, kept-in, each-in, each-from}
 use Rattle.reg_assign_reading.proofs.FactsThere.{there}

@@ -29,7 +29,7 @@ use Rattle.bank_prog_rows.proofs.PlainLines.{each-kept}
 use Rattle.place_plan.specs.ByLabel.{lies_in, label_cost}
 use Rattle.reg_assign_reading.specs.ByLabel.{label_price}
 use Rattle.reg_assign_reading.specs.inner.Facts.{OnlyThere, ValueFacts, UseFacts, Facts}
-use Rattle.reg_assign_reading.specs.inner.ReadOff.{Numbers, AreRead, read_off}
+use Rattle.reg_assign_reading.specs.ReadOff.{Numbers, AreRead, read_off}
 use Rattle.reg_assign_reading.proofs.Counts.{In, contained-in, in-map, in-kept, in-if, map-in}
 use Rattle.reg_assign_reading.proofs.FactsThere.{uses-among, point-of}
 use Rattle.reg_assign_reading.proofs.FactsValues.{Known, role-eight, same-value, used-of}

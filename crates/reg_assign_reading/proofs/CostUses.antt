@@ -22,7 +22,7 @@ use Rattle.bank_prog_form.specs.Columns.{origin_in, origin_of, is_fetched, servi
 use Rattle.bank_prog_form.specs.Rows.{dir, ear, early, is_written}
 use Rattle.bank_prog.specs.Meaning.{Chosen, named_cost}
 use Rattle.reg_assign_reading.specs.inner.Facts.{count, IsIn, UseFacts}
-use Rattle.reg_assign_reading.specs.inner.ReadOff.{Numbers, begins, service_on, role_place, word_place, origin_place, place_in, bank_place, target, serve_by, use_serve, read_off}
+use Rattle.reg_assign_reading.specs.ReadOff.{Numbers, begins, service_on, role_place, word_place, origin_place, place_in, bank_place, target, serve_by, use_serve, read_off}
 use Rattle.reg_assign_reading.proofs.Counts.{In, kept-in, map-in, each-in}
 use Rattle.reg_assign_reading.proofs.CostSums.{cost-append, cost-one}
 use Rattle.reg_assign_reading.proofs.ReadParts.{IsFound}

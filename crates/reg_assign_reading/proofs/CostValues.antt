@@ -26,7 +26,7 @@ use Rattle.bank_prog_form.specs.Columns.{origin_of, is_fetched, eight, origin_de
 use Rattle.bank_prog_form.specs.Rows.{homes, def, dir, ear, srv, early, is_parameter, is_written}
 use Rattle.bank_prog.specs.Meaning.{Chosen, named_cost}
 use Rattle.reg_assign_reading.specs.inner.Facts.{count, in_bank, IsIn, ValueFacts, UseFacts}
-use Rattle.reg_assign_reading.specs.inner.ReadOff.{Numbers, begins, goes_early, def_bank, home_place, word_place, fills_of, words_of, copies_of, first_word, put_home, origin_home, IsAtHome, AreRead, read_off}
+use Rattle.reg_assign_reading.specs.ReadOff.{Numbers, begins, goes_early, def_bank, home_place, word_place, fills_of, words_of, copies_of, first_word, put_home, origin_home, IsAtHome, AreRead, read_off}
 use Rattle.reg_assign_reading.proofs.Counts.{In, contained-in, in-either, in-map, in-kept, in-if, map-in, each-in, some-counted, counted-some, each-from}
 use Rattle.reg_assign_reading.proofs.FactsValues.{same-value, used-of}
 use Rattle.reg_assign_reading.proofs.FactsPoints.{flat-in}

@@ -19,8 +19,8 @@ use Rattle.place_plan.proofs.Spilled.{each-all, all-each, each-at}
 use Rattle.place_plan.proofs.Fitting.{uses-part}
 use Rattle.ssu_liveness.specs.inner.Numbers.{values_among}
 use Rattle.reg_assign_reading.specs.inner.Facts.{OnlyThere, AccessFacts, UseFacts}
-use Rattle.reg_assign_reading.specs.inner.ReadOff.{Numbers, begins, AreRead, AreNumbered, read_off}
-use Rattle.reg_assign_reading.specs.inner.ReadOff as reading
+use Rattle.reg_assign_reading.specs.ReadOff.{Numbers, begins, AreRead, AreNumbered, read_off}
+use Rattle.reg_assign_reading.specs.ReadOff as reading
 use Rattle.reg_assign_reading.proofs.Counts.{In, contained-in, in-contained, in-left, in-right, each-in, each-from}
 use Rattle.reg_assign_reading.proofs.FactsUses.{place-point}
 use Rattle.reg_assign_reading.proofs.FactsAll.{facts}

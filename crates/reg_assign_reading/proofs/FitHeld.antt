@@ -23,7 +23,7 @@ use Rattle.place_plan.proofs.Sound.{Each, each-append}
 use Rattle.place_plan.proofs.Spilled.{none-with-nothing}
 use Rattle.std.proofs.lemmas.Bool.{or_left, or_right}
 use Rattle.reg_assign_reading.specs.inner.Facts.{in_bank, StaysIn, PointFacts}
-use Rattle.reg_assign_reading.specs.inner.ReadOff.{Numbers, begins, goes_early, pass_l, def_bank, home_place, role_place, word_place, first_word, fills_of, words_of, copies_of, put_home, origin_home, read_off}
+use Rattle.reg_assign_reading.specs.ReadOff.{Numbers, begins, goes_early, pass_l, def_bank, home_place, role_place, word_place, first_word, fills_of, words_of, copies_of, put_home, origin_home, read_off}
 use Rattle.reg_assign_reading.proofs.ReadParts.{first-on-each, eight-low}
 use Rattle.reg_assign_reading.proofs.FitWords.{early-written}
 use Rattle.reg_assign_reading.proofs.FitHomes.{is_home_bank, def-bank-some, fills-each}

@@ -19,7 +19,7 @@ use Rattle.bank_prog.specs.Meaning.{Chosen}
 use Rattle.place_plan.proofs.Sound.{Each, each-append}
 use Rattle.place_plan.proofs.Spilled.{each-all}
 use Rattle.reg_assign_reading.specs.inner.Facts.{count}
-use Rattle.reg_assign_reading.specs.inner.ReadOff.{Numbers, goes_early, def_bank, home_place, word_place, fill_at, fills_of, words_of, copies_of}
+use Rattle.reg_assign_reading.specs.ReadOff.{Numbers, goes_early, def_bank, home_place, word_place, fill_at, fills_of, words_of, copies_of}
 use Rattle.reg_assign_reading.proofs.Counts.{count-append}
 use Rattle.reg_assign_reading.proofs.ReadParts.{count-none}
 use Rattle.reg_assign_reading.proofs.FitWaiting.{any-either}

@@ -19,7 +19,7 @@ use Rattle.bank_prog.specs.Meaning.{Chosen}
 use Rattle.place_plan.proofs.Sound.{Each}
 use Rattle.place_plan.proofs.Slotted.{read-no-slot}
 use Rattle.reg_assign_reading.specs.inner.Facts.{count, in_bank, in_register, IsIn, ValueFacts, UseFacts}
-use Rattle.reg_assign_reading.specs.inner.ReadOff.{Numbers, begins, goes_early, def_bank, service_on, home_place, first_word, fills_of, copies_of, put_home, origin_home, room, read_off}
+use Rattle.reg_assign_reading.specs.ReadOff.{Numbers, begins, goes_early, def_bank, service_on, home_place, first_word, fills_of, copies_of, put_home, origin_home, room, read_off}
 use Rattle.reg_assign_reading.proofs.ReadParts.{any-count, count-any, on-none, FirstsThere, first-read}
 use Rattle.reg_assign_reading.proofs.FitWords.{each-both, service-each, service-none, IsEarlySame, word-same, words-same}
 use Rattle.reg_assign_reading.proofs.FitWaiting.{each-contained, any-of-map, any-either}

@@ -16,7 +16,7 @@ use Rattle.bank_prog_form.specs.Rows.{homes, def, is_parameter}
 use Rattle.bank_prog.specs.Meaning.{Chosen}
 use Rattle.bank_prog_rows.proofs.PlainLines.{each-kept}
 use Rattle.reg_assign_reading.specs.inner.Facts.{count, in_bank, ValueFacts, UseFacts}
-use Rattle.reg_assign_reading.specs.inner.ReadOff.{Numbers, goes_early, def_bank, first_word, put_home, room, IsBelow, AreNumbered, read_off}
+use Rattle.reg_assign_reading.specs.ReadOff.{Numbers, goes_early, def_bank, first_word, put_home, room, IsBelow, AreNumbered, read_off}
 use Rattle.reg_assign_reading.proofs.Counts.{In, contained-in}
 use Rattle.reg_assign_reading.proofs.ReadParts.{on-none}
 use Rattle.reg_assign_reading.proofs.FitWords.{IsEarlySame}

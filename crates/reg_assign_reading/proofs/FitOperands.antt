@@ -19,7 +19,7 @@ use Rattle.bank_prog_form.specs.Columns.{services}
 use Rattle.bank_prog_form.specs.Rows.{dir, ear, srv, early, is_written, two_operands}
 use Rattle.bank_prog.specs.Meaning.{Chosen}
 use Rattle.reg_assign_reading.specs.inner.Facts.{count, UseFacts, same_group}
-use Rattle.reg_assign_reading.specs.inner.ReadOff.{Numbers, service_on, place_in, bank_place, target, serve_by, use_serve, read_off}
+use Rattle.reg_assign_reading.specs.ReadOff.{Numbers, service_on, place_in, bank_place, target, serve_by, use_serve, read_off}
 use Rattle.reg_assign_reading.proofs.ReadParts.{IsFound}
 use Rattle.reg_assign_reading.proofs.FitWords.{service-each, service-none}
 use Rattle.reg_assign_reading.proofs.FitServed.{IsReadPlace}

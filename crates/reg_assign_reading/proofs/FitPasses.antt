@@ -16,7 +16,7 @@ use Rattle.bank_prog_form.specs.declared.column.Bank.TheVariants.{A, B, M, T, L,
 use Rattle.bank_prog_form.specs.declared.column.Column.TheVariants.{Def, Fill, ReadVia, WriteVia}
 use Rattle.bank_prog.specs.Meaning.{Chosen}
 use Rattle.reg_assign_reading.specs.inner.Facts.{some_on}
-use Rattle.reg_assign_reading.specs.inner.ReadOff.{Numbers, goes_early, def_bank, home_place, word_place, first_word, fill_at, fills_of, words_of, copies_of, put_home, origin_home, value_home, read_off}
+use Rattle.reg_assign_reading.specs.ReadOff.{Numbers, goes_early, def_bank, home_place, word_place, first_word, fill_at, fills_of, words_of, copies_of, put_home, origin_home, value_home, read_off}
 use Rattle.reg_assign_reading.proofs.Counts.{In, in-either, in-map, in-kept, each-in}
 use Rattle.reg_assign_reading.proofs.FactsThere.{uses-among, values-among, point-of}
 use Rattle.reg_assign_reading.proofs.ReadParts.{IsFound, pass-at}

@@ -20,7 +20,7 @@ use Rattle.bank_prog_form.specs.Columns.{eight, may_begin}
 use Rattle.bank_prog_form.specs.Rows.{is_sdram}
 use Rattle.bank_prog.specs.Meaning.{Chosen}
 use Rattle.reg_assign_reading.specs.inner.Facts.{some_on, Covers, StaysIn, PointFacts}
-use Rattle.reg_assign_reading.specs.inner.ReadOff.{Numbers, first_on, pass_l, pass_s, read_off}
+use Rattle.reg_assign_reading.specs.ReadOff.{Numbers, first_on, pass_l, pass_s, read_off}
 use Rattle.reg_assign_reading.proofs.ReadParts.{is-eighth, first-on-any, some-first-on}
 use Rattle.reg_assign_reading.proofs.FitHeld.{Staying, same-read}
 

@@ -25,7 +25,7 @@ use Rattle.bank_prog_form.specs.Columns.{eight, may_begin, is_fetched}
 use Rattle.bank_prog_form.specs.Rows.{homes}
 use Rattle.bank_prog.specs.Meaning.{Chosen}
 use Rattle.reg_assign_reading.specs.inner.Facts.{OnlyThere, ValueFacts, AccessFacts, UseFacts, Facts}
-use Rattle.reg_assign_reading.specs.inner.ReadOff.{Numbers, begins, origin_place, place_in, value_home, IsAtHome, AreRead, AreNumbered, read_off}
+use Rattle.reg_assign_reading.specs.ReadOff.{Numbers, begins, origin_place, place_in, value_home, IsAtHome, AreRead, AreNumbered, read_off}
 use Rattle.reg_assign_reading.proofs.Counts.{In, contained-in, in-kept, each-in}
 use Rattle.reg_assign_reading.proofs.FactsThere.{there}
 use Rattle.reg_assign_reading.proofs.FactsValues.{same-value}

@@ -22,7 +22,7 @@ use Rattle.bank_prog.specs.Meaning.{Chosen}
 use Rattle.ssu_liveness.proofs.Scoped.{in-itself}
 use Rattle.place_plan.proofs.Sound.{Each}
 use Rattle.reg_assign_reading.specs.inner.Facts.{count, in_bank, ValueFacts, UseFacts}
-use Rattle.reg_assign_reading.specs.inner.ReadOff.{Numbers, pass_l, def_bank, service_on, home_place, place_in, word_place, fill_at, fills_of, words_of, copies_of, put_home, origin_home, bank_place, target, serve_by, read_off}
+use Rattle.reg_assign_reading.specs.ReadOff.{Numbers, pass_l, def_bank, service_on, home_place, place_in, word_place, fill_at, fills_of, words_of, copies_of, put_home, origin_home, bank_place, target, serve_by, read_off}
 use Rattle.reg_assign_reading.proofs.ReadParts.{count-any, IsFound}
 use Rattle.reg_assign_reading.proofs.FitWords.{service-each, service-none, early-written}
 use Rattle.reg_assign_reading.proofs.FitHomes.{is_home_bank, def-bank-is, def-bank-none, no-bank}

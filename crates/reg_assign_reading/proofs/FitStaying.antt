@@ -20,7 +20,7 @@ use Rattle.bank_prog_form.specs.Columns.{eight, origin_of, is_fetched, services}
 use Rattle.bank_prog_form.specs.Rows.{homes, srv, early, is_written}
 use Rattle.bank_prog.specs.Meaning.{Chosen}
 use Rattle.reg_assign_reading.specs.inner.Facts.{count, UseFacts}
-use Rattle.reg_assign_reading.specs.inner.ReadOff.{Numbers, begins, service_on, role_place, origin_place, place_in, origin_home, bank_place, serve_by, use_serve, AreApart, read_off}
+use Rattle.reg_assign_reading.specs.ReadOff.{Numbers, begins, service_on, role_place, origin_place, place_in, origin_home, bank_place, serve_by, use_serve, AreApart, read_off}
 use Rattle.reg_assign_reading.proofs.Counts.{In, contained-in, each-in}
 use Rattle.reg_assign_reading.proofs.FactsValues.{used-of}
 use Rattle.reg_assign_reading.proofs.ReadParts.{count-any, IsFound}

@@ -24,7 +24,7 @@ use Rattle.ssu_liveness.proofs.Scoped.{in-itself}
 use Rattle.place_plan.proofs.Sound.{Each}
 use Rattle.place_plan.proofs.Spilled.{each-all, each-at}
 use Rattle.reg_assign_reading.specs.inner.Facts.{early_in, UseFacts, WaitsIn, waits_at, PointFacts}
-use Rattle.reg_assign_reading.specs.inner.ReadOff.{Numbers, begins, pass_s, goes_early, word_place, role_place, read_off}
+use Rattle.reg_assign_reading.specs.ReadOff.{Numbers, begins, pass_s, goes_early, word_place, role_place, read_off}
 use Rattle.reg_assign_reading.proofs.ReadParts.{first-on-each, eight-low, FirstsThere, first-read}
 use Rattle.reg_assign_reading.proofs.FitWords.{early-written, IsEarlySame, word-same}
 

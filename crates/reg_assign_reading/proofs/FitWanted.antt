@@ -22,7 +22,7 @@ use Rattle.bank_prog_form.specs.Rows.{def, is_parameter}
 use Rattle.bank_prog.specs.Meaning.{Chosen}
 use Rattle.ssu_liveness.proofs.Scoped.{in-itself}
 use Rattle.reg_assign_reading.specs.inner.Facts.{count, some_on, in_bank, IsIn, ValueFacts}
-use Rattle.reg_assign_reading.specs.inner.ReadOff.{Numbers, begins, pass_l, def_bank, home_place, origin_place, place_in, put_home, origin_home, bank_place, read_off}
+use Rattle.reg_assign_reading.specs.ReadOff.{Numbers, begins, pass_l, def_bank, home_place, origin_place, place_in, put_home, origin_home, bank_place, read_off}
 use Rattle.reg_assign_reading.proofs.Counts.{In, in-contained, each-in}
 use Rattle.reg_assign_reading.proofs.FactsThere.{there}
 use Rattle.reg_assign_reading.proofs.ReadParts.{first-on-any, IsFound, pass-at}

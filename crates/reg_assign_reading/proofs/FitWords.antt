@@ -18,7 +18,7 @@ use Rattle.bank_prog.specs.Meaning.{Chosen}
 use Rattle.bank_prog_rows.proofs.PlainLines.{each-kept}
 use Rattle.place_plan.proofs.Sound.{Each}
 use Rattle.reg_assign_reading.specs.inner.Facts.{count, UseFacts}
-use Rattle.reg_assign_reading.specs.inner.ReadOff.{Numbers, goes_early, service_on, origin_place, place_in, role_place, word_place, words_of, bank_place, serve_by, use_serve, read_off}
+use Rattle.reg_assign_reading.specs.ReadOff.{Numbers, goes_early, service_on, origin_place, place_in, role_place, word_place, words_of, bank_place, serve_by, use_serve, read_off}
 use Rattle.reg_assign_reading.proofs.ReadParts.{on-one, count-any, count-none, FirstsThere, first-read, IsFound}
 
 -- ---- lists

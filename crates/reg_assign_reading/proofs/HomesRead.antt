@@ -19,7 +19,7 @@ use Rattle.place_plan.proofs.Joined.{values-different, different-kept, rises, st
 use Rattle.bank_prog_form.specs.declared.column.Bank.{Bank}
 use Rattle.bank_prog.specs.Meaning.{Chosen}
 use Rattle.bank_prog_form.proofs.Loops.{flat-filter}
-use Rattle.reg_assign_reading.specs.inner.ReadOff.{Numbers, def_bank, put_home, origin_home, value_home, IsAtHome, AreRead}
+use Rattle.reg_assign_reading.specs.ReadOff.{Numbers, def_bank, put_home, origin_home, value_home, IsAtHome, AreRead}
 use Rattle.reg_assign_reading.specs.inner.Reading.{preferred_home}
 
 -- ---- a home has the variable of its value

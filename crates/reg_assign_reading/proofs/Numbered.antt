@@ -24,7 +24,7 @@ use Rattle.bank_prog_form.specs.Rows.{homes, is_parameter}
 use Rattle.bank_prog.specs.Meaning.{Chosen}
 use Rattle.reg_assign_reading.specs.declared.numbers.BankNumbers.{BankNumbers}
 use Rattle.reg_assign_reading.specs.inner.Facts.{Facts}
-use Rattle.reg_assign_reading.specs.inner.ReadOff.{has_home, AreApart, is_held, IsBelow, AreNumbered}
+use Rattle.reg_assign_reading.specs.ReadOff.{has_home, AreApart, is_held, IsBelow, AreNumbered}
 use Rattle.reg_assign_reading.specs.inner.Reading.{number_in, numbers_of}
 
 -- ---- rows of those values that pass a test

@@ -23,7 +23,7 @@ use Rattle.ssu_liveness.proofs.Scoped.{in-itself}
 use Rattle.place_plan.proofs.Sound.{Each}
 use Rattle.place_plan.proofs.Spilled.{each-weaker, each-apply, Apart, skip, take-first}
 use Rattle.reg_assign_reading.specs.inner.Facts.{count, AccessFacts}
-use Rattle.reg_assign_reading.specs.inner.ReadOff.{Numbers, first_on, begins, pass_l, pass_s, service_on, serve_by, use_serve, access_first, pass_by, passes_from, read_off}
+use Rattle.reg_assign_reading.specs.ReadOff.{Numbers, first_on, begins, pass_l, pass_s, service_on, serve_by, use_serve, access_first, pass_by, passes_from, read_off}
 
 -- ---- counts
 

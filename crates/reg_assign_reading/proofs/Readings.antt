@@ -11,7 +11,7 @@ use Rattle.bank_prog_form.specs.declared.column.Service.{Service}
 use Rattle.bank_prog_form.specs.Columns.{eight}
 use Rattle.bank_prog_form.specs.Rows.{dir, ear, is_written}
 use Rattle.bank_prog.specs.Meaning.{Chosen}
-use Rattle.reg_assign_reading.specs.inner.ReadOff.{first_on, goes_early, service_on}
+use Rattle.reg_assign_reading.specs.ReadOff.{first_on, goes_early, service_on}
 
 -- ---- the first that passes a test
 

@@ -1,2 +1,3 @@
 pub mod ByLabel
+pub mod ReadOff
 pub mod inner

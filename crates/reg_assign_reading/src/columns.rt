@@ -2,7 +2,7 @@
 
 ghost use Rattle.std.specs.Prelude.{◌≡◌};
 ghost use Rattle.bank_prog_form.specs.Columns.{eight};
-ghost use Rattle.reg_assign_reading.specs.inner.ReadOff as pure;
+ghost use Rattle.reg_assign_reading.specs.ReadOff as pure;
 ghost use Rattle.reg_assign_reading.specs.inner.Reading.{says, column_of};
 ghost use Rattle.place_plan.specs.inner.UseViews.{use_view};
 

@@ -13,3 +13,4 @@ pub mod Marking
 pub mod Footing
 pub mod Sharing
 pub mod Disjoint
+pub mod Sources

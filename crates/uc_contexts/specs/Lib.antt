@@ -3,3 +3,4 @@ pub mod Footprints
 pub mod Alone
 pub mod Sets
 pub mod Marked
+pub mod AsSource

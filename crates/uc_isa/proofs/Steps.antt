@@ -148,10 +148,13 @@ seen-extends f g (inl same) = inl (ap seen same)
 seen-extends f g (inr more) = inr (more.0, (source_writes more.1.0, ap source_writes more.1.1 ∙ filter-append (λ w. is_source_write w.mem w.at) f.writes more.1.0))
 
 -- with more steps the engine gets at least as far
-pub engine-grows : (c : CodeView) (args : List ℕ) (base : ℕ) (p : Memories) → IsMonotone (engine c args base p)
-engine-grows c args base p = λ i j le.
+pub run-grows : (code : List Instr) (e : Engine) (p : Memories) → IsMonotone (λ m. run code m e p [])
+run-grows code e p = λ i j le.
     let all : i + (j - i) ≡ j = omega arith in
-    subst (λ k. Before (engine c args base p i) (engine c args base p k)) all (seen-extends _ _ (run-extends c.list i (j - i) (start args base) p []))
+    subst (λ k. Before (run code i e p []) (run code k e p [])) all (seen-extends _ _ (run-extends code i (j - i) e p []))
+
+pub engine-grows : (c : CodeView) (args : List ℕ) (base : ℕ) (p : Memories) → IsMonotone (engine c args base p)
+engine-grows c args base p = run-grows c.list (start args base) p
 
 -- a run is going where none of its steps ends it
 going-runs : (code : List Instr) (n : ℕ) (s : Stepped) (e : Engine) (p : Memories) (ws : List WriteEvent) → ¬ EndsRun s

@@ -1,13 +1,17 @@
 -- Runs through pieces of code, which may write on their way.
-use Rattle.std.specs.Prelude.{◌≡◌, ℕ, ◌+◌, ◌<◌, ◌≤◌, List, ◌++◌, All, length, slice_get}
+use Rattle.std.specs.Prelude.{◌≡◌, ℕ, ◌+◌, ◌<◌, ◌≤◌, List, ◌++◌, All, length, Option, Some, slice_get, ⊤}
 use Rattle.nv_base.specs.declared.term.Mem.TheVariants.{Scratch}
 use Rattle.nv_base.specs.declared.outcome.Write.{Write as WriteEvent}
-use Rattle.nv_base.specs.Memories.{Memories}
+use Rattle.nv_base.specs.Memories.{Memories, source_scratch}
 use Rattle.nv_base.specs.Meanings.{FullOutcome, left_by, source_memories, source_writes}
 use Rattle.uc_isa.specs.Agrees.{KeepsToItsWords, scratch_access}
 use Rattle.uc_isa.specs.Engine.{run, after}
+use Rattle.uc_isa.specs.Step.{address}
 use Rattle.uc_isa.specs.Straight.{went}
+use Rattle.uc_isa.specs.declared.instruction.Gpr.{Gpr}
+use Rattle.uc_isa.specs.declared.instruction.Gpr.TheVariants.{B}
 use Rattle.uc_isa.specs.declared.instruction.Instr.{Instr}
+use Rattle.uc_isa.specs.declared.instruction.Instr.TheVariants.{Read, Write}
 use Rattle.uc_isa.specs.declared.engine.Engine.{Engine}
 
 -- where a run stands: the engine, the memories, and the writes so far
@@ -20,9 +24,19 @@ pub record Moment : Type 0 where
 abbrev pub run_from : List Instr → ℕ → Moment → FullOutcome
 run_from code m a = run code m a.engine a.packet a.writes
 
--- the engine's next access to scratch, if it is one to the compiler's words, keeps to the code's own
+-- n words from an offset after an address on, of which one is from 512 on: B15 has the address, and holds the base
+abbrev pub IsFromBase : ℕ → Gpr → (off n : ℕ) → Engine → Type 0
+IsFromBase base x off n e = source_scratch < address x e + off + n → (x ≡ B 15) × (address x e ≡ base)
+
+-- an access to scratch that reaches a word from 512 on has its address in B15, which holds the base
+abbrev pub GoesByBase : ℕ → Option Instr → Engine → Type 0
+GoesByBase base (Some (Read Scratch r n x off)) e = IsFromBase base x off n e
+GoesByBase base (Some (Write Scratch r n x off)) e = IsFromBase base x off n e
+GoesByBase base _ e = ⊤
+
+-- the engine's next access to scratch, if it is one to the compiler's words, goes by B15 and keeps to the code's own
 abbrev pub KeepsAt : List Instr → ℕ → Engine → Type 0
-KeepsAt code base e = KeepsToItsWords base (scratch_access (slice_get code e.place) e)
+KeepsAt code base e = KeepsToItsWords base (scratch_access (slice_get code e.place) e) × GoesByBase base (slice_get code e.place) e
 
 -- so does the access after the first m steps
 abbrev pub KeepsAfter : List Instr → ℕ → ℕ → Moment → Type 0

@@ -12,7 +12,7 @@ ghost use Rattle.nv_base.specs.declared.term.Mem.{Mem};
 ghost use Rattle.uc_isa.specs.Agrees.{KeepsToItsWords, scratch_access};
 ghost use Rattle.uc_isa.specs.Engine.{IsEngine, halted, start};
 ghost use Rattle.uc_isa.specs.Lawful.{IsLawful};
-ghost use Rattle.uc_isa.specs.Pieces.{EndsIn, IsCovered, KeepsAfter, KeepsAt, Leads, Moment, SeenAlike, WritesOwn, run_from};
+ghost use Rattle.uc_isa.specs.Pieces.{EndsIn, GoesByBase, IsCovered, KeepsAfter, KeepsAt, Leads, Moment, SeenAlike, WritesOwn, run_from};
 ghost use Rattle.uc_isa.specs.Registers.{Fills, Puts, address_register, failing, register, source_register, write_register};
 ghost use Rattle.uc_isa.specs.Registers.Register.{InA, InB};
 ghost use Rattle.uc_isa.specs.Step.{address, bin_carry, holds, onward, operand, step, un_word, with_flags, with_read, with_result, write_registers};
@@ -79,20 +79,20 @@ pub fn branches_lead_on()
 /// A read brings the words of its memory into a run of read registers, or is the end of the run.
 pub fn reads_lead_on()
     ensures words { (code : List Instr) (base : ℕ) (m : Mem) (r n : ℕ) (x : Gpr) (off : ℕ) (ws : List ℕ) (a : Moment) → slice_get code a.engine.place ≡ Some (Instr.Read m r n x off)
-        → fetched m (address x a.engine + off) n a.packet ≡ Some ws → KeepsToItsWords base (scratch_access (Some (Instr.Read m r n x off)) a.engine)
+        → fetched m (address x a.engine + off) n a.packet ≡ Some ws → KeepsToItsWords base (scratch_access (Some (Instr.Read m r n x off)) a.engine) → GoesByBase base (Some (Instr.Read m r n x off)) a.engine
         → Leads code base 1 a (record a { engine = onward (with_read m r ws a.engine) }) }
     ensures fault { (code : List Instr) (base : ℕ) (m : Mem) (r n : ℕ) (x : Gpr) (off : ℕ) (a : Moment) → slice_get code a.engine.place ≡ Some (Instr.Read m r n x off)
-        → fetched m (address x a.engine + off) n a.packet ≡ None → KeepsToItsWords base (scratch_access (Some (Instr.Read m r n x off)) a.engine)
+        → fetched m (address x a.engine + off) n a.packet ≡ None → KeepsToItsWords base (scratch_access (Some (Instr.Read m r n x off)) a.engine) → GoesByBase base (Some (Instr.Read m r n x off)) a.engine
         → EndsIn code base 1 a (record { outcome = Outcome.Fault m (address x a.engine + off); packet = a.packet; writes = a.writes }) }
 {}
 
 /// A write puts the words of a run of write registers into its memory, or is the end of the run.
 pub fn writes_lead_on()
     ensures words { (code : List Instr) (base : ℕ) (m : Mem) (r n : ℕ) (x : Gpr) (off : ℕ) (ws : List ℕ) (q : Memories) (a : Moment) → slice_get code a.engine.place ≡ Some (Instr.Write m r n x off)
-        → take n (drop r (write_registers m a.engine)) ≡ ws → stored m (address x a.engine + off) ws a.packet ≡ Some q → KeepsToItsWords base (scratch_access (Some (Instr.Write m r n x off)) a.engine)
+        → take n (drop r (write_registers m a.engine)) ≡ ws → stored m (address x a.engine + off) ws a.packet ≡ Some q → KeepsToItsWords base (scratch_access (Some (Instr.Write m r n x off)) a.engine) → GoesByBase base (Some (Instr.Write m r n x off)) a.engine
         → Leads code base 1 a (record { engine = onward a.engine; packet = q; writes = a.writes ++ record { mem = m; at = address x a.engine + off; words = ws } ∷ [] }) }
     ensures fault { (code : List Instr) (base : ℕ) (m : Mem) (r n : ℕ) (x : Gpr) (off : ℕ) (ws : List ℕ) (a : Moment) → slice_get code a.engine.place ≡ Some (Instr.Write m r n x off)
-        → take n (drop r (write_registers m a.engine)) ≡ ws → stored m (address x a.engine + off) ws a.packet ≡ None → KeepsToItsWords base (scratch_access (Some (Instr.Write m r n x off)) a.engine)
+        → take n (drop r (write_registers m a.engine)) ≡ ws → stored m (address x a.engine + off) ws a.packet ≡ None → KeepsToItsWords base (scratch_access (Some (Instr.Write m r n x off)) a.engine) → GoesByBase base (Some (Instr.Write m r n x off)) a.engine
         → EndsIn code base 1 a (record { outcome = Outcome.Fault m (address x a.engine + off); packet = a.packet; writes = a.writes }) }
 {}
 

@@ -7,12 +7,13 @@ use Rattle.nv_base.specs.Memories.{Memories}
 use Rattle.nv_base.specs.Meanings.{FullOutcome, Same, IsOver, IsPrefix, Meaning, seen}
 use Rattle.uc_isa.specs.Agrees.{Agrees, SourceMeaning, IsStart, KeepsToItsWords, scratch_access}
 use Rattle.uc_isa.specs.Code.{CodeView}
-use Rattle.uc_isa.specs.Engine.{engine, start, after}
+use Rattle.uc_isa.specs.Engine.{engine, run, start, after}
 use Rattle.uc_isa.specs.declared.instruction.Instr.{Instr}
 use Rattle.uc_isa.specs.declared.instruction.Instr.TheVariants.{Alu, Un, Immed, Br, Read, Write, Halt}
 use Rattle.uc_isa.specs.declared.engine.Engine.{Engine}
 use Rattle.uc_isa.proofs.States.{start-state}
 use Rattle.uc_isa_executions.specs.Alike.{Begins, Follows}
+use Rattle.uc_isa_executions.specs.Entry.{AssumesNoMore, KeepsWithin}
 use Rattle.uc_isa_executions.specs.Visits.{MemoryAccess, access, access_at}
 
 pub follows-refl : (code : List Instr) (starts : List ℕ) → Follows code code starts starts
@@ -69,13 +70,15 @@ scratch-same None e = refl
 abbrev pub KeepsIn : List Instr → ℕ → ℕ → Engine → Memories → Type 0
 KeepsIn code base m e p = let n = after code m e p in KeepsToItsWords base (scratch_access (slice_get code n.engine.place) n.engine)
 
+scratch-alike : (code code' : List Instr) (m n : ℕ) (e : Engine) (p : Memories) → access_at code m e p ≡ access_at code' n e p
+    → scratch_access (slice_get code (after code m e p).engine.place) (after code m e p).engine ≡ scratch_access (slice_get code' (after code' n e p).engine.place) (after code' n e p).engine
+scratch-alike code code' m n e p same =
+    scratch-same (slice_get code (after code m e p).engine.place) (after code m e p).engine
+    ∙ ap scratch_of same
+    ∙ sym (scratch-same (slice_get code' (after code' n e p).engine.place) (after code' n e p).engine)
+
 keeps-by : (code code' : List Instr) (base m n : ℕ) (e : Engine) (p : Memories) → access_at code m e p ≡ access_at code' n e p → KeepsIn code base m e p → KeepsIn code' base n e p
-keeps-by code code' base m n e p same h =
-    let a : Engine = (after code m e p).engine in
-    let b : Engine = (after code' n e p).engine in
-    subst (KeepsToItsWords base)
-    (scratch-same (slice_get code (after code m e p).engine.place) (after code m e p).engine ∙ ap scratch_of same ∙ sym (scratch-same (slice_get code' (after code' n e p).engine.place) (after code' n e p).engine))
-    h
+keeps-by code code' base m n e p same h = subst (KeepsToItsWords base) (scratch-alike code code' m n e p same) h
 
 keeps-none : (code : List Instr) (base m : ℕ) (e : Engine) (p : Memories) → access_at code m e p ≡ None → KeepsIn code base m e p
 keeps-none code base m e p none = subst (KeepsToItsWords base) (sym (scratch-same (slice_get code (after code m e p).engine.place) (after code m e p).engine ∙ ap scratch_of none)) tt
@@ -134,4 +137,18 @@ agrees-back params source c c' starts starts' few count f h = record {
       (λ (none : access_at c.list m (start args base) p ≡ None). keeps-none c.list base m (start args base) p none)
       (λ (some : (n : ℕ) × (access_at c.list m (start args base) p ≡ access_at c'.list n (start args base) p)). keeps-by c'.list c.list base some.0 m (start args base) p (sym some.1) (h.spills args p base s some.0))
       (f.access (start args base) p (begins-start params args p base few s) m);
+}
+
+-- what follows code that assumes no more than arguments and base assumes no more either
+pub assumes-there : (params : ℕ) (source : SourceMeaning) (slots : ℕ) (code code' : List Instr) (starts starts' : List ℕ) → Follows code code' starts starts' → AssumesNoMore params source slots code → AssumesNoMore params source slots code'
+assumes-there params source slots code code' starts starts' f h = record {
+  same = λ args p base e s is.
+      let b : Begins e p = record { engine = is.engine; place = is.place; sizes = s.memories } in
+      same-given (source args p) (λ m. run code m e p []) (λ m. run code' m e p [])
+      (λ i. let g = f.gives e p b i in (g.0, g.1 []), λ j. let g = f.gives_only e p b j in (g.0, g.1 []))
+      (h.same args p base e s is);
+  keeps = λ args p base e s is n.
+      let b : Begins e p = record { engine = is.engine; place = is.place; sizes = s.memories } in
+      let a = f.access_only e p b n in
+      subst (KeepsWithin base slots) (scratch-alike code code' a.0 n e p a.1) (h.keeps args p base e s is a.0);
 }

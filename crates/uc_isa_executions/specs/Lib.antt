@@ -4,5 +4,6 @@ pub mod Visits
 pub mod Alike
 pub mod Starts
 pub mod Entries
+pub mod Entry
 pub mod Relocated
 pub mod StraightCode

@@ -11,6 +11,7 @@ ghost use Rattle.uc_isa.specs.declared.engine.Engine.{Engine};
 ghost use Rattle.uc_isa.specs.declared.instruction.Instr.{Instr};
 ghost use Rattle.uc_isa_executions.specs.Alike.{DoesAlike, Follows, GoesOn, ReadAlike, RunsAlike};
 ghost use Rattle.uc_isa_executions.specs.Entries.{EntryCount, IsVisited};
+ghost use Rattle.uc_isa_executions.specs.Entry.{AssumesNoMore};
 ghost use Rattle.uc_isa_executions.specs.Program.{IsFormed, IsProgram};
 ghost use Rattle.uc_isa_executions.specs.Relocated.{DoesMoved};
 ghost use Rattle.uc_isa_executions.specs.Resources.{IsNext, IsResource, Resource, value, writes};
@@ -61,12 +62,13 @@ pub fn moves_by_parts()
 {}
 
 /// Code follows itself, and what it follows follows. A source agrees with code exactly where it agrees with code that
-/// follows it, and that enters labels as often.
+/// follows it, and that enters labels as often. What follows code that assumes no more than the arguments and the spill base does so too.
 pub fn codes_follow()
     ensures same { (code : List Instr) (starts : List ℕ) → Follows code code starts starts }
     ensures on { (a b d : List Instr) (s t u : List ℕ) → length t ≡ length s → Follows a b s t → Follows b d t u → Follows a d s u }
     ensures agrees { (params : ℕ) (source : SourceMeaning) (c c' : CodeView) (starts starts' : List ℕ) → params ≤ 8 → c'.params ≡ c.params → Follows c.list c'.list starts starts' → (Agrees params source c ↔ Agrees params source c') }
     ensures visited { (params : ℕ) (entered : EntryCount) (code code' : List Instr) (starts starts' : List ℕ) → params ≤ 8 → length starts' ≡ length starts → Follows code code' starts starts' → IsVisited params entered code starts → IsVisited params entered code' starts' }
+    ensures assumes { (params : ℕ) (source : SourceMeaning) (slots : ℕ) (code code' : List Instr) (starts starts' : List ℕ) → Follows code code' starts starts' → AssumesNoMore params source slots code → AssumesNoMore params source slots code' }
 {}
 
 /// Starts of that shape in lawful code, one a label and inside, are the starts of its labels.

@@ -60,6 +60,16 @@ impl Tagged {
         &self.exceptions
     }
 
+    /// The three, each by itself.
+    pub fn into_parts(self) -> (Code, Vec<(u32, Name)>, Vec<u32>)
+        ensures code { result.0 ≡ self.code }
+        ensures exceptions { result.1.items ≡ self.exceptions }
+        ensures starts { result.2.items ≡ self.starts }
+        ensures tagged { IsTagged self }
+    {
+        (self.code, self.exceptions, self.starts)
+    }
+
     /// The places where labels start.
     pub fn starts(&self) -> &[u32]
         ensures starts { result.now ≡ self.now.starts }

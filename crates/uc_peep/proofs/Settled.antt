@@ -35,4 +35,4 @@ pub settled-in-turn : (A B C D E F : Answers) (code : List Instr) (starts : List
 settled-in-turn A B C D E F code starts code' starts' f g h i j l peeped p k w =
     let s = peeped.settled p k w in
     let n = none-in-turn A B C D E F (take k (drop p code')) s.0 s.2 in
-    (s.0, s.1, sym (f _ _ _ n.0), sym (g _ _ _ n.1), sym (h _ _ _ n.2), sym (i _ _ _ n.3), sym (j _ _ _ n.4), sym (l _ _ _ n.5))
+    (s.0, s.1, (sym (f _ _ _ n.0), sym (g _ _ _ n.1), sym (h _ _ _ n.2)), (sym (i _ _ _ n.3), sym (j _ _ _ n.4), sym (l _ _ _ n.5)))

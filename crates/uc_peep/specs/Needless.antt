@@ -125,8 +125,15 @@ held_rule (i ∷ j ∷ l ∷ []) set = if puts_again i j l then Some (i ∷ j �
 held_rule (i ∷ j ∷ k ∷ l ∷ []) set = if puts_again i j l && puts_again i k l then Some (i ∷ j ∷ k ∷ []) else None
 held_rule _ set = None
 
+-- the three rules that take out a dead operation, a copy onto itself or a copy back have no answer at a window, where this is live after it
+abbrev pub NoneIsNeedless : List Instr → ℕ → Type 0
+NoneIsNeedless window set = (dead_rule window set ≡ None) × (idle_rule window set ≡ None) × (back_rule window set ≡ None)
+
+-- nor have the three further ones, of comparisons with zero, repeated tests and literals that are held
+abbrev pub NoneIsRepeated : List Instr → ℕ → Type 0
+NoneIsRepeated window set = (zero_rule window set ≡ None) × (repeated_rule window set ≡ None) × (held_rule window set ≡ None)
+
 -- at no window any of the six rules has an answer, asked with exactly what is live after the window
 abbrev pub HasNoNeedless : List Instr → List ℕ → Type 0
 HasNoNeedless code starts = (p k : ℕ) → IsWindow code starts p k
-    → (set : ℕ) × IsLiveAt code (p + k) set × (dead_rule (take k (drop p code)) set ≡ None) × (idle_rule (take k (drop p code)) set ≡ None) × (back_rule (take k (drop p code)) set ≡ None)
-    × (zero_rule (take k (drop p code)) set ≡ None) × (repeated_rule (take k (drop p code)) set ≡ None) × (held_rule (take k (drop p code)) set ≡ None)
+    → (set : ℕ) × IsLiveAt code (p + k) set × NoneIsNeedless (take k (drop p code)) set × NoneIsRepeated (take k (drop p code)) set

@@ -52,6 +52,7 @@ pub mod Cursored
 pub mod CanPieces
 pub mod EachCopied
 pub mod Serving
+pub mod Entering
 pub mod Whole
 pub mod Stood
 pub mod Sequenced

@@ -19,7 +19,7 @@ use Rattle.uc_isa.specs.declared.instruction.Gpr.{Gpr}
 use Rattle.uc_isa.specs.declared.engine.Engine.{Engine}
 use Rattle.uc_isa.specs.Registers.{register, write_register}
 use Rattle.uc_isa.specs.Agrees.{KeepsToItsWords, scratch_access}
-use Rattle.uc_isa.specs.Pieces.{Moment}
+use Rattle.uc_isa.specs.Pieces.{GoesByBase, Moment}
 use Rattle.uc_isa.specs.Step.{address, onward, write_registers}
 use Rattle.uc_isa.specs.Straight.{Stands as InCode}
 use Rattle.uc_isa.proofs.PieceSteps.{leads-read, ends-read, leads-write, ends-write}
@@ -74,10 +74,20 @@ read_keeps Sram base f n at x e same s = tt
 read_keeps Sdram base f n at x e same s = tt
 read_keeps Scratch base f n at x e same s = λ (past : 512 < address x e + 0 + n). absurd (omega (arith, past, same, s))
 
+read_by_base : (m : Mem) (base f n at : ℕ) (x : Gpr) (e : Engine) → address x e + 0 ≡ at → IsSourceStretch m at n → GoesByBase base (Some (instr.Read m f n x 0)) e
+read_by_base Sram base f n at x e same s = tt
+read_by_base Sdram base f n at x e same s = tt
+read_by_base Scratch base f n at x e same s = λ (past : 512 < address x e + 0 + n). absurd (omega (arith, past, same, s))
+
 write_keeps : (m : Mem) (base f n at : ℕ) (x : Gpr) (e : Engine) → address x e + 0 ≡ at → IsSourceStretch m at n → KeepsToItsWords base (scratch_access (Some (instr.Write m f n x 0)) e)
 write_keeps Sram base f n at x e same s = tt
 write_keeps Sdram base f n at x e same s = tt
 write_keeps Scratch base f n at x e same s = λ (past : 512 < address x e + 0 + n). absurd (omega (arith, past, same, s))
+
+write_by_base : (m : Mem) (base f n at : ℕ) (x : Gpr) (e : Engine) → address x e + 0 ≡ at → IsSourceStretch m at n → GoesByBase base (Some (instr.Write m f n x 0)) e
+write_by_base Sram base f n at x e same s = tt
+write_by_base Sdram base f n at x e same s = tt
+write_by_base Scratch base f n at x e same s = λ (past : 512 < address x e + 0 + n). absurd (omega (arith, past, same, s))
 
 address_is : (base : ℕ) (x : Place) (e : Words) (m : Moment) → IsAddress x → HasWords base e m → address (address_of x) m.engine + 0 ≡ e x
 address_is base x e m i h =
@@ -101,7 +111,7 @@ read code base at mem f n x ws e w m i le s c h sizes g =
     record {
       later = with_words_read mem f ws m;
       leads = leads-read code base mem f n (address_of x) 0 ws m (instr_here code at m.engine.place (instr.Read mem f n (address_of x) 0) [] h.place c)
-          (fetched_there base at mem n x (Some ws) e w m i s h sizes g) (read_keeps mem base f n (e x) (address_of x) m.engine (address_is base x e m i h.words) s);
+          (fetched_there base at mem n x (Some ws) e w m i s h sizes g) (read_keeps mem base f n (e x) (address_of x) m.engine (address_is base x e m i h.words) s) (read_by_base mem base f n (e x) (address_of x) m.engine (address_is base x e m i h.words) s);
       stands = read_stands base at mem f ws e w m (omega (arith, le, words.0)) words.1 h;
     }
 
@@ -113,7 +123,7 @@ read_fault code base at mem f n x e w m i le s c h sizes g =
     record {
       last = record { outcome = outcome.Fault mem (address (address_of x) m.engine + 0); packet = m.packet; writes = m.writes };
       ends = ends-read code base mem f n (address_of x) 0 m (instr_here code at m.engine.place (instr.Read mem f n (address_of x) 0) [] h.place c)
-          (fetched_there base at mem n x None e w m i s h sizes g) (read_keeps mem base f n (e x) (address_of x) m.engine there s);
+          (fetched_there base at mem n x None e w m i s h sizes g) (read_keeps mem base f n (e x) (address_of x) m.engine there s) (read_by_base mem base f n (e x) (address_of x) m.engine there s);
       alike = seen_alike (outcome.Fault mem (address (address_of x) m.engine + 0)) (outcome.Fault mem (e x)) base at e w m (ap (λ a. outcome.Fault mem a) there) h;
     }
 
@@ -187,7 +197,7 @@ write code base at mem f x ws q e w m i le s c h each sizes g =
     record {
       later = with_words_written mem (address (address_of x) m.engine + 0) ws to.0 m;
       leads = leads-write code base mem f (length ws) (address_of x) 0 ws to.0 m (instr_here code at m.engine.place (instr.Write mem f (length ws) (address_of x) 0) [] h.place c)
-          taken (ap (λ a. stored mem a ws m.packet) there ∙ to.1) (write_keeps mem base f (length ws) (e x) (address_of x) m.engine there s);
+          taken (ap (λ a. stored mem a ws m.packet) there ∙ to.1) (write_keeps mem base f (length ws) (e x) (address_of x) m.engine there s) (write_by_base mem base f (length ws) (e x) (address_of x) m.engine there s);
       stands = written_stands base at mem (address (address_of x) m.engine + 0) (e x) ws q to.0 e w m there s fits h to.1 to.2;
     }
 
@@ -202,6 +212,6 @@ write_fault code base at mem f x ws e w m i le s c h each sizes g =
       ends = ends-write code base mem f (length ws) (address_of x) 0 ws m (instr_here code at m.engine.place (instr.Write mem f (length ws) (address_of x) 0) [] h.place c)
           (taken_are base at mem f ws e w m le h each)
           (ap (λ a. stored mem a ws m.packet) there ∙ not-stored-seen mem (e x) ws w.packet m.packet (alike base at e w m sizes h) g)
-          (write_keeps mem base f (length ws) (e x) (address_of x) m.engine there s);
+          (write_keeps mem base f (length ws) (e x) (address_of x) m.engine there s) (write_by_base mem base f (length ws) (e x) (address_of x) m.engine there s);
       alike = seen_alike (outcome.Fault mem (address (address_of x) m.engine + 0)) (outcome.Fault mem (e x)) base at e w m (ap (λ a. outcome.Fault mem a) there) h;
     }

@@ -72,7 +72,7 @@ slot_leads code base at k r e w m a b c h =
       later = with_words_read Scratch r (x ∷ []) m;
       leads = leads-read code base Scratch r 1 (gpr.B 15) k (x ∷ []) m (instr_here code at m.engine.place (instr.Read Scratch r 1 (gpr.B 15) k) [] h.place c)
           (ap (λ n. fetched Scratch n 1 m.packet) there ∙ found)
-          (λ past. (omega (arith, there), omega (arith, there, a)));
+          (λ past. (omega (arith, there), omega (arith, there, a))) (λ past. (refl, h.base_kept));
       stands = subst (λ u. Stands base (at + 1) (put e (L r) u) w (with_words_read Scratch r (x ∷ []) m)) (h.words (Slot k) a)
           (read_stands base at Scratch r (x ∷ []) e w m (omega (arith, b)) words.1 h);
     }
@@ -145,7 +145,7 @@ spill_leads code base at r k e w m b a c h =
     record {
       later = with_words_written Scratch n (v ∷ []) q m;
       leads = leads-write code base Scratch r 1 (gpr.B 15) k (v ∷ []) q m (instr_here code at m.engine.place (instr.Write Scratch r 1 (gpr.B 15) k) [] h.place c) taken st
-          (λ past. (omega (arith, there), omega (arith, there, a)));
+          (λ past. (omega (arith, there), omega (arith, there, a))) (λ past. (refl, h.base_kept));
       stands = subst (λ u. Stands base (at + 1) (put e (Slot k) u) w (with_words_written Scratch n (v ∷ []) q m)) (h.words (S r) b)
           (slot_stands base at n k v q e w m a there fits h st);
     }

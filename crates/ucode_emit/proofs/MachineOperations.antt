@@ -20,11 +20,12 @@ use Rattle.uc_isa.specs.declared.instruction.Cond.TheVariants.{Always}
 use Rattle.uc_isa.specs.declared.engine.Engine.{Engine}
 use Rattle.uc_isa.specs.Registers.{failing, register}
 use Rattle.uc_isa.specs.Registers.Register.{InA}
-use Rattle.uc_isa.specs.Engine.{halted}
+use Rattle.uc_isa.specs.Engine.{halted, start}
 use Rattle.uc_isa.specs.Agrees.{IsStart}
 use Rattle.uc_isa.specs.Pieces.{Moment, Leads}
 use Rattle.uc_isa.specs.Step.{operand, un_word, bin_carry, with_result, with_flags, onward, holds}
 use Rattle.uc_isa.specs.Straight.{Stands as InCode}
+use Rattle.uc_isa_executions.specs.Entry.{IsEntry}
 use Rattle.uc_isa.proofs.Comparisons.{failing-holds}
 use Rattle.uc_isa.proofs.Leading.{leads-then}
 use Rattle.uc_isa.proofs.Listing.{stands-right, stands-fetched}
@@ -192,18 +193,27 @@ halt code base at k ws e w m le c h each =
 
 -- ---- where a run begins
 
-pub starts : (params base : ℕ) (args : List ℕ) (p : Memories) → params ≤ 8 → IsStart params args p base
-    → Stands base 0 (word_at base (at_start args base p)) (begun p) (at_start args base p) × Begun args (word_at base (at_start args base p))
-starts params base args p le s = (
+pub starts : (params base : ℕ) (args : List ℕ) (p : Memories) (e : Engine) → params ≤ 8 → IsStart params args p base → IsEntry args base e
+    → Stands base 0 (word_at base (at_start e p)) (begun p) (at_start e p) × Begun args (word_at base (at_start e p))
+starts params base args p e le s is = (
   record {
-    place = refl;
-    engine = start-state args base (omega (arith, le, s.words.0)) s.words.1 (omega (arith, s.spills.1));
+    place = is.place;
+    engine = is.engine;
     memories = s.memories;
     spills = s.spills;
-    base_kept = refl;
+    base_kept = is.spills;
     words = λ q i. refl;
     packet = refl;
     writes = refl;
   },
-  λ i v g. let r = got_index args i v g in started-args args base i r.0 ∙ r.1,
+  λ i v g. let r = got_index args i v g in is.arguments i r.0 ∙ r.1,
 )
+
+-- one such engine is that in which all else is zero
+pub start_entry : (params base : ℕ) (args : List ℕ) (p : Memories) → params ≤ 8 → IsStart params args p base → IsEntry args base (start args base)
+start_entry params base args p le s = record {
+  engine = start-state args base (omega (arith, le, s.words.0)) s.words.1 (omega (arith, s.spills.1));
+  place = refl;
+  arguments = λ i lt. started-args args base i lt;
+  spills = refl;
+}

@@ -6,6 +6,7 @@ use Rattle.std.specs.Prelude.{slice_index}
 use Rattle.nv_base.specs.Memories.{Memories}
 use Rattle.nv_base.specs.World.{World, begun}
 use Rattle.uc_isa.specs.Agrees.{IsStart}
+use Rattle.uc_isa.specs.Engine.{start}
 use Rattle.uc_isa.specs.Pieces.{Moment}
 use Rattle.uc_isa_executions.specs.Entries.{VisitedAsEntered, IsVisited}
 use Rattle.uc_isa_executions.specs.Visits.{here, stood}
@@ -20,10 +21,10 @@ use Rattle.ucode_emit.specs.inner.Layers.{Placed, at_start}
 use Rattle.ucode_emit.proofs.LabelPlaces.{start_at, code_starts}
 use Rattle.ucode_emit.proofs.Layer.{ready_layer}
 use Rattle.ucode_emit.proofs.MachineLayers.{machine}
-use Rattle.ucode_emit.proofs.MachineOperations.{got_index}
+use Rattle.ucode_emit.proofs.MachineOperations.{got_index, start_entry}
 use Rattle.ucode_emit.proofs.Placing.{code_of}
 use Rattle.ucode_emit.proofs.RunsResults.{Setting, code_in, places_in, starts_in, Jumps, Leaves}
-use Rattle.ucode_emit.proofs.RunsWhole.{jumped_runs, start_runs, starts_first, label_first}
+use Rattle.ucode_emit.proofs.RunsWhole.{jumped_runs, start_runs, starts_first, label_first, few_there}
 use Rattle.ucode_emit.proofs.Visiting.{stood_within, stood_behind, stood_over}
 
 -- ---- at a start
@@ -107,7 +108,7 @@ entries g base (suc n) a (JumpsTo (suc l) ws w) h =
 -- ---- the whole
 
 -- the start is an entry of label 0
-start_visited : (g : Setting) (args : List ℕ) (p : Memories) (base m n : ℕ) → VisitedAs g m n (at_start args base p) (label_exit (slice_get g.labels 0) args (begun p)) → VisitedAsEntered (entered g.labels) (code_in g) (starts_in g) args p base m n
+start_visited : (g : Setting) (args : List ℕ) (p : Memories) (base m n : ℕ) → VisitedAs g m n (at_start (start args base) p) (label_exit (slice_get g.labels 0) args (begun p)) → VisitedAsEntered (entered g.labels) (code_in g) (starts_in g) args p base m n
 start_visited g args p base m n h k lt =
     let label = label_first g in
     let place = slice_index_or (places_in g) (entry_point g.labels 0) 0 in
@@ -115,16 +116,18 @@ start_visited g args p base m n h k lt =
     let there = got_index (starts_in g) 0 place (start_at g.labels g.plan g.mss 0 label.it label.there) in
     h k lt ∙ ap (λ c. c + entered_behind g.labels n (label_exit (slice_get g.labels 0) args (begun p)) k) (start_is g 0 k 0 there.0 lt (sym (there.1 ∙ none)))
 
-first_leaves : (g : Setting) (args : List ℕ) (p : Memories) (base : ℕ) → IsStart (ssu_params g.labels) args p base → Leaves g base (at_start args base p) (label_exit (slice_get g.labels 0) args (begun p))
-first_leaves g args p base start = let label = label_first g in start_runs g base args p label.it label.there start
+first_leaves : (g : Setting) (args : List ℕ) (p : Memories) (base : ℕ) → IsStart (ssu_params g.labels) args p base → Leaves g base (at_start (start args base) p) (label_exit (slice_get g.labels 0) args (begun p))
+first_leaves g args p base s =
+    let label = label_first g in
+    start_runs g base args p (start args base) label.it label.there s (start_entry (ssu_params g.labels) base args p (few_there g label.it label.there) s)
 
 setting_visited : (g : Setting) → IsVisited (ssu_params g.labels) (entered g.labels) (code_in g) (starts_in g)
 setting_visited g = record {
-  visits = λ args p base start m.
-      let v = visits g base m m (at_start args base p) (label_exit (slice_get g.labels 0) args (begun p)) (omega arith) (first_leaves g args p base start) in
+  visits = λ args p base s m.
+      let v = visits g base m m (at_start (start args base) p) (label_exit (slice_get g.labels 0) args (begun p)) (omega arith) (first_leaves g args p base s) in
       (v.0, start_visited g args p base m v.0 v.1);
-  visits_only = λ args p base start n.
-      let v = entries g base n (at_start args base p) (label_exit (slice_get g.labels 0) args (begun p)) (first_leaves g args p base start) in
+  visits_only = λ args p base s n.
+      let v = entries g base n (at_start (start args base) p) (label_exit (slice_get g.labels 0) args (begun p)) (first_leaves g args p base s) in
       (v.0, start_visited g args p base v.0 n v.1);
 }
 

@@ -17,14 +17,16 @@ use Rattle.nv_base.proofs.Same.{same_lands}
 use Rattle.nv_base.proofs.MemoryLemmas.{seen_follows}
 use Rattle.nv_base.proofs.Environments.{blank-env, assigned-all-env}
 use Rattle.uc_isa.specs.declared.instruction.Instr.{Instr}
+use Rattle.uc_isa.specs.declared.engine.Engine.{Engine}
 use Rattle.uc_isa.specs.Agrees.{Agrees, IsStart}
 use Rattle.uc_isa.specs.Code.{CodeView}
-use Rattle.uc_isa.specs.Engine.{engine}
-use Rattle.uc_isa.specs.Pieces.{Moment, Leads, EndsIn, IsCovered}
+use Rattle.uc_isa.specs.Engine.{engine, start}
+use Rattle.uc_isa.specs.Pieces.{Moment, Leads, EndsIn, IsCovered, run_from}
 use Rattle.uc_isa.specs.Straight.{going}
 use Rattle.uc_isa.proofs.Agreement.{agrees-where_same}
 use Rattle.uc_isa.proofs.Leading.{leads-then, leads-end, leads-reached, covered-keeps}
 use Rattle.uc_isa.proofs.Steps.{engine-grows}
+use Rattle.uc_isa_executions.specs.Entry.{IsEntry}
 use Rattle.ssu_ir.specs.Tree.{Label}
 use Rattle.ssu_ir.specs.Points.{own}
 use Rattle.ssu_ir.specs.Meaning.{run, blank, ssu_meaning, params_of, ssu_params}
@@ -45,6 +47,7 @@ use Rattle.ucode_emit.proofs.PointsTree.{different_left, different_right, differ
 use Rattle.ucode_emit.proofs.Entries.{params_differ, few_params}
 use Rattle.ucode_emit.proofs.LabelPlaces.{starts_apart, start_at}
 use Rattle.ucode_emit.proofs.LawfulCode.{tree_long}
+use Rattle.ucode_emit.proofs.MachineOperations.{start_entry}
 use Rattle.ucode_emit.proofs.Placing.{items_long, there_by_length, Part, part_head, LabelAt, label_at, entry_later}
 use Rattle.ucode_emit.proofs.RunsWords.{each_its_word}
 use Rattle.ucode_emit.proofs.RunsResults.{Setting, code_in, places_in, starts_in, Clear, clear_part, tree_end, Jumps, Leaves, run_back}
@@ -176,18 +179,21 @@ moves_first : (p : Plan) (ls : List Label) (it : Label) → slice_get ls 0 ≡ S
 moves_first p [] it e = absurd (none-some it e)
 moves_first p (x ∷ ls) it e = ap (λ (y : Label). Some (entry_moves p 0 y.params)) (same_Some x it e)
 
-pub start_runs : (g : Setting) (base : ℕ) (args : List ℕ) (p : Memories) (it : Label) → slice_get g.labels 0 ≡ Some it → IsStart (ssu_params g.labels) args p base
-    → Leaves g base (at_start args base p) (label_exit (slice_get g.labels 0) args (begun p))
-start_runs g base args p it found start =
+pub few_there : (g : Setting) (it : Label) → slice_get g.labels 0 ≡ Some it → ssu_params g.labels ≤ 8
+few_there g it found = subst (λ n. n ≤ 8) (sym (ap params_of found)) (few_params g.labels g.plan it g.placed found)
+
+pub start_runs : (g : Setting) (base : ℕ) (args : List ℕ) (p : Memories) (first_state : Engine) (it : Label) → slice_get g.labels 0 ≡ Some it → IsStart (ssu_params g.labels) args p base → IsEntry args base first_state
+    → Leaves g base (at_start first_state p) (label_exit (slice_get g.labels 0) args (begun p))
+start_runs g base args p first_state it found given entry =
     let k = entry_point g.labels 0 in
-    let m = at_start args base p in
+    let m = at_start first_state p in
     let e = word_at base m in
     let env = assigned_all blank it.params args in
     let ms = sequence_at g.mss k in
     let first = single_moves None ms in
     let behind = all_copies g.plan k it.params in
-    let many : length args ≡ length it.params = start.words.0 ∙ ap params_of found in
-    let s = g.machine.starts (length it.params) base args p (few_params g.labels g.plan it g.placed found) (record { words = (many, start.words.1); memories = start.memories; spills = start.spills }) in
+    let many : length args ≡ length it.params = given.words.0 ∙ ap params_of found in
+    let s = g.machine.starts (length it.params) base args p first_state (few_params g.labels g.plan it g.placed found) (record { words = (many, given.words.1); memories = given.memories; spills = given.spills }) entry in
     let emit_context = label_at g.labels g.plan g.mss 0 it found in
     let there = moves_first g.plan g.labels it found in
     let sequence : IsSequence (entry_moves g.plan 0 it.params) ms = g.sequences.each k (entry_moves g.plan 0 it.params) ms there
@@ -196,7 +202,7 @@ start_runs g base args p it found start =
     let r = g.layer.entry 0 it env (one_by_one first e) found emit_context.body.points_ b.1 in
     let at : emit_context.at ≡ 0 = same_Some emit_context.at 0 (sym emit_context.begins ∙ starts_first g.labels g.plan g.mss g.labels it found) in
     subst (λ o. Leaves g base m (label_exit o args (begun p))) (sym found)
-    (body_runs g base 0 it args e (begun p) m found start.words.1 start.memories emit_context
+    (body_runs g base 0 it args e (begun p) m found given.words.1 given.memories emit_context
     (All-append (λ q. IsDirect g.plan.slots q.0 q.1) first behind b.0 r.0)
     (subst (λ x. Ready g.labels g.plan (suc k) (root_point own it.params it.body) env x) (sym (one_append first behind e)) r.1)
     (subst (λ j. Stands base j e (begun p) m) (sym at) s.0))
@@ -204,19 +210,19 @@ start_runs g base args p it found start =
 -- ---- runs with so many jumps
 
 -- the run ends, seen as this outcome
-record Finished (code : List Instr) (base : ℕ) (m : Moment) (f : FullOutcome) : Type 0 where
-  steps : ℕ
-  over : Over code base steps m f
+pub record Finished (code : List Instr) (base : ℕ) (m : Moment) (f : FullOutcome) : Type 0 where
+  pub steps : ℕ
+  pub over : Over code base steps m f
 
 -- n steps or more lead to a moment that is seen as this outcome
-record Reached (code : List Instr) (base n : ℕ) (m : Moment) (f : FullOutcome) : Type 0 where
-  steps : ℕ
-  later : Moment
-  leads : Leads code base steps m later
-  far : n ≤ steps
-  alike : seen (going later.packet later.writes) ≡ seen f
+pub record Reached (code : List Instr) (base n : ℕ) (m : Moment) (f : FullOutcome) : Type 0 where
+  pub steps : ℕ
+  pub later : Moment
+  pub leads : Leads code base steps m later
+  pub far : n ≤ steps
+  pub alike : seen (going later.packet later.writes) ≡ seen f
 
-abbrev Result : List Instr → ℕ → ℕ → Moment → FullOutcome → Type 0
+abbrev pub Result : List Instr → ℕ → ℕ → Moment → FullOutcome → Type 0
 Result code base n m f = Finished code base m f ⊎ Reached code base n m f
 
 -- a jump counts
@@ -257,23 +263,23 @@ run_results g base (suc n) a (JumpsTo (suc l) ws w) h =
     subst (Result (code_in g) base (suc n) a) (sym (enter_by_exit (run g.labels n) (slice_get g.labels (suc l)) ws w))
     (after_jump (code_in g) base h.steps n a h.last h.later (outcome_of (run g.labels n) next) h.leads h.jump (run_results g base n h.later next (jumped_runs g base a l ws w h)))
 
-meaning_runs : (g : Setting) (base : ℕ) (args : List ℕ) (p : Memories) (it : Label) → slice_get g.labels 0 ≡ Some it → IsStart (ssu_params g.labels) args p base
-    → (n : ℕ) → Result (code_in g) base n (at_start args base p) (ssu_meaning g.labels args p n)
-meaning_runs g base args p it found start n =
-    subst (Result (code_in g) base n (at_start args base p)) (sym (meaning_by_exit g.labels args p n))
-    (run_results g base n (at_start args base p) (label_exit (slice_get g.labels 0) args (begun p)) (start_runs g base args p it found start))
+pub meaning_runs : (g : Setting) (base : ℕ) (args : List ℕ) (p : Memories) (first_state : Engine) (it : Label) → slice_get g.labels 0 ≡ Some it → IsStart (ssu_params g.labels) args p base → IsEntry args base first_state
+    → (n : ℕ) → Result (code_in g) base n (at_start first_state p) (ssu_meaning g.labels args p n)
+meaning_runs g base args p first_state it found given entry n =
+    subst (Result (code_in g) base n (at_start first_state p)) (sym (meaning_by_exit g.labels args p n))
+    (run_results g base n (at_start first_state p) (label_exit (slice_get g.labels 0) args (begun p)) (start_runs g base args p first_state it found given entry))
 
 -- ---- agreement
 
 abbrev view_in : Setting → CodeView
 view_in g = record { params = ssu_params g.labels; list = code_in g }
 
-lands_at : (g : Setting) (base i : ℕ) (args : List ℕ) (p : Memories) (f : FullOutcome) → Result (code_in g) base i (at_start args base p) f
-    → (j : ℕ) × (f.outcome ≡ outcome.Going → i ≤ j) × (seen (engine (view_in g) args base p j) ≡ seen f)
-lands_at g base i args p f (inl h) = (h.steps + i, λ e. omega arith, ap seen (h.over.ends.since i) ∙ h.over.alike)
-lands_at g base i args p f (inr r) = (r.steps, λ e. r.far, ap seen (leads-reached (code_in g) base r.steps (at_start args base p) r.later r.leads) ∙ r.alike)
+pub lands_at : (g : Setting) (base i : ℕ) (first_state : Engine) (p : Memories) (f : FullOutcome) → Result (code_in g) base i (at_start first_state p) f
+    → (j : ℕ) × (f.outcome ≡ outcome.Going → i ≤ j) × (seen (run_from (code_in g) j (at_start first_state p)) ≡ seen f)
+lands_at g base i first_state p f (inl h) = (h.steps + i, λ e. omega arith, ap seen (h.over.ends.since i) ∙ h.over.alike)
+lands_at g base i first_state p f (inr r) = (r.steps, λ e. r.far, ap seen (leads-reached (code_in g) base r.steps (at_start first_state p) r.later r.leads) ∙ r.alike)
 
-covered_at : (code : List Instr) (base m : ℕ) (a : Moment) (f : FullOutcome) → Result code base (suc m) a f → IsCovered code base a m ⊎ ((n : ℕ) × (f : FullOutcome) × EndsIn code base n a f)
+pub covered_at : (code : List Instr) (base m : ℕ) (a : Moment) (f : FullOutcome) → Result code base (suc m) a f → IsCovered code base a m ⊎ ((n : ℕ) × (f : FullOutcome) × EndsIn code base n a f)
 covered_at code base m a f (inl h) = inr (h.steps, h.over.last, h.over.ends)
 covered_at code base m a f (inr r) = inl (record { steps = r.steps; later = r.later; inside = let d : suc m ≤ r.steps = r.far in omega (arith, d); leads = r.leads })
 
@@ -292,15 +298,16 @@ label_first g = first_label (slice_get g.labels 0) (and_parts (is_entry (slice_g
 setting_agrees : (g : Setting) → Agrees (ssu_params g.labels) (ssu_meaning g.labels) (view_in g)
 setting_agrees g =
     let label = label_first g in
+    let few = few_there g label.it label.there in
     agrees-where_same (ssu_params g.labels) (ssu_meaning g.labels) (view_in g) refl
-    (λ args p base start.
+    (λ args p base s.
     same_lands (ssu_meaning g.labels args p) (engine (view_in g) args base p)
-    (λ i. lands_at g base i args p (ssu_meaning g.labels args p i) (meaning_runs g base args p label.it label.there start i))
+    (λ i. lands_at g base i (start args base) p (ssu_meaning g.labels args p i) (meaning_runs g base args p (start args base) label.it label.there s (start_entry (ssu_params g.labels) base args p few s) i))
     (engine-grows (view_in g) args base p))
-    (λ args p base start. seen_follows p (ssu_meaning g.labels args p) (meaning-follows g.labels args p))
-    (λ args p base start m.
-    covered-keeps (code_in g) base (at_start args base p) m
-    (covered_at (code_in g) base m (at_start args base p) (ssu_meaning g.labels args p (suc m)) (meaning_runs g base args p label.it label.there start (suc m))))
+    (λ args p base s. seen_follows p (ssu_meaning g.labels args p) (meaning-follows g.labels args p))
+    (λ args p base s m.
+    (covered-keeps (code_in g) base (at_start (start args base) p) m
+    (covered_at (code_in g) base m (at_start (start args base) p) (ssu_meaning g.labels args p (suc m)) (meaning_runs g base args p (start args base) label.it label.there s (start_entry (ssu_params g.labels) base args p few s) (suc m)))).0)
 
 -- the code of a form under a placement that fits it does what the form says
 pub emitted_agrees : (labels : List Label) (p : Plan) (mss : Sequences) → MachineLayer → ReadyLayer labels p → Placed labels p → AreSequences (parallel_moves p labels) mss

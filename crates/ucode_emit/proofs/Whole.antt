@@ -6,6 +6,7 @@ use Rattle.uc_isa.specs.Code.{CodeView}
 use Rattle.uc_isa.specs.Lawful.{IsLawful}
 use Rattle.uc_isa.specs.Moves.{moves}
 use Rattle.uc_isa_executions.specs.Entries.{IsVisited}
+use Rattle.uc_isa_executions.specs.Entry.{AssumesNoMore}
 use Rattle.uc_isa_executions.specs.Starts.{AreStarts}
 use Rattle.ssu_ir.specs.Tree.{Label}
 use Rattle.ssu_ir.specs.Entered.{entered}
@@ -26,6 +27,7 @@ use Rattle.ucode_emit.specs.inner.Drafted.{AreDrafted}
 use Rattle.ucode_emit.proofs.CostWeighted.{code_weighted}
 use Rattle.ucode_emit.proofs.CostWhole.{code_light}
 use Rattle.ucode_emit.proofs.Agreeing.{code_agrees}
+use Rattle.ucode_emit.proofs.Entering.{code_assumes}
 use Rattle.ucode_emit.proofs.Layer.{ready_layer}
 use Rattle.ucode_emit.proofs.LawfulItems.{spills_by_base}
 use Rattle.ucode_emit.proofs.LawfulCode.{items_good, code_some, code_lawful}
@@ -77,6 +79,9 @@ pub agreeing_code : (labels : List Label) (p : Plan) (c : CodeView) (begins : Li
 agreeing_code labels p c begins h e n =
     subst (λ l. Agrees (ssu_params labels) (ssu_meaning labels) (record { params = c.params; list = l })) (sym e.code_)
     (subst (λ m. Agrees (ssu_params labels) (ssu_meaning labels) (record { params = m; list = map (instr_of (starts labels p e.mss)) (items labels p e.mss) })) (sym n) (code_agrees labels p e.mss h e.sequences))
+
+pub assuming_code : (labels : List Label) (p : Plan) (list : List Instr) (begins : List ℕ) → Placed labels p → AreEmitted labels p list begins → AssumesNoMore (ssu_params labels) (ssu_meaning labels) p.slots list
+assuming_code labels p list begins h e = subst (AssumesNoMore (ssu_params labels) (ssu_meaning labels) p.slots) (sym e.code_) (code_assumes labels p e.mss h e.sequences)
 
 pub starts_code : (labels : List Label) (p : Plan) (list : List Instr) (begins : List ℕ) → Placed labels p → AreEmitted labels p list begins → AreStarts (length labels) list begins
 starts_code labels p list begins h e =

@@ -4,6 +4,7 @@ ghost use Rattle.uc_isa.specs.Agrees.{Agrees};
 ghost use Rattle.uc_isa.specs.Lawful.{IsLawful};
 ghost use Rattle.uc_isa.specs.Moves.{moves};
 ghost use Rattle.uc_isa_executions.specs.Entries.{IsVisited};
+ghost use Rattle.uc_isa_executions.specs.Entry.{AssumesNoMore};
 ghost use Rattle.uc_isa_executions.specs.Starts.{AreStarts};
 ghost use Rattle.ssu_ir.specs.Entered.{entered};
 ghost use Rattle.ssu_ir.specs.Measures as measures;
@@ -73,6 +74,8 @@ pub fn emit(alloc: Global, s: &Ssu, p: &Placement) -> Result<Emitted, NoMemory>
     // Without its moves, the code is what the nodes of the form do, in order.
     ensures operations { IfOk result (λ e. code_operations e.code.list ≡ form_operations (labels_view s.now)) }
     ensures agrees { IfOk result (λ e. Agrees (ssu_params (labels_view s.now)) (ssu_meaning (labels_view s.now)) e.code) }
+    // From any engine that holds the arguments and the spill base it does so too, and of scratch from 512 on it reaches its slots alone.
+    ensures assumes { IfOk result (λ e. AssumesNoMore (ssu_params (labels_view s.now)) (ssu_meaning (labels_view s.now)) (plan_view p.now).slots e.code.list) }
     ensures light { IfOk result (λ e. moves e.code.list [] [] ≤ cost (labels_view s.now) (plan_view p.now)) }
     // The same where labels have weights.
     ensures weighted { IfOk result (λ e. (ws : List ℕ) → moves e.code.list e.starts.items ws ≤ weighted_cost (labels_view s.now) ws (plan_view p.now)) }

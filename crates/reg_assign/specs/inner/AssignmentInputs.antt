@@ -3,7 +3,7 @@ use Rattle.std.specs.Prelude.{List}
 use Rattle.ssu_ir.specs.Tree.{Label}
 use Rattle.bank_prog.specs.Meaning.{Chosen}
 use Rattle.reg_assign.specs.declared.given.AssignmentInputs.{AssignmentInputs}
-use Rattle.reg_assign_reading.specs.inner.ReadOff.{Numbers}
+use Rattle.reg_assign_reading.specs.ReadOff.{Numbers}
 use Rattle.reg_assign_reading.specs.inner.Reading.{labels_of, says, numbers_of}
 
 abbrev pub labels_in : AssignmentInputs → List Label

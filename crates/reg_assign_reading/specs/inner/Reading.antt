@@ -1,15 +1,14 @@
 -- How the code keeps what a placement is read off from: a vector by the names of its columns, and the numbers of homes.
-use Rattle.std.specs.Prelude.{◌≡◌, ℕ, nat_eq, if◌then◌else◌, List, [], ◌∷◌, map, Option, Some, None, unwrap_or}
+use Rattle.std.specs.Prelude.{ℕ, nat_eq, if◌then◌else◌, List, [], ◌∷◌, Option, Some, None, unwrap_or}
 use Rattle.std.specs.HashMap.{get}
 use Rattle.ssu_ir.specs.Tree.{Label}
 use Rattle.ssu_ir.specs.View.{labels_view}
 use Rattle.place_plan.specs.declared.place.Place.{Place}
 use Rattle.place_plan.specs.declared.place.Place.TheVariants as place
 use Rattle.place_plan.specs.declared.place.Pass.{Pass}
-use Rattle.place_plan.specs.declared.place.Placement.{Placement}
 use Rattle.place_plan.specs.inner.Parts.{in_byte}
 use Rattle.place_plan.specs.Fits.{wants_home}
-use Rattle.place_plan.specs.Plan.{Home, home_view, plan_view}
+use Rattle.place_plan.specs.Plan.{Home}
 use Rattle.place_plan.specs.Uses.{Value, Use}
 use Rattle.zo_model.specs.Program.{vector}
 use Rattle.bank_prog_form.specs.declared.column.Bank.TheVariants.{A, B, M, T, L, A15, W}
@@ -21,7 +20,7 @@ use Rattle.reg_assign_reading.specs.declared.columns.Family.{Family}
 use Rattle.reg_assign_reading.specs.declared.columns.Family.TheVariants as family
 use Rattle.reg_assign_reading.specs.declared.reading.Reading.{Reading}
 use Rattle.reg_assign_reading.specs.declared.numbers.BankNumbers.{BankNumbers}
-use Rattle.reg_assign_reading.specs.inner.ReadOff.{Numbers, goes_early, word_place, value_home, AreRead, read_off, pass_by, pass_l, pass_s}
+use Rattle.reg_assign_reading.specs.ReadOff.{Numbers, goes_early, word_place, value_home, pass_by, pass_l, pass_s}
 
 -- ---- columns
 
@@ -79,10 +78,3 @@ preferred_home labels on numbers v = if wants_home labels v then value_home labe
 -- the pass of a point
 abbrev pub part_pass : Chosen → Part → List Pass
 part_pass on p = pass_by p.point (pass_l on p.point) (pass_s on p.point)
-
--- ---- the whole
-
--- the placement is the one that is read off, with these homes
-pub record IsReadOff (labels : List Label) (slots : ℕ) (on : Chosen) (numbers : Numbers) (p : Placement) : Type 0 where
-  pub homes : AreRead labels on numbers (map home_view p.homes.items)
-  pub same : plan_view p ≡ read_off labels slots on numbers (map home_view p.homes.items)

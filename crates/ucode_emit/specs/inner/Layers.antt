@@ -16,9 +16,10 @@ use Rattle.uc_isa.specs.declared.instruction.Dst.TheVariants as dst
 use Rattle.uc_isa.specs.declared.instruction.Cond.TheVariants.{Always}
 use Rattle.uc_isa.specs.Registers.{failing}
 use Rattle.uc_isa.specs.Straight.{Stands as InCode}
-use Rattle.uc_isa.specs.Engine.{start}
 use Rattle.uc_isa.specs.Agrees.{IsStart}
 use Rattle.uc_isa.specs.Pieces.{Moment}
+use Rattle.uc_isa.specs.declared.engine.Engine.{Engine}
+use Rattle.uc_isa_executions.specs.Entry.{IsEntry}
 use Rattle.ssu_ir.specs.Tree.{Lit, Una, Bin, Clone, Read, Write, Jump, Halt, Tree, Do, If, End, Label, Ends}
 use Rattle.ssu_ir.specs.Points.{Names, own, names_after, Point, points, tree_points, nodes, point}
 use Rattle.ssu_ir.specs.Single.{single}
@@ -41,8 +42,8 @@ IsAddress (B k) = k < 15
 IsAddress _ = ⊥
 
 -- where a run begins
-abbrev pub at_start : List ℕ → ℕ → Memories → Moment
-at_start args base p = record { engine = start args base; packet = p; writes = [] }
+abbrev pub at_start : Engine → Memories → Moment
+at_start e p = record { engine = e; packet = p; writes = [] }
 
 pub record MachineLayer : Type 0 where
   pub moves : (code : List Instr) (base at slots : ℕ) (ms : List Move) (e : Words) (w : World) (m : Moment)
@@ -80,8 +81,8 @@ pub record MachineLayer : Type 0 where
   pub halt : (code : List Instr) (base at k : ℕ) (ws : List ℕ) (e : Words) (w : World) (m : Moment)
       → length ws ≤ 8 → InCode code at (instr.Halt k (length ws) ∷ []) → Stands base at e w m
       → ((i v : ℕ) → slice_get ws i ≡ Some v → e (A i) ≡ v) → Over code base 1 m (over (ended k ws) w)
-  pub starts : (params base : ℕ) (args : List ℕ) (p : Memories) → params ≤ 8 → IsStart params args p base
-      → Stands base 0 (word_at base (at_start args base p)) (begun p) (at_start args base p) × Begun args (word_at base (at_start args base p))
+  pub starts : (params base : ℕ) (args : List ℕ) (p : Memories) (e : Engine) → params ≤ 8 → IsStart params args p base → IsEntry args base e
+      → Stands base 0 (word_at base (at_start e p)) (begun p) (at_start e p) × Begun args (word_at base (at_start e p))
 
 -- ---- what has to stand where
 

@@ -4,7 +4,9 @@ use Rattle.ssu_ir.specs.Entered.{entered}
 use Rattle.ssu_ir.specs.Meaning.{ssu_meaning, ssu_params}
 use Rattle.ssu_ir.specs.View.{labels_view}
 use Rattle.uc_isa.specs.declared.instruction.Instr.{Instr}
+use Rattle.uc_isa_executions.specs.Entry.{AssumesNoMore}
 use Rattle.uc_isa_executions.proofs.EntryLemmas.{visited-along}
+use Rattle.uc_isa_executions.proofs.Following.{assumes-there}
 use Rattle.uc_peep.proofs.Peeps.{kept-trans}
 use Rattle.uc_peep.proofs.Without.{without-trans}
 use Rattle.uc_peep.specs.Rewrites.{IsWithout}
@@ -33,9 +35,13 @@ returns-clause-code c =
     let old = c.in_ok-emitted.emitted.code in
     let new = c.in_ok-peeped.peeped.code in
     let without = without-thrice old.list c.in_ok-first.first.code.list c.in_ok-once.once.code.list new.list c.in_ok-first.ensures.without c.in_ok-once.ensures.without c.in_ok-peeped.ensures.without in
+    let two = kept-trans old.list c.in_ok-first.first.code.list c.in_ok-once.once.code.list c.in_ok-emitted.emitted.starts.items c.in_ok-first.first.starts.items c.in_ok-once.once.starts.items c.in_ok-first.ensures.kept c.in_ok-once.ensures.kept in
+    let kept = kept-trans old.list c.in_ok-once.once.code.list new.list c.in_ok-emitted.emitted.starts.items c.in_ok-once.once.starts.items c.in_ok-peeped.peeped.starts.items two c.in_ok-peeped.ensures.kept in
     record {
       lawful = c.in_ok-peeped.ensures.lawful;
       agrees = (c.in_ok-peeped.ensures.agrees (ssu_params labels) (ssu_meaning labels)).0 ((c.in_ok-once.ensures.agrees (ssu_params labels) (ssu_meaning labels)).0 ((c.in_ok-first.ensures.agrees (ssu_params labels) (ssu_meaning labels)).0 c.in_ok-emitted.ensures.agrees));
+      entry = assumes-there (ssu_params labels) (ssu_meaning labels) c.args.slots old.list new.list c.in_ok-emitted.emitted.starts.items c.in_ok-peeped.peeped.starts.items kept.follows
+          (subst (λ n. AssumesNoMore (ssu_params labels) (ssu_meaning labels) n old.list) c.in_ok-placement.ensures.slots_are c.in_ok-emitted.ensures.assumes);
       spills = spills-left c.args.slots old.list new.list without (subst (λ n. SpillsByBase n old.list) c.in_ok-placement.ensures.slots_are c.in_ok-emitted.ensures.spills);
       does = subst (λ os. LeavesOut os (code_operations new.list)) c.in_ok-emitted.ensures.operations (operations-left old.list new.list without);
     }

@@ -6,7 +6,7 @@ use Rattle.place_plan.specs.declared.uses.Use.{Use}
 use Rattle.place_plan.specs.inner.UseViews.{use_view}
 use Rattle.bank_prog_form.specs.declared.form.PointSummary.{PointSummary}
 use Rattle.bank_prog_form.specs.inner.Form.{value_view, access_view, summary_view}
-use Rattle.reg_assign_reading.specs.inner.ReadOff.{access_first, use_serve}
+use Rattle.reg_assign_reading.specs.ReadOff.{access_first, use_serve}
 use Rattle.reg_assign.specs.inner.AssignmentInputs.{labels_in, says_in, numbers_in}
 use Rattle.reg_assign_reading.specs.inner.Reading.{preferred_home, part_pass}
 use Rattle.reg_assign.proofs.Placed.{is-read-off}

@@ -2,7 +2,7 @@ use Rattle.std.proofs.Common.{List, ◌++◌, ap, map, ◌∙◌}
 use Rattle.place_plan.specs.declared.place.Place.{Place}
 use Rattle.place_plan.specs.inner.UseViews.{use_view}
 use Rattle.bank_prog_form.specs.declared.column.Bank.TheVariants.{A}
-use Rattle.reg_assign_reading.specs.inner.ReadOff.{fill_at}
+use Rattle.reg_assign_reading.specs.ReadOff.{fill_at}
 use Rattle.reg_assign.specs.inner.AssignmentInputs.{labels_in, says_in, numbers_in}
 use Rattle.reg_assign.proofs.Placed.{copies-made}
 use Rattle.reg_assign.proofs.homes.copies_of.Goals as goal

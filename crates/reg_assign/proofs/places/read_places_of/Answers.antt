@@ -1,7 +1,7 @@
 use Rattle.std.proofs.Common.{◌≡◌, ap, map, nat_eq, None, arith, rules}
 use Rattle.std.specs.HashMap.{get}
 use Rattle.bank_prog_form.specs.inner.Form.{value_view}
-use Rattle.reg_assign_reading.specs.inner.ReadOff.{place_in}
+use Rattle.reg_assign_reading.specs.ReadOff.{place_in}
 use Rattle.reg_assign_reading.specs.inner.Reading.{says}
 use Rattle.reg_assign.proofs.Placed.{place_then, places-more, places-all}
 use Rattle.reg_assign.proofs.places.read_places_of.Goals as goal

@@ -1,6 +1,6 @@
 use Rattle.std.proofs.Common.{◌≡◌, ◌++◌, map, drop}
 use Rattle.bank_prog_form.specs.inner.Form.{access_view}
-use Rattle.reg_assign_reading.specs.inner.ReadOff.{access_first}
+use Rattle.reg_assign_reading.specs.ReadOff.{access_first}
 use Rattle.reg_assign_reading.specs.inner.Reading.{says}
 use Rattle.reg_assign.proofs.serves.firsts_of.Given as goal
 

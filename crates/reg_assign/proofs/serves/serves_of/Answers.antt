@@ -1,5 +1,5 @@
 use Rattle.std.proofs.Common.{map, arith}
-use Rattle.reg_assign_reading.specs.inner.ReadOff.{use_serve}
+use Rattle.reg_assign_reading.specs.ReadOff.{use_serve}
 use Rattle.reg_assign.specs.inner.AssignmentInputs.{labels_in, says_in, numbers_in}
 use Rattle.reg_assign.proofs.Placed.{map-more, map-all}
 use Rattle.reg_assign.proofs.serves.serves_of.Goals as goal

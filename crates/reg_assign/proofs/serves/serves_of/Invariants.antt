@@ -1,5 +1,5 @@
 use Rattle.std.proofs.Common.{◌≡◌, ◌++◌, map, drop}
-use Rattle.reg_assign_reading.specs.inner.ReadOff.{use_serve}
+use Rattle.reg_assign_reading.specs.ReadOff.{use_serve}
 use Rattle.reg_assign.specs.inner.AssignmentInputs.{labels_in, says_in, numbers_in}
 use Rattle.reg_assign.proofs.serves.serves_of.Given as goal
 use Rattle.place_plan.specs.inner.UseViews.{use_view}

@@ -1,7 +1,7 @@
 use Rattle.std.proofs.Common.{◌∙◌, ◌++◌, ◌∷◌, [], ap, map, filter, arith}
 use Rattle.std.proofs.lemmas.List.{map-append}
 use Rattle.ssu_liveness.specs.LiveRows.{Kept, items_of}
-use Rattle.reg_assign_reading.specs.inner.ReadOff.{has_home}
+use Rattle.reg_assign_reading.specs.ReadOff.{has_home}
 use Rattle.reg_assign_reading.specs.inner.Reading.{says}
 use Rattle.reg_assign_reading.proofs.RowsKept.{rows-more, rows-all}
 use Rattle.reg_assign_numbers.proofs.homes.all_homes_in.Goals as goal

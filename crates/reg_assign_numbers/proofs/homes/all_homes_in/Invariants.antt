@@ -1,6 +1,6 @@
 use Rattle.std.proofs.Common.{◌≡◌, ◌++◌, map, drop, filter}
 use Rattle.ssu_liveness.specs.LiveRows.{items_of}
-use Rattle.reg_assign_reading.specs.inner.ReadOff.{has_home}
+use Rattle.reg_assign_reading.specs.ReadOff.{has_home}
 use Rattle.reg_assign_reading.specs.inner.Reading.{says}
 use Rattle.reg_assign_numbers.proofs.homes.all_homes_in.Given as goal
 

@@ -6,7 +6,7 @@ use Rattle.std.proofs.lemmas.Option.{IfSome_then}
 use Rattle.std.proofs.lemmas.Result.{IfOk-weaker}
 use Rattle.ssu_ir.specs.Points.{points}
 use Rattle.ssu_liveness.specs.LiveRows.{IsRowOf, HaveNumbers, items_of}
-use Rattle.reg_assign_reading.specs.inner.ReadOff.{has_home}
+use Rattle.reg_assign_reading.specs.ReadOff.{has_home}
 use Rattle.reg_assign_reading.specs.inner.Reading.{says, labels_of}
 use Rattle.reg_assign_numbers.specs.Rows.{HasNumbers}
 use Rattle.reg_assign_numbers.proofs.Wished.{all-numbers, home_rows, rows-in}

@@ -1,7 +1,7 @@
 use Rattle.std.proofs.Common.{◌<◌, ℕ, length, arith}
 use Rattle.std.proofs.lemmas.List.{append-nil}
 use Rattle.std.proofs.lemmas.List.Elements.{filter_more}
-use Rattle.reg_assign_reading.specs.inner.ReadOff.{has_home}
+use Rattle.reg_assign_reading.specs.ReadOff.{has_home}
 use Rattle.reg_assign_reading.specs.inner.Reading.{says}
 use Rattle.reg_assign_numbers.proofs.homes.homes_in.Goals as goal
 

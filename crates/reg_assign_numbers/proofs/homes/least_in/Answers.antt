@@ -10,7 +10,7 @@ use Rattle.ssu_liveness.specs.LiveRows.{Kept, IsRowOf, HaveNumbers, items_of}
 use Rattle.ssu_liveness.specs.inner.Numbers.{values_among, groups, AreNumbered}
 use Rattle.ssu_liveness.specs.inner.PointIds.{kind_of_point}
 use Rattle.ssu_liveness.proofs.Covering.{once-at-points, kept-numbers}
-use Rattle.reg_assign_reading.specs.inner.ReadOff.{has_home}
+use Rattle.reg_assign_reading.specs.ReadOff.{has_home}
 use Rattle.reg_assign_reading.specs.inner.Reading.{says, labels_of}
 use Rattle.reg_assign_reading.proofs.Numbered.{rows-short}
 use Rattle.reg_assign_numbers.proofs.Wished.{home_rows, rows-in, zip-length}

@@ -4,7 +4,7 @@ use Rattle.std.specs.HashMap.{get}
 use Rattle.std.proofs.lemmas.Result.{IfOk-weaker}
 use Rattle.ssu_ir.specs.Points.{Point, points}
 use Rattle.ssu_liveness.specs.LiveRows.{HaveNumbers}
-use Rattle.reg_assign_reading.specs.inner.ReadOff.{has_home}
+use Rattle.reg_assign_reading.specs.ReadOff.{has_home}
 use Rattle.reg_assign_reading.specs.inner.Reading.{says, labels_of}
 use Rattle.reg_assign_numbers.proofs.homes.registers_in.Goals as goal
 

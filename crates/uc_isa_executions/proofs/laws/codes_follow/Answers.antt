@@ -1,4 +1,4 @@
-use Rattle.uc_isa_executions.proofs.Following.{follows-refl, follows-trans, agrees-there, agrees-back}
+use Rattle.uc_isa_executions.proofs.Following.{follows-refl, follows-trans, agrees-there, agrees-back, assumes-there}
 use Rattle.uc_isa_executions.proofs.EntryLemmas.{visited-along}
 use Rattle.uc_isa_executions.proofs.laws.codes_follow.Goals as goal
 
@@ -13,3 +13,6 @@ returns-clause-agrees c = λ params source code code' starts starts' few count f
 
 pub returns-clause-visited : goal.returns-clause-visited
 returns-clause-visited c = visited-along
+
+pub returns-clause-assumes : goal.returns-clause-assumes
+returns-clause-assumes c = assumes-there

@@ -2,9 +2,10 @@ use Rattle.std.proofs.Common.{◌≡◌, ◌≤◌, [], length, sym, ◌∙◌, 
 use Rattle.uc_isa.specs.Lawful.{IsLawful}
 use Rattle.uc_isa.specs.Moves.{moves}
 use Rattle.uc_isa_executions.specs.Entries.{IsVisited}
+use Rattle.uc_isa_executions.specs.Entry.{AssumesNoMore}
 use Rattle.uc_isa_executions.specs.Starts.{AreStarts}
 use Rattle.ssu_ir.specs.Entered.{entered}
-use Rattle.ssu_ir.specs.Meaning.{ssu_params}
+use Rattle.ssu_ir.specs.Meaning.{ssu_meaning, ssu_params}
 use Rattle.ssu_ir.specs.Measures.{code_bound}
 use Rattle.ssu_ir.specs.View.{labels_view}
 use Rattle.place_plan.specs.Weighted.{weighted_cost}
@@ -13,7 +14,7 @@ use Rattle.place_plan.specs.Plan.{plan_view}
 use Rattle.ucode_emit.specs.Operations.{code_operations, form_operations}
 use Rattle.ucode_emit.specs.SpillBase.{SpillsByBase}
 use Rattle.ucode_emit.specs.Emits.{AreEmitted}
-use Rattle.ucode_emit.proofs.Whole.{some_code, few_code, short_code, light_code, lawful_code, based_code, doing_code, agreeing_code, starts_code, visited_code, weighted_code, placed}
+use Rattle.ucode_emit.proofs.Whole.{some_code, few_code, short_code, light_code, lawful_code, based_code, doing_code, agreeing_code, assuming_code, starts_code, visited_code, weighted_code, placed}
 use Rattle.ucode_emit.proofs.code.emit.Goals as goal
 
 pub new-requires-clause-some : goal.new-requires-clause-some
@@ -43,6 +44,12 @@ returns-clause-operations c =
 pub returns-clause-agrees : goal.returns-clause-agrees
 returns-clause-agrees c =
     agreeing_code (labels_view c.args.s.now) (plan_view c.args.p.now) c.new.result c.in_ok-list.starts.items (placed c.requires.single c.requires.fits) (subst (λ l. AreEmitted (labels_view c.args.s.now) (plan_view c.args.p.now) l c.in_ok-list.starts.items) (sym c.new.ensures.list) c.in_ok-list.ensures) (c.new.ensures.params ∙ c.params_of.ensures.params)
+
+pub returns-clause-assumes : goal.returns-clause-assumes
+returns-clause-assumes c =
+    let labels = labels_view c.args.s.now in
+    let p = plan_view c.args.p.now in
+    subst (AssumesNoMore (ssu_params labels) (ssu_meaning labels) p.slots) (sym c.new.ensures.list) (assuming_code labels p c.in_ok-list.list.items c.in_ok-list.starts.items (placed c.requires.single c.requires.fits) c.in_ok-list.ensures)
 
 pub returns-clause-short : goal.returns-clause-short
 returns-clause-short c =

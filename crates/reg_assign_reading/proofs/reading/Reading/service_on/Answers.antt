@@ -1,5 +1,5 @@
 use Rattle.std.proofs.Common.{sym, ◌∙◌, arith}
-use Rattle.reg_assign_reading.specs.inner.ReadOff.{service_on}
+use Rattle.reg_assign_reading.specs.ReadOff.{service_on}
 use Rattle.reg_assign_reading.specs.inner.Reading.{says}
 use Rattle.reg_assign_reading.proofs.Readings.{service-more, service-here, service-none}
 use Rattle.reg_assign_reading.proofs.reading.Reading.service_on.Goals as goal

@@ -1,5 +1,5 @@
 use Rattle.std.proofs.Common.{◌≡◌, drop}
-use Rattle.reg_assign_reading.specs.inner.ReadOff.{service_on}
+use Rattle.reg_assign_reading.specs.ReadOff.{service_on}
 use Rattle.reg_assign_reading.specs.inner.Reading.{says}
 use Rattle.reg_assign_reading.proofs.reading.Reading.service_on.Given as goal
 use Rattle.place_plan.specs.inner.UseViews.{use_view}

@@ -9,7 +9,8 @@ use Rattle.place_plan.specs.declared.place.Place.TheVariants as place
 use Rattle.place_plan.specs.declared.place.First.{First as KeptFirst}
 use Rattle.place_plan.specs.declared.place.Serve.{Serve}
 use Rattle.place_plan.specs.declared.place.Pass.{Pass}
-use Rattle.place_plan.specs.Plan.{Home, Plan, home_in}
+use Rattle.place_plan.specs.declared.place.Placement.{Placement}
+use Rattle.place_plan.specs.Plan.{Home, Plan, home_in, home_view, plan_view}
 use Rattle.place_plan.specs.Uses.{Access, accesses, ValueOrigin, Parameter, Result, Fetched, Value, values, Role, Operand, Address, Written, Argument, Ending, Use, uses, uses_of, is_used}
 use Rattle.place_plan.specs.Fits.{read_place, write_place, parameter, wants_home, Rises}
 use Rattle.bank_prog_form.specs.declared.column.Bank.{Bank}
@@ -209,3 +210,10 @@ IsBelow labels slots on numbers h v = is_held labels v ≡ true → has_home on 
 pub record AreNumbered (labels : List Label) (slots : ℕ) (on : Chosen) (numbers : Numbers) : Type 0 where
   pub apart : All (λ q. All (AreApart on numbers q.before) homes) (points labels)
   pub below : All (λ h. All (IsBelow labels slots on numbers h) (values labels)) homes
+
+-- ---- the whole
+
+-- the placement is the one that is read off, with these homes
+pub record IsReadOff (labels : List Label) (slots : ℕ) (on : Chosen) (numbers : Numbers) (p : Placement) : Type 0 where
+  pub homes : AreRead labels on numbers (map home_view p.homes.items)
+  pub same : plan_view p ≡ read_off labels slots on numbers (map home_view p.homes.items)
