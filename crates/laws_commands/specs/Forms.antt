@@ -17,7 +17,7 @@ use Rattle.novac_words.specs.declared.status.Status.{Status}
 use Rattle.novac_words.specs.declared.status.Status.TheVariants.{Done}
 use Rattle.nova_back.specs.LeftOut.{LeavesOut}
 use Rattle.nova_compile.specs.Forms.{banks_bound, form_bound, HasLargeBanks, HasSmallBanks, IsCodeFor, IsFormOf}
-use Rattle.novac_commands.specs.Headline.{IsCompilable, IsEndOf}
+use Rattle.novac_commands.specs.Compiling.{IsCompilable, IsEndOf}
 use Rattle.nova_compile.specs.Programs.{HasTyped}
 use Rattle.nv_outside.specs.Holding.{Holding}
 

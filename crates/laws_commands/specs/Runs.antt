@@ -10,7 +10,7 @@ use Rattle.novac_words.specs.declared.status.Status.TheVariants.{Raised, StepsSp
 use Rattle.novac_commands.specs.Entries.{CountsMake}
 use Rattle.novac_commands.specs.Executing.{IsExecuted}
 use Rattle.novac_commands.specs.Generating.{generated_text, GenRefuses, IsGenerated, IsSmallMade}
-use Rattle.novac_commands.specs.Headline.{IsCompiledTo}
+use Rattle.novac_commands.specs.Compiling.{IsCompiledTo}
 
 -- Where `run` ends on the object of a compilation, `exec` ends on its source with some number of calls, and the other way. Both end with the same
 -- status on one memory text, and unless it is that of an exception, whose name `run` prints too, with the same text.

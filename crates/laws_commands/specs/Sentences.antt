@@ -28,7 +28,7 @@ use Rattle.zo_cert.specs.declared.report.Verdict.TheVariants.{Optimal}
 use Rattle.zo_model.specs.Contents.{contents}
 use Rattle.zo_model.specs.Program.{cost_of, vector, Feasible}
 use Rattle.bank_prog.specs.Weighted.{weighted_program}
-use Rattle.novac_commands.specs.Headline.{IsCompiled}
+use Rattle.novac_commands.specs.Compiling.{IsCompiled}
 use Rattle.novac_commands.specs.Weighing.{HasWeights}
 
 -- the source is the text of a program, and the object is that of lawful code that does what the program does

@@ -5,7 +5,7 @@ use Rattle.novac_words.specs.Command.{Command, Compile, Run, Exec, Asm, Dis, Lin
 use Rattle.novac_words.specs.declared.status.Status.{Status}
 use Rattle.novac_words.specs.declared.status.Status.TheVariants.{Done, Infeasible, BudgetSpent}
 use Rattle.novac_commands.specs.Answers.{Makes}
-use Rattle.novac_commands.specs.Headline.{CompileMakes}
+use Rattle.novac_commands.specs.Compiling.{CompileMakes}
 use Rattle.novac_machine.specs.Saving.{File, saves_of}
 
 -- the saves of these files are some of these

@@ -10,7 +10,7 @@ use Rattle.nova_back.specs.Causes.{report_cost}
 use Rattle.novac_commands.specs.Checking.{IsReportOf}
 use Rattle.nova_compile.specs.Naming.{source_exceptions}
 use Rattle.nova_compile.proofs.Objects.{built-parts, with_exceptions}
-use Rattle.novac_commands.specs.Headline.{CompiledMakes, WithoutMakes, CompileMakes}
+use Rattle.novac_commands.specs.Compiling.{CompiledMakes, WithoutMakes, CompileMakes}
 use Rattle.novac_words.specs.Limits.{store_limit}
 use Rattle.novac_words.specs.Lines.{compiled_text, infeasible_text, spent_text}
 use Rattle.novac_machine.specs.Saving.{File, file}

@@ -17,7 +17,7 @@ use Rattle.novac_words.specs.declared.status.Status.TheVariants as status
 use Rattle.novac_commands.specs.Answers.{CanEnd}
 use Rattle.nova_compile.specs.Forms.{form_bound, banks_bound, HasSmallBanks, HasLargeBanks}
 use Rattle.novac_commands.specs.Generating.{IsSmallMade, GenRefuses}
-use Rattle.novac_commands.specs.Headline.{IsUnfit, IsEndOf, IsCompilable}
+use Rattle.novac_commands.specs.Compiling.{IsUnfit, IsEndOf, IsCompilable}
 
 -- ---- how a compilation can't end
 

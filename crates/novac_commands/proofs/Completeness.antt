@@ -7,7 +7,7 @@ use Rattle.novac_words.specs.declared.status.Status.{Status}
 use Rattle.novac_words.specs.declared.status.Status.TheVariants as status
 use Rattle.novac_commands.specs.Answers.{CanMake, CanEnd, IsFree}
 use Rattle.novac_commands.specs.Generating.{IsSmallMade, EndsGenerated}
-use Rattle.novac_commands.specs.Headline.{IfNamed, IsCompilable, IsUndisturbed}
+use Rattle.novac_commands.specs.Compiling.{IfNamed, IsCompilable, IsUndisturbed}
 use Rattle.novac_commands.specs.Weighing.{AreWeighed}
 use Rattle.novac_commands.specs.Loading.{Input, input, AreRead, StopsAt, inputs_of}
 use Rattle.novac_words.specs.Inputs.{weights_input}

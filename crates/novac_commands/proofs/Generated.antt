@@ -25,7 +25,7 @@ use Rattle.nv_generate.proofs.Programs.{each_has_program}
 use Rattle.nova_compile.specs.Forms.{IsCodeFor}
 use Rattle.nova_back.specs.Causes.{report_cost}
 use Rattle.novac_commands.specs.Generating.{GenRefuses, IsGenerated, MeansWord, generated_text}
-use Rattle.novac_commands.specs.Headline.{CompileRefuses, IsUnfit}
+use Rattle.novac_commands.specs.Compiling.{CompileRefuses, IsUnfit}
 use Rattle.novac_words.specs.Limits.{slots_limit, budget_default, store_limit}
 use Rattle.novac_words.specs.Lines.{IsUncaused}
 use Rattle.novac_machine.specs.Machine.{spill_base}

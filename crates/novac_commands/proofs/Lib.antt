@@ -1,4 +1,5 @@
 pub mod Printing
+pub mod Promised
 pub mod Completeness
 pub mod Ending
 pub mod Errors

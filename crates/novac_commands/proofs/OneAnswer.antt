@@ -33,7 +33,7 @@ use Rattle.novac_machine.specs.Assembly.{AsmRefuses, IsListed}
 use Rattle.novac_words.specs.Command.{Command, Compile, Run, Exec, Asm, Dis, Lint, Check, Gen, Contexts, Peep, Trace, Counts}
 use Rattle.novac_commands.specs.Executing.{ExecRefuses, IsExecuted}
 use Rattle.nova_compile.specs.Forms.{form_bound}
-use Rattle.novac_commands.specs.Headline.{CompileMakes, IsUnfit, IsEndOf}
+use Rattle.novac_commands.specs.Compiling.{CompileMakes, IsUnfit, IsEndOf}
 use Rattle.novac_commands.specs.Weighing.{AreWeighed, WeightsRefuse, TextsRefuse}
 use Rattle.place_weights_text.proofs.Exact.{bad_answer}
 use Rattle.place_weights_text.specs.declared.read.WeightsError.TheVariants.{Bad}

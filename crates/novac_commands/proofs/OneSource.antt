@@ -11,7 +11,7 @@ use Rattle.nova_front.specs.declared.error.FrontError.TheVariants as front
 use Rattle.nova_front.proofs.OneSource.{cause-one, cause-none}
 use Rattle.zo_cert.specs.declared.report.Report.{Report}
 use Rattle.zo_cert.specs.declared.report.Verdict.TheVariants as verdict
-use Rattle.novac_commands.specs.Headline.{CompileRefuses}
+use Rattle.novac_commands.specs.Compiling.{CompileRefuses}
 use Rattle.novac_words.specs.Lines.{IsUncaused}
 use Rattle.novac_commands.specs.Reading.{SourceRefuses}
 use Rattle.nova_compile.specs.Building.{IsCompileCause}

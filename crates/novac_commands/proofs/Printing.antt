@@ -7,7 +7,7 @@ use Rattle.novac_commands.specs.Answers.{Makes, CanMake, CanEnd, Refuses, Shows,
 use Rattle.novac_words.specs.Command.{Command, Compile, Run, Exec, Asm, Dis, Lint, Check, Gen, Contexts, Peep, Trace, Counts, IfCommand, IfCompile, IfGen, ForCommand, SomeFile, outputs_of}
 use Rattle.novac_commands.specs.Generating.{IsGenerated, GenRefuses, EndsGenerated}
 use Rattle.zo_cert.specs.declared.report.Verdict.{Verdict}
-use Rattle.novac_commands.specs.Headline.{IsCompiled, IfWithout, IsReported}
+use Rattle.novac_commands.specs.Compiling.{IsCompiled, IfWithout, IsReported}
 use Rattle.novac_words.specs.Lines.{IsUncaused, refusal_status, refusal_text, cannot_read, cannot_write}
 use Rattle.novac_commands.specs.Loading.{AreRead, StopsAt, IsUnread, inputs_of}
 use Rattle.novac_machine.specs.Saving.{File, IsSameBut}

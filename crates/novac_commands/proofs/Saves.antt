@@ -6,7 +6,7 @@ use Rattle.novac_commands.specs.Answers.{Makes, Refuses, IsCaused, IsDone, IsSto
 use Rattle.novac_words.specs.Command.{Command, Compile, Run, Exec, Asm, Dis, Lint, Check, Gen, Contexts, Peep, Trace, Counts, SomeFile, outputs_of}
 use Rattle.zo_cert.specs.declared.report.Verdict.{Verdict}
 use Rattle.zo_cert.specs.declared.report.Verdict.TheVariants as verdict
-use Rattle.novac_commands.specs.Headline.{CompiledMakes, WithoutMakes, CompileMakes, IsCompiled, IfWithout, IsReported}
+use Rattle.novac_commands.specs.Compiling.{CompiledMakes, WithoutMakes, CompileMakes, IsCompiled, IfWithout, IsReported}
 use Rattle.novac_words.specs.Limits.{source_limit}
 use Rattle.novac_words.specs.Lines.{IsUncaused, cannot_write}
 use Rattle.novac_commands.specs.Loading.{input, IsRead, AreRead, StopsAt, IsUnread, inputs_of}

@@ -4,7 +4,7 @@ use Rattle.novac_words.specs.Lines.{IsUncaused}
 use Rattle.novac_words.specs.declared.refusal.Refusal.{Refusal}
 use Rattle.novac_machine.specs.declared.save.Made.{Made}
 use Rattle.novac_machine.specs.inner.Files.{files_of}
-use Rattle.novac_commands.specs.Headline.{CompileMakes, CompileRefuses, WeighedMakes, WeighedRefuses}
+use Rattle.novac_commands.specs.Compiling.{CompileMakes, CompileRefuses, WeighedMakes, WeighedRefuses}
 use Rattle.novac_commands.specs.Weighing.{AreWeighed}
 
 pub weighed-made : (text : List ℕ) (given : List (List ℕ)) (object report : List ℕ) (slots : ℕ) (ws : List ℕ) (budget store : ℕ) (r : Result Made Refusal) → AreWeighed given ws

@@ -7,7 +7,7 @@ use Rattle.novac_commands.specs.Checking.{CheckRefuses, IsChecked}
 use Rattle.novac_commands.specs.Entries.{CountsMake}
 use Rattle.novac_commands.specs.Executing.{ExecRefuses, IsExecuted, HasJob}
 use Rattle.novac_commands.specs.Generating.{IsGenerated, GenRefuses}
-use Rattle.novac_commands.specs.Headline.{WeighedMakes, WeighedRefuses, IsEndOf}
+use Rattle.novac_commands.specs.Compiling.{WeighedMakes, WeighedRefuses, IsEndOf}
 use Rattle.novac_words.specs.Lines.{IsUncaused, refusal_status, refusal_text, cannot_write}
 use Rattle.novac_commands.specs.Weighing.{AreWeighed, TextsRefuse}
 use Rattle.novac_commands.specs.Loading.{AreRead, StopsAt, IsUnread, inputs_of}

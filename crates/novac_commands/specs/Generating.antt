@@ -12,7 +12,7 @@ use Rattle.zo_cert.specs.declared.report.Report.{Report}
 use Rattle.zo_cert.specs.declared.report.Verdict.{Verdict}
 use Rattle.nova_back.specs.Causes.{report_cost}
 use Rattle.nova_compile.specs.Forms.{form_bound, banks_bound, IsCodeFor, HasBanks}
-use Rattle.novac_commands.specs.Headline.{IsUnfit}
+use Rattle.novac_commands.specs.Compiling.{IsUnfit}
 use Rattle.novac_words.specs.Limits.{slots_limit, budget_default, store_limit}
 use Rattle.novac_words.specs.Lines.{verdict_name, refusal_status, refusal_text}
 use Rattle.nova_compile.specs.Programs.{HasTyped}

@@ -2,6 +2,7 @@ pub mod Exits
 pub mod Loading
 pub mod Calling
 pub mod Reading
+pub mod Compiling
 pub mod Headline
 pub mod Executing
 pub mod Entries

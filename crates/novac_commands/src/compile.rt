@@ -5,7 +5,7 @@ ghost use Rattle.zo_cert.specs.Report.{IsValidReport};
 ghost use Rattle.zo_cert.specs.ReportText.{report_text};
 ghost use Rattle.novac_commands.specs.Checking.{IsReportOf};
 ghost use Rattle.nova_back.specs.Causes.{report_cost};
-ghost use Rattle.novac_commands.specs.Headline.{CompileMakes, CompileRefuses, WeighedMakes, WeighedRefuses};
+ghost use Rattle.novac_commands.specs.Compiling.{CompileMakes, CompileRefuses, WeighedMakes, WeighedRefuses};
 ghost use Rattle.novac_commands.specs.Weighing.{IsWeighedBy, TextsRefuse};
 ghost use Rattle.novac_words.specs.Limits.{source_limit};
 ghost use Rattle.novac_words.specs.Lines.{IsUncaused, compiled_text};

@@ -5,7 +5,7 @@ ghost use Rattle.zo_cert.specs.Report.{IsValidReport};
 ghost use Rattle.nova_back.specs.Causes.{report_cost};
 ghost use Rattle.nova_compile.specs.Forms.{IsCodeFor};
 ghost use Rattle.novac_commands.specs.Generating.{MeansWord, IsGenerated, GenRefuses, generated_text};
-ghost use Rattle.novac_commands.specs.Headline.{CompileRefuses};
+ghost use Rattle.novac_commands.specs.Compiling.{CompileRefuses};
 ghost use Rattle.novac_words.specs.Limits.{source_limit, slots_limit, budget_default, store_limit};
 ghost use Rattle.novac_words.specs.Lines.{IsUncaused};
 ghost use Rattle.novac_words.specs.declared.status.Status.{Status};

@@ -15,7 +15,8 @@ ghost use Rattle.novac_commands.specs.Answers.{Shows, CanMake, CanEnd, IsRefusab
 ghost use Rattle.novac_commands.specs.Calling.{calls_of};
 ghost use Rattle.novac_commands.specs.Exits.{words_given, Exits};
 ghost use Rattle.novac_commands.specs.Generating.{EndsGenerated, IsSmallMade};
-ghost use Rattle.novac_commands.specs.Headline.{IsCompiled, IfWithout, IsReported, IsCompilable, IsUndisturbed};
+ghost use Rattle.novac_commands.specs.Headline.{KeepsItsPromise};
+ghost use Rattle.novac_commands.specs.Compiling.{IsCompiled, IfWithout, IsReported, IsCompilable, IsUndisturbed};
 ghost use Rattle.novac_commands.specs.Loading.{AreRead, inputs_of, StopsAt};
 ghost use Rattle.novac_commands.specs.Tracing.{HoldAgreeing};
 
@@ -37,6 +38,7 @@ pub fn exit_code<F: Files, K: Sink>(
     out: &mut K,
 ) -> ExitCode
     // Each clause of `run`, of the words after the program's name, with the status whose number the program ends with.
+    ensures headline { Exits result (λ s. F.tells → s ≡ Status.Done → IfCompile (command_of (words_given given)) (λ source object report slots budget store weights. KeepsItsPromise (F.held files.old) (F.held files.new) source object report slots budget store weights)) }
     ensures compiled { Exits result (λ s. F.tells → s ≡ Status.Done → IfCompile (command_of (words_given given)) (λ source object report slots budget store weights. (line : List ℕ) × IsCompiled (F.held files.old) (F.held files.new) source object report slots budget store weights line × (K.tells → K.written out.new ≡ K.written out.old ++ line))) }
     ensures without { Exits result (λ s. F.tells → IfWithout s (λ verdict. IfCompile (command_of (words_given given)) (λ source object report slots budget store weights. IsReported (F.held files.old) (F.held files.new) source report slots budget weights verdict))) }
     ensures generated { Exits result (λ s. IfGen (command_of (words_given given)) (λ seed size. EndsGenerated seed size s K.tells (K.written out.old) (K.written out.new))) }

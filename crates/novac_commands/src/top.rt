@@ -9,7 +9,8 @@ ghost use Rattle.novac_commands.specs.Answers.{Shows, Ends, IsCaused, IsDone, Is
 ghost use Rattle.novac_words.specs.Command.{command_of, texts_of, outputs_of, SomeFile, IfCommand, IfCompile, IfGen, ForCommand, IfTrace};
 ghost use Rattle.novac_commands.specs.Generating.{EndsGenerated, IsSmallMade};
 ghost use Rattle.novac_words.specs.inner.Words.{command_as, HasLimits};
-ghost use Rattle.novac_commands.specs.Headline.{IsCompiled, IfWithout, IsReported, IsCompilable, IsUndisturbed};
+ghost use Rattle.novac_commands.specs.Headline.{KeepsItsPromise};
+ghost use Rattle.novac_commands.specs.Compiling.{IsCompiled, IfWithout, IsReported, IsCompilable, IsUndisturbed};
 ghost use Rattle.novac_words.specs.Lines.{IsUncaused, usage_text, cannot_read, cannot_write, refusal_status, refusal_text};
 ghost use Rattle.novac_commands.specs.Loading.{AreRead, inputs_of, StopsAt};
 ghost use Rattle.novac_machine.specs.Saving.{IsSameBut};
@@ -55,8 +56,13 @@ pub fn run<F: Files, K: Sink>(
     out: &mut K,
 ) -> Status
     // The headline: the object that `compile` saved is that of lawful code that does what the source says, with the names of its
-    // exceptions and the starts of labels, and its report is true. Where that says optimal, no vector that meets the rows of its
-    // 0-1 program costs less. By those starts and the weights of the labels the code's moves cost no more than the report says.
+    // exceptions, and its report is true. Where that says optimal, no vector that meets the rows of its 0-1 program costs less. By
+    // the labels' starts and weights the code's moves cost no more than the report says.
+    ensures headline { F.tells → result ≡ Status.Done → IfCompile (command_of (texts_of words.now)) (λ source object report slots budget store weights. KeepsItsPromise (F.held files.old) (F.held files.new) source object report slots budget store weights) }
+
+    // What is said besides: the program is typed and keeps its limits, its form and its code keep their bounds, the labels start where
+    // they are entered, no instruction is needless, the search was made in order, no placement costs less than an optimal report; and
+    // the line that was printed.
     ensures compiled { F.tells → result ≡ Status.Done → IfCompile (command_of (texts_of words.now)) (λ source object report slots budget store weights. (line : List ℕ) × IsCompiled (F.held files.old) (F.held files.new) source object report slots budget store weights line × (K.tells → K.written out.new ≡ K.written out.old ++ line)) }
 
     // Where no banks are found, the report alone is saved. It is true, and says that none meet the rows, or that the budget was

@@ -1,6 +1,6 @@
 use Rattle.std.proofs.Common.{ℕ, List, ◌⊎◌, IfOk, IfErr, subst}
 use Rattle.novac_words.specs.Lines.{IsUncaused}
-use Rattle.novac_commands.specs.Headline.{CompileRefuses}
+use Rattle.novac_commands.specs.Compiling.{CompileRefuses}
 use Rattle.novac_commands.specs.inner.CompileOutcome.{IsCompileOutcome}
 use Rattle.novac_commands.proofs.compile.outcome_evenly.Goals as goal
 

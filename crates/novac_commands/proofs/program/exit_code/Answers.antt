@@ -12,6 +12,9 @@ use Rattle.novac_commands.proofs.Printing.{all-same, memory-generated, memory-pr
 use Rattle.novac_commands.proofs.program.exit_code.Goals as goal
 
 -- the words are those of the command line
+pub returns-in-Ok-clause-headline : goal.returns-in-Ok-clause-headline
+returns-in-Ok-clause-headline g c = (c.run.result, c.from.ensures ∙ c.code.ensures, λ t done. rw (sym c.in-Ok.ensures.words) (c.run.ensures.headline t done))
+
 pub returns-in-Ok-clause-compiled : goal.returns-in-Ok-clause-compiled
 returns-in-Ok-clause-compiled g c = (c.run.result, c.from.ensures ∙ c.code.ensures, λ t done. rw (sym c.in-Ok.ensures.words) (c.run.ensures.compiled t done))
 
@@ -85,6 +88,9 @@ pub returns-in-Ok-clause-memory : goal.returns-in-Ok-clause-memory
 returns-in-Ok-clause-memory g c = IfErr-weaker c.args.given _ _ (λ e h. λ kind. absurd (false≢true (h.0 kind))) c.in-Ok.ensures.memory
 
 -- there was no memory for them
+pub returns-in-Err-clause-headline : goal.returns-in-Err-clause-headline
+returns-in-Err-clause-headline g c = (status.NoMemory, c.from-in-Err.ensures ∙ c.code-in-Err.ensures, λ t is. let e : status.NoMemory ≡ status.Done = is in absurd cc)
+
 pub returns-in-Err-clause-compiled : goal.returns-in-Err-clause-compiled
 returns-in-Err-clause-compiled g c = (status.NoMemory, c.from-in-Err.ensures ∙ c.code-in-Err.ensures, λ t is. let e : status.NoMemory ≡ status.Done = is in absurd cc)
 

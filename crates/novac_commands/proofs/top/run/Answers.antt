@@ -6,8 +6,15 @@ use Rattle.novac_words.specs.Lines.{usage_text, cannot_read, cannot_write}
 use Rattle.novac_commands.proofs.Completeness.{complete, made-complete, memory-complete, memory-made}
 use Rattle.novac_commands.proofs.Printing.{compiled, reported, generated, memory-generated, printed, begun, only-refused, only-shown, only-made, read-fault, write-fault, unchanged, elsewhere, all-same, memory-printed}
 use Rattle.novac_commands.proofs.Agreed.{agreed}
+use Rattle.novac_commands.proofs.Promised.{headline}
 use Rattle.novac_words.proofs.Names.{words-apart}
 use Rattle.novac_commands.proofs.top.run.Goals as goal
+
+pub returns-in-Ok-clause-headline : goal.returns-in-Ok-clause-headline
+returns-in-Ok-clause-headline g c = λ t done.
+    headline (g.F.Files.held c.args.files.now) (g.F.Files.held c.reply.new.files) (λ (line : List ℕ). g.K.Sink.tells → g.K.Sink.written c.print.new.out ≡ g.K.Sink.written c.args.out.now ++ line) (command_of (texts_of c.args.words.now))
+    (compiled g.F.Files.tells (g.F.Files.held c.args.files.now) (g.F.Files.held c.reply.new.files) (λ (q : List ℕ). Rose (g.F.Files.load_faults c.args.files.now q) (g.F.Files.load_faults c.reply.new.files q)) (λ (q : List ℕ). Rose (g.F.Files.save_faults c.args.files.now q) (g.F.Files.save_faults c.reply.new.files q))
+    c.in-Ok.reply.status c.print.result c.in-Ok.reply.text.items (g.K.Sink.written c.args.out.now) (g.K.Sink.written c.print.new.out) g.K.Sink.tells _ t c.print.ensures.printed (command_of (texts_of c.args.words.now)) (words-apart (texts_of c.args.words.now)) c.in-Ok.ensures.ended done)
 
 pub returns-in-Ok-clause-compiled : goal.returns-in-Ok-clause-compiled
 returns-in-Ok-clause-compiled g c = λ t.
