@@ -1,4 +1,6 @@
 //! What a command answers.
+ghost use Rattle.std.specs.Prelude.{◌≡◌};
+ghost use Rattle.nova_show.specs.Endings.{ending_number};
 
 use diag_text::finding::{Finding, Form, Severity, Source};
 use nv_lines::Message;
@@ -17,7 +19,9 @@ pub enum Ending {
 
 impl Ending {
     /// The number that the program ends with.
-    pub fn code(self) -> u8 {
+    pub fn code(self) -> u8
+        ensures { result ≡ ending_number self }
+    {
         match self {
             Ending::Done => 0,
             Ending::Failed => 1,
@@ -39,7 +43,9 @@ pub struct Answer {
 
 impl Answer {
     /// Nothing yet.
-    pub fn new(alloc: Global) -> Answer {
+    pub fn new(alloc: Global) -> Answer
+        ensures { result.ending ≡ Ending.Done }
+    {
         Answer {
             ending: Ending::Done,
             out: Message::new(alloc),
@@ -55,26 +61,34 @@ impl Answer {
     }
 
     /// Appends a fault of a file.
-    pub fn push(&mut self, name: &str, finding: Finding) {
+    pub fn push(&mut self, name: &str, finding: Finding)
+        ensures { self.new.ending ≡ Ending.Failed }
+    {
         self.push_in(Source { name, bytes: b"" }, finding)
     }
 
     /// Appends a fault that has a place in the bytes of a file.
-    pub fn push_in(&mut self, source: Source, finding: Finding) {
+    pub fn push_in(&mut self, source: Source, finding: Finding)
+        ensures { self.new.ending ≡ Ending.Failed }
+    {
         self.ending = Ending::Failed;
         finding.push(self.alloc, &mut self.err, self.form, source);
         drop(finding)
     }
 
     /// Appends a fault of a file, of one sentence.
-    pub fn fault(&mut self, name: &str, text: &str) {
+    pub fn fault(&mut self, name: &str, text: &str)
+        ensures { self.new.ending ≡ Ending.Failed }
+    {
         let mut it = self.finding();
         it.title.put(text);
         self.push(name, it)
     }
 
     /// Appends a fault of a line of a file.
-    pub fn line_fault(&mut self, name: &str, line: u32, text: &str) {
+    pub fn line_fault(&mut self, name: &str, line: u32, text: &str)
+        ensures { self.new.ending ≡ Ending.Failed }
+    {
         if !self.form.is_text() {
             return self.line_object(name, line, text);
         }
@@ -86,7 +100,9 @@ impl Answer {
         self.err.line(text)
     }
 
-    fn line_object(&mut self, name: &str, line: u32, text: &str) {
+    fn line_object(&mut self, name: &str, line: u32, text: &str)
+        ensures { self.new.ending ≡ Ending.Failed }
+    {
         let mut it = self.finding();
         it.title.put("line ");
         it.title.number(u64::from(line));
@@ -96,12 +112,16 @@ impl Answer {
     }
 
     /// How the call ended, and what it prints.
-    pub fn into_parts(self) -> (Ending, Message, Message) {
+    pub fn into_parts(self) -> (Ending, Message, Message)
+        ensures { result.0 ≡ self.ending }
+    {
         (self.ending, self.out, self.err)
     }
 
-    /// Memory ran out.
-    pub fn fail(&mut self) {
+    /// Memory ran out, which is told where the texts are printed.
+    pub fn fail(&mut self)
+        ensures { self.new.ending ≡ self.old.ending }
+    {
         self.err.fail()
     }
 }

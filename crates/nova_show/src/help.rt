@@ -3,8 +3,8 @@
 use nova_words::Verb;
 use nv_lines::Message;
 
-/// The version of the program.
-pub const VERSION: &str = "nova 1.0";
+/// The version of the program, and the toolchain by which its proofs were checked (`rt version`).
+pub const VERSION: &str = "nova 1.0\nproved with rattle-kit-13f logic dac8208d650f15bf";
 
 /// Appends the commands, each in a line.
 pub fn push_usage(out: &mut Message) {
