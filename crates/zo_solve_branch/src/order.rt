@@ -39,7 +39,13 @@ fn free_or_least(column: Option<u32>, fixed: &[Option<bool>]) -> u32
 impl Order {
     /// The rounds of a program.
     pub fn new(alloc: Global, z: &ZeroOne) -> Result<Order, NoMemory> {
-        let tree = Tree::new(alloc, z)?;
+        Order::within(alloc, z, u64::MAX)
+    }
+
+    /// Rounds that end at the latest when they visited so many columns, rows and terms.
+    pub fn within(alloc: Global, z: &ZeroOne, work: u64) -> Result<Order, NoMemory> {
+        let mut tree = Tree::new(alloc, z)?;
+        tree.rounds.cap(work);
         Ok(Order {
             tree: RefCell::new(tree),
             alloc,

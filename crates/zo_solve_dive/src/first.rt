@@ -275,10 +275,10 @@ fn take_some(z: &ZeroOne, best: &mut Best, x: Option<Assignment>) -> bool
     }
 }
 
-/// The first run of rounds; what it shows that every vector costs.
+/// The first run of rounds; what it shows that every vector costs. Half of the work that is allowed is left for dives.
 fn run_first(best: &Best, rounds: &mut Rounds) -> i64 {
     rounds.set_tolerance(FIRST_TOLERANCE);
-    rounds.limit_to(FIRST_WORK);
+    rounds.limit_to(FIRST_WORK.min(rounds.left() / 2));
     let need = needed(rounds, &best.claim);
     rounds.run_long(need, FIRST);
     rounds.keep();

@@ -48,9 +48,10 @@ pub struct Rounds {
     tolerance: i64,
     pub(crate) bound: i128,
     has_prices: bool,
-    // how many columns, rows and terms were visited, and at how many the rounds end
+    // how many columns, rows and terms were visited, at how many the rounds end, and at how many they end at the latest
     work: u64,
     limit: u64,
+    most: u64,
 }
 
 /// `a / b`, or 0 where there is no such number.
@@ -272,6 +273,7 @@ fn assembled(
         has_prices: true,
         work: 0,
         limit: u64::MAX,
+        most: u64::MAX,
     }
 }
 
@@ -301,7 +303,13 @@ impl Rounds {
 
     /// The rounds end when so many more were visited.
     pub fn limit_to(&mut self, work: u64) {
-        self.limit = self.work.saturating_add(work);
+        self.limit = self.work.saturating_add(work).min(self.most);
+    }
+
+    /// From now on they end at the latest when so many more were visited.
+    pub fn cap(&mut self, work: u64) {
+        self.most = self.work.saturating_add(work);
+        self.limit = self.limit.min(self.most);
     }
 
     /// How many may still be visited.
