@@ -12,9 +12,10 @@ _nova() {
     esac
     case $command:$word in
         build:-*) COMPREPLY=($(compgen -W "-o --report --slots --budget --store --weights --json --help" -- "$word")) ;;
-        run:-*) COMPREPLY=($(compgen -W "--steps --profile --counts --help" -- "$word")) ;;
-        page:-*) COMPREPLY=($(compgen -W "-o --steps --help" -- "$word")) ;;
-        test:-*) COMPREPLY=($(compgen -W "--steps --help" -- "$word")) ;;
+        run:-*) COMPREPLY=($(compgen -W "--steps --budget --profile --counts --help" -- "$word")) ;;
+        list:-*) COMPREPLY=($(compgen -W "--budget --help" -- "$word")) ;;
+        page:-*) COMPREPLY=($(compgen -W "-o --steps --budget --help" -- "$word")) ;;
+        test:-*) COMPREPLY=($(compgen -W "--steps --budget --help" -- "$word")) ;;
         fmt:-*) COMPREPLY=($(compgen -W "--check --help" -- "$word")) ;;
         check:-*) COMPREPLY=($(compgen -W "--verbose --json --help" -- "$word")) ;;
         *:-*) COMPREPLY=($(compgen -W "--help" -- "$word")) ;;

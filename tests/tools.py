@@ -465,11 +465,12 @@ COMPLETIONS = [
     ("nova b", "build"),
     ("nova build --s", "--slots --store"),
     ("nova build -", "--budget --help --json --report --slots --store --weights -o"),
-    ("nova run -", "--counts --help --profile --steps"),
+    ("nova run -", "--budget --counts --help --profile --steps"),
     ("nova check -", "--help --json --verbose"),
-    ("nova page -", "--help --steps -o"),
+    ("nova page -", "--budget --help --steps -o"),
     ("nova fmt -", "--check --help"),
-    ("nova test -", "--help --steps"),
+    ("nova list -", "--budget --help"),
+    ("nova test -", "--budget --help --steps"),
     ("nova help l", "list"),
 ]
 

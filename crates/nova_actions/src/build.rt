@@ -150,7 +150,7 @@ fn build_source(
     requires words { AreInLimits words }
     requires text { length source.now ≤ source_limit }
 {
-    if let Some(compiled) = compile(alloc, words, source, weights, savings, answer) {
+    if let Some(compiled) = compile(alloc, words, u64::MAX, source, weights, savings, answer) {
         save_both(alloc, words, object, source, compiled, savings, answer);
     }
 }

@@ -4,48 +4,101 @@ ghost use Rattle.nv_ast.specs.TypedView.{typed_program};
 ghost use Rattle.nv_text.specs.Limits.{source_limit};
 ghost use Rattle.nova_compile.specs.Naming.{source_exceptions};
 ghost use Rattle.nova_compile.specs.inner.Parts.{HasParts, HasValidReport};
-ghost use Rattle.nova_words.specs.Limits.{AreInLimits};
+ghost use Rattle.nova_words.specs.Limits.{AreInLimits, IsBudget};
 ghost use Rattle.uc_object.specs.Object.{IsTaggedObject};
 ghost use Rattle.zo_cert.specs.Report.{IsValidReport};
 
 use diag_source::Checked;
 use diag_text::finding::Code;
 use nova_back::Built;
-use nova_compile::{CompileError, Compiled, compile_text, no_weights, object_of};
+use nova_compile::{CompileError, Compiled, compile_text_within, no_weights, object_of};
 use nova_show::{Answer, Ending, Saving, add_saving};
 use nova_words::Build;
 use nv_base::NoMemory;
 use nv_text::MOST_BYTES;
 use place_weights::Weights;
 use std::alloc::Global;
-use zo_cert::{Report, print_report};
+use zo_cert::{Report, Verdict, print_report};
 
 // How a source is compiled that is only run or listed.
 const SLOTS: u32 = 128;
 
-const BUDGET: u32 = 2_000;
-
 const STORE: u32 = 1_048_576;
 
-/// The object of a source, compiled as `build` does it without options; where there is none, the answer says why.
+// In haste a search makes so many branches, and beside them it visits so many columns, rows and terms.
+const HASTY_BUDGET: u32 = 1;
+
+const HASTY_WORK: u64 = 20_000_000;
+
+/// The object of a source, by a search for banks of so many branches, or one in haste; where there is none, the answer says why.
 pub fn object_of_source(
     alloc: Global,
     name: &str,
+    budget: Option<u32>,
     bytes: &[u8],
     answer: &mut Answer,
-) -> Option<Vec<u8>> {
+) -> Option<Vec<u8>>
+    requires { IsBudget budget }
+{
     if bytes.len() > MOST_BYTES {
         push_refused(alloc, name, bytes, answer);
         return None;
     }
-    let ones = no_weights(alloc);
-    let mut none = Vec::new(alloc);
-    let compiled = compile(alloc, words_for(name), bytes, &ones, &mut none, answer)?;
+    let compiled = compile_within(alloc, name, budget, bytes, answer)?;
     object_in(alloc, bytes, compiled, answer)
 }
 
-/// The words of `build` without an option, but for the length of the code.
-pub fn words_for(name: &str) -> Build<'_>
+/// The code of a source that is run or looked at, by a search for banks of so many branches, or one in haste. It is told where that
+/// doesn't show that the choice is the cheapest.
+pub fn compile_within(
+    alloc: Global,
+    name: &str,
+    budget: Option<u32>,
+    bytes: &[u8],
+    answer: &mut Answer,
+) -> Option<Compiled>
+    requires budget { IsBudget budget }
+    requires text { length bytes.now ≤ source_limit }
+    ensures { IfSome result HasParts }
+{
+    let ones = no_weights(alloc);
+    let mut none = Vec::new(alloc);
+    let words = words_for(name, budget);
+    let work = work_for(budget);
+    let compiled = compile(alloc, words, work, bytes, &ones, &mut none, answer)?;
+    if compiled.built.report.verdict == Verdict::Feasible {
+        push_unproved(name, budget, answer);
+    }
+    Some(compiled)
+}
+
+// That a cheaper choice of banks may be there.
+fn push_unproved(name: &str, budget: Option<u32>, answer: &mut Answer) {
+    answer.err.put(name);
+    answer.err.put(": note: ");
+    match budget {
+        Some(branches) => {
+            answer
+                .err
+                .put("the search for banks made all its branches, ");
+            answer.err.number(u64::from(branches))
+        }
+        None => answer.err.put("compiled in haste"),
+    }
+    answer.err.line(": a cheaper choice of banks may be there (`--budget N` allows N branches)")
+}
+
+// A search of so many branches does all that it can beside them.
+fn work_for(budget: Option<u32>) -> u64 {
+    match budget {
+        Some(_) => u64::MAX,
+        None => HASTY_WORK,
+    }
+}
+
+// The words of `build` with this budget, and with room for code of any length.
+fn words_for(name: &str, budget: Option<u32>) -> Build<'_>
+    requires { IsBudget budget }
     ensures { AreInLimits result }
 {
     Build {
@@ -54,17 +107,21 @@ pub fn words_for(name: &str) -> Build<'_>
         report: None,
         weights: None,
         slots: SLOTS,
-        budget: BUDGET,
+        budget: match budget {
+            Some(branches) => branches,
+            None => HASTY_BUDGET,
+        },
         store: STORE,
         is_json: false,
     }
 }
 
-/// The code of a source and the report on its banks; where there is none, the answer says why, and the report that says so is
+/// The code of a source and the report on its banks, by a search that does so much beside its branches; where there is none, the answer says why, and the report that says so is
 /// saved if it is asked for.
 pub fn compile(
     alloc: Global,
     words: Build,
+    work: u64,
     bytes: &[u8],
     w: &Weights,
     savings: &mut Vec<Saving>,
@@ -74,7 +131,15 @@ pub fn compile(
     requires text { length bytes.now ≤ source_limit }
     ensures { IfSome result HasParts }
 {
-    match compile_text(alloc, bytes, words.slots, words.budget, words.store, w) {
+    match compile_text_within(
+        alloc,
+        bytes,
+        words.slots,
+        words.budget,
+        work,
+        words.store,
+        w,
+    ) {
         Ok(compiled) => Some(compiled),
         Err(error) => {
             push_error(alloc, words, bytes, error, savings, answer);

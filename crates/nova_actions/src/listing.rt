@@ -1,10 +1,11 @@
 //! The command `list`.
 ghost use Rattle.std.specs.Prelude.{◌≡◌};
+ghost use Rattle.nova_words.specs.Limits.{IsBudget};
 
-use crate::compiled::{compile, object_in, push_refused, words_for};
-use nova_compile::no_weights;
+use crate::compiled::{compile_within, object_in, push_refused};
 use nova_forms_print::{Page, print_single_use};
 use nova_show::{Answer, list_object, load};
+use nova_words::Listing;
 use novac_words::limits::OBJECT_LIMIT;
 use nv_outside::Files;
 use nv_text::MOST_BYTES;
@@ -12,27 +13,30 @@ use ssu_ir::{Ssu, single};
 use std::alloc::Global;
 
 /// Lists the code of an object, or of a source.
-pub fn list<F: Files>(alloc: Global, files: &mut F, name: &str, answer: &mut Answer)
-    ensures { F.held files.new ≡ F.held files.old }
+pub fn list<F: Files>(alloc: Global, files: &mut F, words: Listing, answer: &mut Answer)
+    requires budget { IsBudget words.budget }
+    ensures held { F.held files.new ≡ F.held files.old }
 {
+    let name = words.program;
     let Some(bytes) = load(alloc, files, name, OBJECT_LIMIT, answer) else {
         return;
     };
     if bytes.starts_with(b"NVO") {
         list_object(alloc, name, &bytes, b"", answer)
     } else {
-        list_source(alloc, name, &bytes, answer)
+        list_source(alloc, words, &bytes, answer)
     }
 }
 
 // With the lines of the single-use form above the instructions that come of them.
-fn list_source(alloc: Global, name: &str, bytes: &[u8], answer: &mut Answer) {
+fn list_source(alloc: Global, words: Listing, bytes: &[u8], answer: &mut Answer)
+    requires budget { IsBudget words.budget }
+{
+    let name = words.program;
     if bytes.len() > MOST_BYTES {
         return push_refused(alloc, name, bytes, answer);
     }
-    let ones = no_weights(alloc);
-    let mut none = Vec::new(alloc);
-    let Some(compiled) = compile(alloc, words_for(name), bytes, &ones, &mut none, answer) else {
+    let Some(compiled) = compile_within(alloc, name, words.budget, bytes, answer) else {
         return;
     };
     let form = form_of(alloc, &compiled.built.ssu, answer);

@@ -2,15 +2,16 @@
 ghost use Rattle.std.specs.Prelude.{◌≡◌, ◌≤◌, length};
 ghost use Rattle.novac_words.specs.Limits.{memory_limit, source_limit};
 ghost use Rattle.nova_compile.specs.inner.Parts.{HasParts};
+ghost use Rattle.nova_words.specs.Limits.{IsBudget};
 
 use crate::banks::push_banks;
 use crate::build::push_summary;
-use crate::compiled::{compile, object_in, words_for};
+use crate::compiled::{compile_within, object_in};
 use crate::listing::form_of;
 use crate::simulation::run_object;
 use crate::traces::push_trace;
 use diag_source::sizes::push_typed_sizes;
-use nova_compile::{Compiled, no_weights};
+use nova_compile::Compiled;
 use nova_page::{
     push_page_block, push_page_end, push_page_form, push_page_head, push_page_listing,
     push_page_part,
@@ -34,6 +35,7 @@ pub fn make_page<F: Files>(
     answer: &mut Answer,
 ) -> Vec<Saving>
     requires steps { words.now.steps ≤ 100000000 }
+    requires budget { IsBudget words.now.budget }
     ensures held { F.held files.new ≡ F.held files.old }
 {
     let mut savings = Vec::new(alloc);
@@ -72,6 +74,7 @@ fn page_as<F: Files>(
     answer: &mut Answer,
 )
     requires steps { words.now.steps ≤ 100000000 }
+    requires budget { IsBudget words.now.budget }
     ensures held { F.held files.new ≡ F.held files.old }
 {
     if !check_names(words, name, answer) {
@@ -140,12 +143,10 @@ fn page_on(
     answer: &mut Answer,
 )
     requires steps { words.now.steps ≤ 100000000 }
+    requires budget { IsBudget words.now.budget }
     requires source { length source.now ≤ source_limit }
 {
-    let ones = no_weights(alloc);
-    let mut none = Vec::new(alloc);
-    let options = words_for(words.source);
-    let Some(compiled) = compile(alloc, options, source, &ones, &mut none, answer) else {
+    let Some(compiled) = compile_within(alloc, words.source, words.budget, source, answer) else {
         return;
     };
     let mut page = Message::new(alloc);
@@ -268,6 +269,7 @@ fn push_runs(
             program: words.source,
             memory: *name,
             steps: words.steps,
+            budget: words.budget,
             has_profile: true,
             counts: None,
         };

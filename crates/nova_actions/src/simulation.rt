@@ -1,6 +1,7 @@
 //! The command `run`.
 ghost use Rattle.std.specs.Prelude.{◌≡◌, ◌≤◌, length};
 ghost use Rattle.novac_words.specs.Limits.{object_limit, memory_limit};
+ghost use Rattle.nova_words.specs.Limits.{IsBudget};
 
 use crate::compiled::object_of_source;
 use nova_show::{
@@ -24,6 +25,7 @@ pub fn simulate_program<F: Files>(
     answer: &mut Answer,
 ) -> Vec<Saving>
     requires steps { words.steps ≤ 100000000 }
+    requires budget { IsBudget words.budget }
     ensures held { F.held files.new ≡ F.held files.old }
 {
     let mut savings = Vec::new(alloc);
@@ -39,6 +41,7 @@ fn simulate_on<F: Files>(
     answer: &mut Answer,
 )
     requires steps { words.steps ≤ 100000000 }
+    requires budget { IsBudget words.budget }
     ensures held { F.held files.new ≡ F.held files.old }
 {
     if !check_names(words, answer) {
@@ -50,7 +53,7 @@ fn simulate_on<F: Files>(
     let Some(memory) = load_memory(alloc, files, words.memory, answer) else {
         return;
     };
-    if let Some(object) = object_for(alloc, words.program, program, answer) {
+    if let Some(object) = object_for(alloc, words, program, answer) {
         run_object(alloc, words, &object, &memory, savings, answer);
     }
 }
@@ -67,17 +70,14 @@ fn check_names(words: Run, answer: &mut Answer) -> bool {
     }
 }
 
-/// The bytes of an object, which these are or which is that of the source that they are.
-pub fn object_for(
-    alloc: Global,
-    name: &str,
-    bytes: Vec<u8>,
-    answer: &mut Answer,
-) -> Option<Vec<u8>> {
+// The bytes of an object, which these are or which is that of the source that they are.
+fn object_for(alloc: Global, words: Run, bytes: Vec<u8>, answer: &mut Answer) -> Option<Vec<u8>>
+    requires { IsBudget words.budget }
+{
     if bytes.starts_with(b"NVO") {
         Some(bytes)
     } else {
-        object_of_source(alloc, name, &bytes, answer)
+        object_of_source(alloc, words.program, words.budget, &bytes, answer)
     }
 }
 

@@ -1,6 +1,7 @@
 //! The command `test`.
 ghost use Rattle.std.specs.Prelude.{◌≡◌, ◌≤◌, length};
 ghost use Rattle.novac_words.specs.Limits.{memory_limit, object_limit, source_limit};
+ghost use Rattle.nova_words.specs.Limits.{IsBudget};
 
 use crate::compare::push_plain;
 use crate::compiled::{object_of_source, push_refused};
@@ -46,6 +47,7 @@ pub fn test<F: Files, D: Folders>(
     answer: &mut Answer,
 )
     requires steps { words.now.steps ≤ 100000000 }
+    requires budget { IsBudget words.now.budget }
     ensures held { F.held files.new ≡ F.held files.old }
 {
     let mut tally = Tally {
@@ -53,15 +55,7 @@ pub fn test<F: Files, D: Folders>(
         failed: 0,
     };
     for path in words.paths.iter() {
-        test_path(
-            alloc,
-            files,
-            folders,
-            *path,
-            words.steps,
-            &mut tally,
-            answer,
-        );
+        test_path(alloc, files, folders, *path, words, &mut tally, answer);
     }
     push_tally(tally, answer)
 }
@@ -89,21 +83,22 @@ fn test_path<F: Files, D: Folders>(
     files: &mut F,
     folders: &mut D,
     path: &str,
-    steps: u32,
+    words: &Test,
     tally: &mut Tally,
     answer: &mut Answer,
 )
-    requires steps { steps ≤ 100000000 }
+    requires steps { words.now.steps ≤ 100000000 }
+    requires budget { IsBudget words.now.budget }
     ensures held { F.held files.new ≡ F.held files.old }
 {
     if path.ends_with(".nova") {
         let (at, name) = split_path(path);
         if let Some(folder) = folder_at(alloc, folders, at, answer) {
-            test_source(alloc, files, &folder, name, steps, tally, answer);
+            test_source(alloc, files, &folder, name, words, tally, answer);
             drop(folder)
         }
     } else if let Some(folder) = folder_at(alloc, folders, path, answer) {
-        test_folder(alloc, files, &folder, steps, tally, answer);
+        test_folder(alloc, files, &folder, words, tally, answer);
         drop(folder)
     }
 }
@@ -112,16 +107,17 @@ fn test_folder<F: Files>(
     alloc: Global,
     files: &mut F,
     folder: &Folder,
-    steps: u32,
+    words: &Test,
     tally: &mut Tally,
     answer: &mut Answer,
 )
-    requires steps { steps ≤ 100000000 }
+    requires steps { words.now.steps ≤ 100000000 }
+    requires budget { IsBudget words.now.budget }
     ensures held { F.held files.new ≡ F.held files.old }
 {
     for name in folder.names.iter() {
         if name.as_str().ends_with(".nova") {
-            test_source(alloc, files, folder, name.as_str(), steps, tally, answer);
+            test_source(alloc, files, folder, name.as_str(), words, tally, answer);
         }
     }
 }
@@ -131,11 +127,12 @@ fn test_source<F: Files>(
     files: &mut F,
     folder: &Folder,
     name: &str,
-    steps: u32,
+    words: &Test,
     tally: &mut Tally,
     answer: &mut Answer,
 )
-    requires steps { steps ≤ 100000000 }
+    requires steps { words.now.steps ≤ 100000000 }
+    requires budget { IsBudget words.now.budget }
     ensures held { F.held files.new ≡ F.held files.old }
 {
     let Some(path) = folder.path_of(alloc, name, answer) else {
@@ -145,7 +142,7 @@ fn test_source<F: Files>(
     let Some(source) = load(alloc, files, path, SOURCE_LIMIT, answer) else {
         return tally.miss();
     };
-    let Some(object) = object_of_source(alloc, path, &source, answer) else {
+    let Some(object) = object_of_source(alloc, path, words.budget, &source, answer) else {
         return tally.miss();
     };
     let Some(typed) = typed_in(alloc, path, &source, answer) else {
@@ -155,7 +152,7 @@ fn test_source<F: Files>(
         path,
         typed: &typed,
         object: &object,
-        steps,
+        steps: words.steps,
     };
     if object.len() as u64 <= OBJECT_LIMIT {
         test_program(alloc, files, folder, program, name, tally, answer)

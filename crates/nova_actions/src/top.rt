@@ -78,7 +78,7 @@ fn perform<F: Files, D: Folders>(
             return savings;
         }
         Command::Format(words) => return format_sources(alloc, files, words, answer),
-        Command::List(name) => list(alloc, files, name, answer),
+        Command::List(words) => list(alloc, files, words, answer),
         Command::Forms(words) => print_forms(alloc, files, words, answer),
         Command::Check(words) => {
             check(alloc, files, &words, answer);

@@ -76,7 +76,6 @@ fn code_of(
 ///
 /// The size of the program is looked at first, then whether the search found a choice, and last how long the code is. A form that needs more
 /// memory than `MEMORY_BOUND` by `need_of` is refused as out of memory before its columns are made.
-#[tactic(auto, using(crate::proofs::Reported::light_by))]
 pub fn back(
     alloc: Global,
     s: Ssu,
@@ -108,8 +107,46 @@ pub fn back(
     ensures refused { IfErr result (λ e. (e ≡ BackError.NoMemory) ⊎ IsCause (labels_view s) slots w.now budget store e) }
     ensures only_large { (n : ℕ) → IsTooLarge (labels_view s) slots n → MatchResult result (λ _. ⊥) (λ e. (e ≡ BackError.NoMemory) ⊎ (e ≡ BackError.TooLarge n)) }
 {
+    back_within(alloc, s, slots, budget, u64::MAX, store, w)
+}
+
+/// The same by a search that visits at most about `work` columns, rows and terms of the program beside its branches. The less, the
+/// dearer may the choice be that it comes to.
+#[tactic(auto, using(crate::proofs::Reported::light_by))]
+pub fn back_within(
+    alloc: Global,
+    s: Ssu,
+    slots: u32,
+    budget: u32,
+    work: u64,
+    store: u32,
+    w: &Weights,
+) -> Result<Built, BackError>
+    requires single { single (labels_view s) ≡ true }
+    requires slots { slots ≤ 128 }
+    requires some { 1 ≤ budget }
+    requires budget { budget ≤ 1000000 }
+    ensures form { IfOk result (λ b. labels_view b.ssu ≡ labels_view s) }
+    ensures code { IfOk result (λ b. IsCodeOf (labels_view s) slots b.code) }
+    ensures starts { IfOk result (λ b. AreStartsOf (labels_view s) b.code b.starts.items) }
+    ensures short { IfOk result (λ b. length b.code.list ≤ store) }
+    ensures brief { IfOk result (λ b. length b.code.list ≤ code_bound (labels_view s)) }
+    ensures report { IfOk result (λ b. IsReportOn (labels_view s) slots w.now budget b.report) }
+    ensures found { IfOk result (λ b. HasVector b.report.verdict) }
+    // The code is what the form emits where its values stand as the report's vector has them, without some instructions.
+    ensures placed { IfOk result (λ b. IsPlacedBy (labels_view s) slots (vector b.report.x.on.items) b.code.list) }
+    // Under the weights the code's moves cost at most what the report's vector does.
+    ensures light { IfOk result (λ b. moves b.code.list b.starts.items w.now ≤ report_cost b.report) }
+    // Where all live values at once fit a bank, at most two copies a value and one a use, each times the greatest weight.
+    ensures cheap { peak (labels_view s) ≤ 15 → IfOk result (λ b. IsCheapFor (labels_view s) w.now (report_cost b.report)) }
+    ensures few { IfOk result (λ _. length (columns (labels_view s)) ≤ 2 ^ 26) }
+    ensures few_rows { IfOk result (λ _. length (rows (labels_view s) slots) ≤ 2 ^ 26) }
+    ensures bounded { MatchResult result (λ _. IsWithinBound (labels_view s)) (λ e. (e ≡ BackError.NoMemory) ⊎ IsWithinBound (labels_view s)) }
+    ensures refused { IfErr result (λ e. (e ≡ BackError.NoMemory) ⊎ IsCause (labels_view s) slots w.now budget store e) }
+    ensures only_large { (n : ℕ) → IsTooLarge (labels_view s) slots n → MatchResult result (λ _. ⊥) (λ e. (e ≡ BackError.NoMemory) ⊎ (e ≡ BackError.TooLarge n)) }
+{
     let bank = bounded_tables_of(alloc, &s)?;
-    let report = choice_of(alloc, &bank, slots, budget, w)?;
+    let report = choice_of(alloc, &bank, slots, budget, work, w)?;
     let emitted = code_of(alloc, &bank, slots, &report.x)?;
     let instructions = emitted.code.list().len();
     if instructions > store as usize {

@@ -22,6 +22,7 @@ fn report_on(
     bank: &BankTables<'_>,
     slots: u32,
     budget: u32,
+    work: u64,
     w: &Weights,
 ) -> Result<Report, BackError>
     requires single { single (labels_view bank.now.form.ssu.now) ≡ true }
@@ -35,7 +36,7 @@ fn report_on(
     let z = program_of(alloc, bank, slots, w)?;
     let start = start_of(alloc, bank, slots)?;
     let guess = by_next_use(alloc, bank)?;
-    match searched(alloc, z, start, guess, slots, budget) {
+    match searched(alloc, z, start, guess, slots, budget, work) {
         Ok(report) => Ok(report),
         Err(zo_model::NoMemory) => Err(BackError::NoMemory),
     }
@@ -64,6 +65,7 @@ pub fn choice_of(
     bank: &BankTables<'_>,
     slots: u32,
     budget: u32,
+    work: u64,
     w: &Weights,
 ) -> Result<Report, BackError>
     requires single { single (labels_view bank.now.form.ssu.now) ≡ true }
@@ -75,6 +77,6 @@ pub fn choice_of(
     ensures refused { IfErr result (IsUnfound (labels_view bank.now.form.ssu.now) slots w.now budget) }
     ensures only_large { (n : ℕ) → IsTooLarge (labels_view bank.now.form.ssu.now) slots n → MatchResult result (λ _. ⊥) (λ e. (e ≡ BackError.NoMemory) ⊎ (e ≡ BackError.TooLarge n)) }
 {
-    let report = report_on(alloc, bank, slots, budget, w)?;
+    let report = report_on(alloc, bank, slots, budget, work, w)?;
     with_vector(report)
 }

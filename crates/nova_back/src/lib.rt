@@ -9,6 +9,6 @@ mod paired;
 mod search;
 mod start;
 
-pub use built::{Built, back};
+pub use built::{Built, back, back_within};
 pub use error::BackError;
 pub use memory::{MEMORY_BOUND, Need, need_of};

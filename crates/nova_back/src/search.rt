@@ -49,6 +49,7 @@ fn better(z: &ZeroOne, start: Option<Assignment>, guess: Option<Assignment>) -> 
 }
 
 /// The report of a search of a program, begun with this vector or with the guess, where that is better, in at most `budget` branches.
+/// Its rounds end at the latest when they visited so many columns, rows and terms as `work` says.
 pub fn searched(
     alloc: Global,
     z: ZeroOne,
@@ -56,6 +57,7 @@ pub fn searched(
     guess: Option<Assignment>,
     slots: u32,
     budget: u32,
+    work: u64,
 ) -> Result<Report, NoMemory>
     requires valid { IsValid z }
     requires start { IfSome start (IsVector z) }
@@ -64,7 +66,7 @@ pub fn searched(
     requires budget { budget ≤ 1000000 }
     ensures { IfOk result (IsFound z start slots budget) }
 {
-    let order = Order::new(alloc, &z)?;
+    let order = Order::within(alloc, &z, work)?;
     let pick = Pick::new(
         |z: &ZeroOne, fixed: &Fixed| -> u32
             requires valid { IsValid z.now }

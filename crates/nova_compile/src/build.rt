@@ -14,7 +14,7 @@ ghost use Rattle.nova_front.specs.Sources.{IsTypedSource};
 ghost use Rattle.nova_compile.specs.Building.{IsCompileCause, IsFormCause, IsTextCause};
 ghost use Rattle.nova_compile.specs.Forms.{form_bound, IsCodeFor, IsBoundedFormOf, HasBanks};
 
-use nova_back::{BackError, Built, back};
+use nova_back::{BackError, Built, back_within};
 use nova_front::{FrontError, front};
 use nova_middle::middle;
 use nv_ast::{Span, Typed};
@@ -139,8 +139,46 @@ pub fn compile_text(
     ensures refused { IfErr result (λ e. (e ≡ CompileError.NoMemory) ⊎ IsCompileCause bytes.now slots w.now budget store e) }
     ensures only_refused { (f : CompileError) → IsTextCause bytes.now f → MatchResult result (λ _. ⊥) (λ e. (e ≡ CompileError.NoMemory) ⊎ (e ≡ f)) }
 {
+    compile_text_within(alloc, bytes, slots, budget, u64::MAX, store, w)
+}
+
+/// The same by a search that visits at most about `work` columns, rows and terms of the program beside its branches.
+pub fn compile_text_within(
+    alloc: Global,
+    bytes: &[u8],
+    slots: u32,
+    budget: u32,
+    work: u64,
+    store: u32,
+    w: &Weights,
+) -> Result<Compiled, CompileError>
+    requires text { length bytes.now ≤ source_limit }
+    requires slots { slots ≤ 128 }
+    requires some { 1 ≤ budget }
+    requires budget { budget ≤ 1000000 }
+    ensures program { IfOk result (λ t. IsTypedSource bytes.now (typed_program t.typed)) }
+    ensures form { IfOk result (λ t. IsBoundedFormOf (typed_program t.typed) (labels_view t.built.ssu)) }
+    ensures code { IfOk result (λ t. IsCodeFor (typed_program t.typed) t.built.code) }
+    ensures form_code { IfOk result (λ t. IsCodeOf (labels_view t.built.ssu) slots t.built.code) }
+    ensures short { IfOk result (λ t. length t.built.code.list ≤ store) }
+    ensures brief { IfOk result (λ t. length t.built.code.list ≤ form_bound (typed_program t.typed)) }
+    ensures starts { IfOk result (λ t. AreStartsOf (labels_view t.built.ssu) t.built.code t.built.starts.items) }
+    ensures report { IfOk result (λ t. IsReportOn (labels_view t.built.ssu) slots w.now budget t.built.report) }
+    ensures found { IfOk result (λ t. HasVector t.built.report.verdict) }
+    // The code is what the form emits where its values stand as the report's vector has them, without some instructions.
+    ensures placed { IfOk result (λ t. IsPlacedBy (labels_view t.built.ssu) slots (vector t.built.report.x.on.items) t.built.code.list) }
+    // Under the weights the code's moves cost at most what the report's vector does.
+    ensures light { IfOk result (λ t. moves t.built.code.list t.built.starts.items w.now ≤ report_cost t.built.report) }
+    // Where all live values at once fit a bank, at most two copies a value and one a use, each times the greatest weight.
+    ensures cheap { IfOk result (λ t. peak (labels_view t.built.ssu) ≤ 15 → IsCheapFor (labels_view t.built.ssu) w.now (report_cost t.built.report)) }
+    ensures banks { IfOk result (λ t. HasBanks (typed_program t.typed) slots w.now budget t.built.code t.built.starts.items t.built.report) }
+    ensures bounded { IfOk result (λ t. IsWithinBound (labels_view t.built.ssu)) }
+    ensures only_program { (p : ProgramTree) → IsTypedSource bytes.now p → MatchResult result (λ t. typed_program t.typed ≡ p) (λ e. (e ≡ CompileError.NoMemory) ⊎ IsFormCause p slots w.now budget store e) }
+    ensures refused { IfErr result (λ e. (e ≡ CompileError.NoMemory) ⊎ IsCompileCause bytes.now slots w.now budget store e) }
+    ensures only_refused { (f : CompileError) → IsTextCause bytes.now f → MatchResult result (λ _. ⊥) (λ e. (e ≡ CompileError.NoMemory) ⊎ (e ≡ f)) }
+{
     let (typed, flat) = front(alloc, bytes)?;
     let form = middle(alloc, &flat)?;
-    let built = back(alloc, form, slots, budget, store, w)?;
+    let built = back_within(alloc, form, slots, budget, work, store, w)?;
     Ok(Compiled { typed, built })
 }

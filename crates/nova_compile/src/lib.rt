@@ -6,6 +6,6 @@ mod build;
 mod naming;
 mod object;
 
-pub use build::{CompileError, Compiled, compile_text, no_weights};
+pub use build::{CompileError, Compiled, compile_text, compile_text_within, no_weights};
 pub use object::object_of;
 pub use place_weights::Weights;

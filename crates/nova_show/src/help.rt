@@ -85,13 +85,15 @@ const BUILD: [&str; 16] = [
     "These may be fewer, since needless ones are removed.",
 ];
 
-const RUN: [&str; 12] = [
-    "nova run OBJ-or-SRC MEM [--steps N] [--profile] [--counts FILE]",
+const RUN: [&str; 14] = [
+    "nova run OBJ-or-SRC MEM [--steps N] [--budget N] [--profile] [--counts FILE]",
     "",
-    "Runs the code of an object, or of a source compiled as `nova build SRC` does it, on the memories and arguments",
-    "of the memory text MEM. Prints the outcome, and on the standard error how many steps it took.",
+    "Runs the code of an object, or of a source that is compiled in haste, on the memories and arguments of the memory",
+    "text MEM. Prints the outcome, and on the standard error how many steps it took.",
     "",
     "  --steps N        how many steps it may take, 1 to 100000000; by default 1000000",
+    "  --budget N       of a source: the branches of the search for banks, 1 to 1000000; without it the search is cut short.",
+    "                   Where a cheaper choice of banks may be there, the standard error says so",
     "  --profile        prints on the standard error how many steps it took in each label, and how often it was entered",
     "  --counts FILE    saves how often each label was entered: `nova build --weights FILE` of the same source takes",
     "                   that into account",
@@ -100,12 +102,15 @@ const RUN: [&str; 12] = [
     "outside of a memory, or had not ended after all steps.",
 ];
 
-const LIST: [&str; 5] = [
-    "nova list OBJ-or-SRC",
+const LIST: [&str; 8] = [
+    "nova list OBJ-or-SRC [--budget N]",
     "",
-    "Lists the code of an object, or of a source compiled as `nova build SRC` does it: the index of each instruction,",
-    "the labels at their starts, and which instructions are moves, literals or accesses to slots. Of a source, each label",
-    "is followed by the lines of the single-use form that its instructions come from.",
+    "Lists the code of an object, or of a source that is compiled in haste: the index of each instruction, the labels at",
+    "their starts, and which instructions are moves, literals or accesses to slots. Of a source, each label is followed by",
+    "the lines of the single-use form that its instructions come from.",
+    "",
+    "  --budget N       of a source: the branches of the search for banks, 1 to 1000000; without it the search is cut short.",
+    "                   Where a cheaper choice of banks may be there, the standard error says so",
 ];
 
 const CHECK: [&str; 10] = [
@@ -121,8 +126,8 @@ const CHECK: [&str; 10] = [
     "The status is 1 where a source is refused. A warning doesn't change it.",
 ];
 
-const TEST: [&str; 14] = [
-    "nova test SRC-or-FOLDER .. [--steps N]",
+const TEST: [&str; 15] = [
+    "nova test SRC-or-FOLDER .. [--steps N] [--budget N]",
     "",
     "Runs each source NAME.nova on the memory texts NAME*.mem and NAME*.nmem in its folder, by the interpreter and by its",
     "compiled code. Both have to print the same outcome. Where a memory text X.mem or X.nmem has an outcome text X.out",
@@ -130,6 +135,7 @@ const TEST: [&str; 14] = [
     "",
     "  --steps N        how many steps the code, and how many calls the interpreter may take, 1 to 100000000; by default",
     "                   1000000",
+    "  --budget N       the branches of the search for banks, 1 to 1000000; without it the search is cut short",
     "",
     "Prints a line for each memory text, the first line that differs where one failed, and how many passed and failed.",
     "A memory text belongs to the source with the longest name that it begins with.",
@@ -138,17 +144,18 @@ const TEST: [&str; 14] = [
     "`novac exec SRC MEM steps=N` prints an outcome text.",
 ];
 
-const PAGE: [&str; 12] = [
-    "nova page SRC [MEM..] [-o FILE] [--steps N]",
+const PAGE: [&str; 13] = [
+    "nova page SRC [MEM..] [-o FILE] [--steps N] [--budget N]",
     "",
-    "Compiles the source SRC as `nova build` does it, and saves a page of HTML that needs no other file: the source, its sizes,",
-    "its labels as a graph, how many values are live at each point, the banks of each value, and the listing with moves,",
-    "literals and spills in colours.",
+    "Compiles the source SRC in haste, and saves a page of HTML that needs no other file: the source, its sizes, its labels as",
+    "a graph, how many values are live at each point, the banks of each value, and the listing with moves, literals and spills",
+    "in colours.",
     "On each memory text MEM it also runs the code, and shows the outcome, how often each instruction ran, the packet before",
     "and after, the registers over time, and which line of the source each write comes from.",
     "",
     "  -o FILE          where the page is saved; by default SRC with `.html` in place of `.nova`",
     "  --steps N        how many steps a run may take, 1 to 100000000; by default 1000000",
+    "  --budget N       the branches of the search for banks, 1 to 1000000; without it the search is cut short",
     "",
     "The status is 1 where the source or a memory text is refused. How a run ended doesn't change it.",
 ];

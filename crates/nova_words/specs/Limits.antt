@@ -1,5 +1,5 @@
 -- Within which limits the numbers of a command are, by which name it is called, and which words save files.
-use Rattle.std.specs.Prelude.{◌≡◌, ◌≢◌, ◌≤◌, ◌⊎◌, ℕ, All, List, MatchOption, None, Some, String, slice_get, string_bytes, codes, ⊤}
+use Rattle.std.specs.Prelude.{◌≡◌, ◌≢◌, ◌≤◌, ◌⊎◌, ℕ, All, IfSome, List, MatchOption, None, Option, Some, String, slice_get, string_bytes, codes, ⊤}
 use Rattle.std.specs.Global.{Global}
 use Rattle.nova_words.specs.declared.command.Command.{Command}
 use Rattle.nova_words.specs.declared.command.Command.TheVariants.{Build, Run, List as ListCommand, Check, Test, Page, Forms, Format, Explain, Help, Version}
@@ -11,6 +11,10 @@ use Rattle.nova_words.specs.declared.verb.Verb.TheVariants as verb
 abbrev pub steps_limit : ℕ
 steps_limit = 100000000
 
+-- a search may make so many branches, where that is said
+abbrev pub IsBudget : Option ℕ → Type 0
+IsBudget budget = IfSome budget (λ n. (1 ≤ n) × (n ≤ 1000000))
+
 -- those of a compilation
 pub record AreInLimits (b : BuildWords) : Type 0 where
   pub slots : b.slots ≤ 128
@@ -21,9 +25,10 @@ pub record AreInLimits (b : BuildWords) : Type 0 where
 -- those of a command
 abbrev pub HasLimits : Command → Type 0
 HasLimits (Build b) = AreInLimits b
-HasLimits (Run r) = r.steps ≤ steps_limit
-HasLimits (Page p) = p.steps ≤ steps_limit
-HasLimits (Test t) = t.steps ≤ steps_limit
+HasLimits (Run r) = (r.steps ≤ steps_limit) × IsBudget r.budget
+HasLimits (ListCommand l) = IsBudget l.budget
+HasLimits (Page p) = (p.steps ≤ steps_limit) × IsBudget p.budget
+HasLimits (Test t) = (t.steps ≤ steps_limit) × IsBudget t.budget
 HasLimits _ = ⊤
 
 -- the store and the steps that it allows are not 0

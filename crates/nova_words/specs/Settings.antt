@@ -32,9 +32,10 @@ takes_value _ = true
 -- those of each command
 abbrev pub settings_of : Verb → List Setting
 settings_of verb.Build = Output ∷ Report ∷ Slots ∷ Budget ∷ Store ∷ Weights ∷ Json ∷ Help ∷ []
-settings_of verb.Run = Steps ∷ Profile ∷ Counts ∷ Help ∷ []
+settings_of verb.Run = Steps ∷ Budget ∷ Profile ∷ Counts ∷ Help ∷ []
+settings_of verb.List = Budget ∷ Help ∷ []
 settings_of verb.Check = Verbose ∷ Json ∷ Help ∷ []
-settings_of verb.Page = Output ∷ Steps ∷ Help ∷ []
+settings_of verb.Page = Output ∷ Steps ∷ Budget ∷ Help ∷ []
 settings_of verb.Format = Check ∷ Help ∷ []
-settings_of verb.Test = Steps ∷ Help ∷ []
+settings_of verb.Test = Steps ∷ Budget ∷ Help ∷ []
 settings_of _ = Help ∷ []

@@ -1,7 +1,7 @@
 -- Which value is given an option, and which number that is.
-use Rattle.std.specs.Prelude.{◌≡◌, ◌≢◌, ◌⊎◌, ◌++◌, ◌∷◌, ℕ, All, List, Some, decimal, ⊤}
+use Rattle.std.specs.Prelude.{◌≡◌, ◌≢◌, ◌⊎◌, ◌++◌, ◌∷◌, ℕ, All, List, MatchOption, Option, Some, decimal, ⊤}
 use Rattle.nova_words.specs.declared.command.Command.{Command}
-use Rattle.nova_words.specs.declared.command.Command.TheVariants.{Build, Run, Page, Test}
+use Rattle.nova_words.specs.declared.command.Command.TheVariants.{Build, Run, List as ListCommand, Page, Test}
 use Rattle.nova_words.specs.declared.parts.Given.{Given}
 use Rattle.nova_words.specs.declared.parts.Parts.{Parts}
 use Rattle.nova_words.specs.declared.setting.Setting.{Setting}
@@ -25,10 +25,15 @@ IsLastValue given setting value =
 abbrev pub IsNumberOf : List Given → Setting → ℕ → ℕ → Type 0
 IsNumberOf given setting usual n = IsLastValue given setting (decimal n) ⊎ (IsNotGiven given setting × (n ≡ usual))
 
+-- the option's last value spells the number; without the option there is none
+abbrev pub IsNumberIfGiven : List Given → Setting → Option ℕ → Type 0
+IsNumberIfGiven given setting number = MatchOption number (IsNotGiven given setting) (λ n. IsLastValue given setting (decimal n))
+
 -- each number of the command is that of its option
 abbrev pub HasNumbers : List Given → Command → Type 0
 HasNumbers given (Build b) = IsNumberOf given Slots 128 b.slots × IsNumberOf given Budget 2000 b.budget × IsNumberOf given Store 2048 b.store
-HasNumbers given (Run r) = IsNumberOf given Steps 1000000 r.steps
-HasNumbers given (Page p) = IsNumberOf given Steps 1000000 p.steps
-HasNumbers given (Test t) = IsNumberOf given Steps 1000000 t.steps
+HasNumbers given (Run r) = IsNumberOf given Steps 1000000 r.steps × IsNumberIfGiven given Budget r.budget
+HasNumbers given (ListCommand l) = IsNumberIfGiven given Budget l.budget
+HasNumbers given (Page p) = IsNumberOf given Steps 1000000 p.steps × IsNumberIfGiven given Budget p.budget
+HasNumbers given (Test t) = IsNumberOf given Steps 1000000 t.steps × IsNumberIfGiven given Budget t.budget
 HasNumbers given _ = ⊤

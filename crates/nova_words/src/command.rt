@@ -1,8 +1,8 @@
 //! Which command words are.
-ghost use Rattle.std.specs.Prelude.{◌≡◌, ◌≤◌, ◌⊎◌, IfErr, IfOk, [], codes};
+ghost use Rattle.std.specs.Prelude.{◌≡◌, ◌≤◌, ◌⊎◌, IfErr, IfOk, IfSome, [], codes};
 ghost use Rattle.nova_words.specs.Faults.{HaveFault, IsFaultAt};
 ghost use Rattle.nova_words.specs.Limits.{AllowsSome, AsksHelp, FirstIs, HasLimits, HaveNoHelp, IsCalled, IsHelp, MaySave, Saves, name_of};
-ghost use Rattle.nova_words.specs.Values.{HasNumbers, IsNotGiven, IsNumberOf};
+ghost use Rattle.nova_words.specs.Values.{HasNumbers, IsNotGiven, IsNumberIfGiven, IsNumberOf};
 
 use crate::fault::WordFault;
 use crate::number::read_number;
@@ -51,10 +51,21 @@ pub struct Run<'a> {
     /// The memory text.
     pub memory: &'a str,
     pub steps: u32,
+    /// The branches of the search for banks of a source, if that is said.
+    pub budget: Option<u32>,
     /// Whether it is told how often each label was entered.
     pub has_profile: bool,
     /// Where these numbers are saved, if they are.
     pub counts: Option<&'a str>,
+}
+
+/// What `list` is asked for.
+#[derive(Clone, Copy)]
+pub struct Listing<'a> {
+    /// An object or a source.
+    pub program: &'a str,
+    /// The branches of the search for banks of a source, if that is said.
+    pub budget: Option<u32>,
 }
 
 /// What `check` is asked for.
@@ -76,6 +87,8 @@ pub struct Page<'a> {
     /// Where the page is saved, if that is said.
     pub output: Option<&'a str>,
     pub steps: u32,
+    /// The branches of the search for banks, if that is said.
+    pub budget: Option<u32>,
 }
 
 /// What `forms` is asked for.
@@ -101,6 +114,8 @@ pub struct Test<'a> {
     pub paths: Vec<&'a str>,
     /// The steps of code and the calls of the interpreter that each memory text may take.
     pub steps: u32,
+    /// The branches of the search for banks of each source, if that is said.
+    pub budget: Option<u32>,
 }
 
 /// A command with what its words name.
@@ -108,8 +123,7 @@ pub struct Test<'a> {
 pub enum Command<'a> {
     Build(Build<'a>),
     Run(Run<'a>),
-    /// Of an object or a source.
-    List(&'a str),
+    List(Listing<'a>),
     Check(Check<'a>),
     Test(Test<'a>),
     Page(Page<'a>),
@@ -204,7 +218,7 @@ fn command_in<'a>(
     match verb {
         Verb::Build => build_in(parts),
         Verb::Run => run_in(parts),
-        Verb::List => Ok(Command::List(only_name(parts, "OBJ or SRC")?)),
+        Verb::List => list_in(parts),
         Verb::Check => check_in(alloc, parts),
         Verb::Test => test_in(alloc, parts),
         Verb::Page => page_in(alloc, parts),
@@ -248,6 +262,19 @@ fn build_in<'a>(parts: &Parts<'a>) -> Result<Command<'a>, WordFault<'a>>
     }))
 }
 
+fn list_in<'a>(parts: &Parts<'a>) -> Result<Command<'a>, WordFault<'a>>
+    ensures limits { IfOk result HasLimits }
+    ensures some { IfOk result AllowsSome }
+    ensures numbers { IfOk result (HasNumbers parts.now.given.items) }
+    ensures called { IfOk result (IsCalled (codes "list")) }
+    ensures asks { IfOk result (λ c. IsHelp c → ⊥) }
+    ensures refused { IfErr result (IsFaultAt (name_of parts.now.verb)) }
+{
+    let program = only_name(parts, "OBJ or SRC")?;
+    let budget = given_number_in(parts, Setting::Budget, 1, MOST_BUDGET)?;
+    Ok(Command::List(Listing { program, budget }))
+}
+
 fn run_in<'a>(parts: &Parts<'a>) -> Result<Command<'a>, WordFault<'a>>
     ensures limits { IfOk result HasLimits }
     ensures some { IfOk result AllowsSome }
@@ -260,10 +287,12 @@ fn run_in<'a>(parts: &Parts<'a>) -> Result<Command<'a>, WordFault<'a>>
     let program = parts.name(0, "OBJ or SRC")?;
     let memory = parts.name(1, "MEM")?;
     let steps = number_in(parts, Setting::Steps, 1, MOST_STEPS, USUAL_STEPS)?;
+    let budget = given_number_in(parts, Setting::Budget, 1, MOST_BUDGET)?;
     Ok(Command::Run(Run {
         program,
         memory,
         steps,
+        budget,
         has_profile: parts.value(Setting::Profile).is_some(),
         counts: parts.value(Setting::Counts),
     }))
@@ -310,12 +339,14 @@ fn page_in<'a>(alloc: Global, parts: &Parts<'a>) -> Result<Command<'a>, WordFaul
 {
     let source = parts.name(0, "SRC")?;
     let steps = number_in(parts, Setting::Steps, 1, MOST_STEPS, USUAL_STEPS)?;
+    let budget = given_number_in(parts, Setting::Budget, 1, MOST_BUDGET)?;
     let memories = names_after(alloc, parts)?;
     Ok(Command::Page(Page {
         source,
         memories,
         output: parts.value(Setting::Output),
         steps,
+        budget,
     }))
 }
 
@@ -345,8 +376,13 @@ fn test_in<'a>(alloc: Global, parts: &Parts<'a>) -> Result<Command<'a>, WordFaul
     ensures refused { IfErr result (IsFaultAt (name_of parts.now.verb)) }
 {
     let steps = number_in(parts, Setting::Steps, 1, MOST_STEPS, USUAL_STEPS)?;
+    let budget = given_number_in(parts, Setting::Budget, 1, MOST_BUDGET)?;
     let paths = names_in(alloc, parts, "SRC or FOLDER")?;
-    Ok(Command::Test(Test { paths, steps }))
+    Ok(Command::Test(Test {
+        paths,
+        steps,
+        budget,
+    }))
 }
 
 // All names, of which there is one at least, each of which names this.
@@ -425,11 +461,29 @@ fn number_in<'a>(
     ensures given { IfOk result (IsNumberOf parts.now.given.items setting usual) }
     ensures refused { IfErr result (IsFaultAt (name_of parts.now.verb)) }
 {
+    match given_number_in(parts, setting, least, most)? {
+        Some(n) => Ok(n),
+        None => Ok(usual),
+    }
+}
+
+// The number of an option, if the words give the option.
+fn given_number_in<'a>(
+    parts: &Parts<'a>,
+    setting: Setting,
+    least: u32,
+    most: u32,
+) -> Result<Option<u32>, WordFault<'a>>
+    ensures least { IfOk result (λ o. IfSome o (λ n. least ≤ n)) }
+    ensures most { IfOk result (λ o. IfSome o (λ n. n ≤ most)) }
+    ensures given { IfOk result (IsNumberIfGiven parts.now.given.items setting) }
+    ensures refused { IfErr result (IsFaultAt (name_of parts.now.verb)) }
+{
     let Some(value) = parts.value(setting) else {
-        return Ok(usual);
+        return Ok(None);
     };
     match read_number(value, least, most) {
-        Some(n) => Ok(n),
+        Some(n) => Ok(Some(n)),
         None => Err(WordFault::BadNumber(parts.verb, setting, value, least, most)),
     }
 }

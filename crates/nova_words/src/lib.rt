@@ -9,7 +9,7 @@ mod parts;
 mod setting;
 mod verb;
 
-pub use command::{Build, Check, Command, Format, Forms, Page, Run, Test, command_of};
+pub use command::{Build, Check, Command, Format, Forms, Listing, Page, Run, Test, command_of};
 pub use fault::WordFault;
 pub use nearest::{nearest_setting, nearest_verb};
 pub use setting::Setting;

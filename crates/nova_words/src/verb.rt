@@ -76,11 +76,12 @@ impl Verb {
         match self {
             Verb::Build => &BUILD,
             Verb::Run => &RUN,
+            Verb::List => &LIST,
             Verb::Check => &CHECK,
             Verb::Test => &TEST,
             Verb::Page => &PAGE,
             Verb::Format => &FORMAT,
-            Verb::List | Verb::Forms | Verb::Explain | Verb::Help | Verb::Version => &OTHER,
+            Verb::Forms | Verb::Explain | Verb::Help | Verb::Version => &OTHER,
         }
     }
 
@@ -109,19 +110,27 @@ const BUILD: [Setting; 8] = [
     Setting::Help,
 ];
 
-const RUN: [Setting; 4] = [
+const RUN: [Setting; 5] = [
     Setting::Steps,
+    Setting::Budget,
     Setting::Profile,
     Setting::Counts,
     Setting::Help,
 ];
 
+const LIST: [Setting; 2] = [Setting::Budget, Setting::Help];
+
 const CHECK: [Setting; 3] = [Setting::Verbose, Setting::Json, Setting::Help];
 
-const PAGE: [Setting; 3] = [Setting::Output, Setting::Steps, Setting::Help];
+const PAGE: [Setting; 4] = [
+    Setting::Output,
+    Setting::Steps,
+    Setting::Budget,
+    Setting::Help,
+];
 
 const FORMAT: [Setting; 2] = [Setting::Check, Setting::Help];
 
-const TEST: [Setting; 2] = [Setting::Steps, Setting::Help];
+const TEST: [Setting; 3] = [Setting::Steps, Setting::Budget, Setting::Help];
 
 const OTHER: [Setting; 1] = [Setting::Help];

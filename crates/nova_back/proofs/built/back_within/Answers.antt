@@ -14,7 +14,7 @@ use Rattle.nova_back.specs.inner.Search.{IsUnfound}
 use Rattle.nova_back.specs.declared.error.BackError.TheVariants as back
 use Rattle.nova_back.proofs.Reported.{choice-of-report, code-by, light_by}
 use Rattle.nova_back.proofs.Unmade.{bounded-told, caused, told, unfound-caused}
-use Rattle.nova_back.proofs.built.back.Goals as goal
+use Rattle.nova_back.proofs.built.back_within.Goals as goal
 
 pub choice_of-requires-clause-single : goal.choice_of-requires-clause-single
 choice_of-requires-clause-single c = ap (λ (t : Ssu). single (labels_view t)) c.in_ok-bank.ensures.form ∙ c.requires.single

@@ -6,7 +6,7 @@ use Rattle.ssu_ir.specs.View.{labels_view}
 use Rattle.nova_compile.specs.Forms.{IsBoundedFormOf}
 use Rattle.nova_compile.proofs.Formed.{form-of, code-for, banks-of, back-caused}
 use Rattle.nova_compile.proofs.OneCause.{front-caused, text-good, text-only, form-want, form-cause}
-use Rattle.nova_compile.proofs.build.compile_text.Goals as goal
+use Rattle.nova_compile.proofs.build.compile_text_within.Goals as goal
 
 pub returns-in_err-typed-clause-only_refused : goal.returns-in_err-typed-clause-only_refused
 returns-in_err-typed-clause-only_refused c = λ f h.
