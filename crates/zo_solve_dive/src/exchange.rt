@@ -35,7 +35,7 @@ pub struct Exchange {
 impl Exchange {
     /// Whether the exchanges end.
     fn is_done(&self, rounds: &Rounds) -> bool {
-        self.cost <= self.lower || rounds.work() > self.end
+        self.cost <= self.lower || rounds.work() > self.end || rounds.is_spent()
     }
 
     /// Frees the columns of a region.
