@@ -1,0 +1,4 @@
+pub mod Prims
+pub mod Means
+pub mod Kept
+pub mod Along
