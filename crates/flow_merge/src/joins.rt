@@ -9,9 +9,13 @@ use nv_base::NoMemory;
 use std::alloc::Global;
 
 // How many nodes a short label has at most.
-const SHORT: u32 = 8;
+const SHORT: u32 = 4;
+// How many nodes copies of short labels may add, beside an eighth of all.
+const SHORT_ROOM: u32 = 60;
 // How many nodes a label has at most that is copied to the jumps whose words decide its first choice.
 const HEAD: u32 = 30;
+// How many nodes such copies may add, beside a quarter of all.
+const HEAD_ROOM: u32 = 500;
 
 // Whether a tree jumps to a label.
 fn goes_to(t: &Tree, l: u32) -> bool {
@@ -67,9 +71,9 @@ fn all_nodes(labels: &[Label]) -> u32 {
     n
 }
 
-/// Short labels are put in the place of each jump to them, as long as that adds no more than an eighth of the nodes.
-/// Others that aren't long are put in the place of those jumps alone whose words decide their first choice, as long as
-/// that adds no more than a quarter. None that jumps to itself is.
+/// Short labels are put in the place of each jump to them, as long as there is room. Others that aren't long are put in
+/// the place of those jumps alone whose words decide their first choice, as long as there is room. None that jumps to
+/// itself is.
 pub fn plan_of_joins(alloc: Global, labels: &[Label]) -> Result<Plan, NoMemory> {
     let counts = jumps(alloc, labels)?;
     let mut decided = vec![in alloc; 0u32; labels.len()]?;
@@ -78,8 +82,9 @@ pub fn plan_of_joins(alloc: Global, labels: &[Label]) -> Result<Plan, NoMemory> 
     }
     let mut ranks = vec![in alloc; 0u32; labels.len()]?;
     let mut choosy = vec![in alloc; false; labels.len()]?;
-    let mut room = all_nodes(labels) / 8;
-    let mut wide_room = all_nodes(labels) / 4;
+    let nodes_now = all_nodes(labels);
+    let mut room = (nodes_now / 8).saturating_add(SHORT_ROOM);
+    let mut head_room = (nodes_now / 4).saturating_add(HEAD_ROOM);
     let mut l: u32 = 0;
     for m in labels {
         let size = nodes(&m.body);
@@ -89,8 +94,8 @@ pub fn plan_of_joins(alloc: Global, labels: &[Label]) -> Result<Plan, NoMemory> 
             if size <= SHORT && more <= room {
                 room -= more;
                 put(&mut ranks, l, 1);
-            } else if some != 0 && some <= wide_room {
-                wide_room -= some;
+            } else if some != 0 && some <= head_room {
+                head_room -= some;
                 put(&mut ranks, l, 1);
                 choose(&mut choosy, l);
             }
