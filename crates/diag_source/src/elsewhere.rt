@@ -1,7 +1,7 @@
 //! Where else a name is declared.
 
 use nv_ast::{Decl, Fun, Name, Program, Span};
-use nv_lines::{Message, line_of, part};
+use nv_lines::{Message, line_of, part, strip};
 use std::alloc::Global;
 
 // What is declared: in which name space, and where.
@@ -19,7 +19,7 @@ const EXCEPTIONS: u8 = 1;
 
 const FUNCTIONS: u8 = 2;
 
-/// Appends where else a name is declared: for kind 2 before, and for kind 11 below.
+/// Appends where else a name is declared: for kind 2 before, and for the kinds 3, 8, 11 and 17 below.
 pub fn push_elsewhere(
     alloc: Global,
     out: &mut Message,
@@ -31,7 +31,9 @@ pub fn push_elsewhere(
     let listed = listed(alloc, out, program);
     match kind {
         2 => push_earlier(out, &listed, bytes, span),
-        11 => push_later(out, &listed, bytes, span),
+        3 | 8 => push_later(out, &listed, bytes, LAYOUTS, span),
+        11 => push_later(out, &listed, bytes, FUNCTIONS, span),
+        17 => push_later(out, &listed, bytes, EXCEPTIONS, span),
         _ => {}
     }
 }
@@ -118,24 +120,29 @@ fn declared_at<'a>(listed: &[Declaration<'a>], span: Span) -> Option<Declaration
     None
 }
 
-// 11: a function of the name that is called at a span.
-fn push_later(out: &mut Message, listed: &[Declaration], bytes: &[u8], span: Span) {
-    let call = part(bytes, span.first as usize, span.after as usize);
+// What is declared below under the name that stands at a span, maybe behind `handle`.
+fn push_later(out: &mut Message, listed: &[Declaration], bytes: &[u8], space: u8, span: Span) {
+    let text = part(bytes, span.first as usize, span.after as usize);
+    let text = match strip(text, b"handle ") {
+        Some(rest) => rest,
+        None => text,
+    };
     for it in listed {
-        if it.space == FUNCTIONS && is_call_of(call, it.name.bytes()) {
+        let is_below = it.span.first > span.first;
+        if it.space == space && is_below && begins_with_name(text, it.name.bytes()) {
             return push_where(out, "declared below", bytes, it.span);
         }
     }
 }
 
-// Whether a call begins with a name and no longer one.
-fn is_call_of(call: &[u8], name: &[u8]) -> bool {
-    if !call.starts_with(name) {
+// Whether a text begins with a name and no longer one.
+fn begins_with_name(text: &[u8], name: &[u8]) -> bool {
+    if !text.starts_with(name) {
         return false;
     }
-    match call.get(name.len()) {
+    match text.get(name.len()) {
         Some(byte) => !byte.is_ascii_alphanumeric() && *byte != b'_',
-        None => false,
+        None => true,
     }
 }
 

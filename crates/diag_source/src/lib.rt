@@ -4,6 +4,7 @@
 mod checked;
 mod elsewhere;
 mod fields;
+mod large;
 mod narrow;
 mod refusal;
 pub mod sizes;

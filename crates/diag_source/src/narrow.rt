@@ -17,6 +17,7 @@ pub fn narrowed(bytes: &[u8], tokens: &[Token], fault: Fault) -> Span {
         2 => declared_name(&first),
         4 => faulty_size(&first, found.len()),
         9 | 13 | 16 | 17 => pattern(&first, &last),
+        3 if first.is(0, "layout") => unknown_layout(&first, found.len()),
         3 => argument_of(&first, &["unpack", "pack"]),
         11 => Some(first.span(0)),
         15 | 21 => Some(last.span(1)),
@@ -65,6 +66,43 @@ fn faulty_size(first: &Place, count: usize) -> Option<Span> {
         }
     }
     None
+}
+
+// The first name of a layout in a declaration that isn't declared above it.
+fn unknown_layout(first: &Place, count: usize) -> Option<Span> {
+    for n in first.index()..count {
+        let place = first.moved(n);
+        let is_named = place.is_among(1, &["=", "##", ":"]) && place.is_word(0);
+        if is_named && !place.is(0, "overlay") && !is_declared(first, &place) {
+            return Some(place.span(0));
+        }
+    }
+    None
+}
+
+// Whether a layout of this name is declared above.
+fn is_declared(first: &Place, name: &Place) -> bool {
+    for n in 0..first.index() {
+        let place = first.moved(n);
+        if place.is(1, "layout") && place.text(0) == name.text(0) {
+            return true;
+        }
+    }
+    false
+}
+
+/// The last field of a name in a span, or the span.
+pub fn narrowed_to(bytes: &[u8], tokens: &[Token], span: Span, name: &[u8]) -> Span {
+    let found = tokens_to(tokens, span.after);
+    let first = Place::at(bytes, found, span.first as usize);
+    let mut shown = span;
+    for n in first.index()..found.len() {
+        let place = first.moved(n);
+        if place.text(0) == name && (place.next_is(":") || place.next_is("=")) {
+            shown = place.span(0);
+        }
+    }
+    shown
 }
 
 // From one span to another.

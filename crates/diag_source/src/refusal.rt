@@ -2,8 +2,8 @@
 
 use crate::checked::Checked;
 use crate::elsewhere::{main_in_capitals, push_elsewhere};
-use crate::narrow::narrowed;
-use crate::sizes::push_parts;
+use crate::large::push_large_parts;
+use crate::narrow::{narrowed, narrowed_to};
 use diag_text::finding::{Code, Finding, Form, Severity};
 use diag_text::kinds::{kind_advice, kind_sentence};
 use diag_types::Walk;
@@ -69,7 +69,7 @@ fn explain_walked<'a>(
     walk.program(program);
     found.help.fail_if(walk.is_short());
     found.code = Code::Kind(fault.kind);
-    found.span = shown_span(it, program, fault);
+    found.span = shown_span(it, walk, program, fault);
     if walk.title.is_empty() {
         found.title.put(kind_sentence(fault.kind));
     }
@@ -80,7 +80,7 @@ fn explain_walked<'a>(
         program,
         it.source.bytes,
         fault.kind,
-        fault.span,
+        named_span(found, fault),
     );
     found.help.message_text(&walk.note);
     let advice = walk.advice.unwrap_or(kind_advice(fault.kind));
@@ -89,22 +89,45 @@ fn explain_walked<'a>(
     }
 }
 
+// Where the name stands of which another declaration is told: kind 2 is told by the whole declaration.
+fn named_span(found: &Finding, fault: Fault) -> Span {
+    match found.span {
+        Some(span) if fault.kind != 2 => span,
+        _ => fault.span,
+    }
+}
+
 // The part of the source that is at fault, or none where it is that no function is like `main`.
-fn shown_span(it: &Checked, program: &Program, fault: Fault) -> Option<Span> {
+fn shown_span(it: &Checked, walk: &Walk, program: &Program, fault: Fault) -> Option<Span> {
     if fault.kind == 1 {
         return main_in_capitals(program);
     }
-    Some(narrowed(it.source.bytes, &it.tokens, fault))
+    let span = narrowed(it.source.bytes, &it.tokens, fault);
+    match walk.culprit {
+        Some(name) if fault.kind == 5 || fault.kind == 18 => Some(narrowed_to(
+            it.source.bytes,
+            &it.tokens,
+            span,
+            name.bytes(),
+        )),
+        _ => Some(span),
+    }
 }
 
-/// Says that a program is too large, with the sizes of its functions.
-pub fn explain_size(alloc: Global, it: &mut Finding, program: &Program, size: u32) {
-    it.code = Code::Named("too large");
-    it.title.put("the expanded size is ");
-    it.title.number(u64::from(size));
-    it.title.put(", and at most 4096 is allowed");
-    push_parts(alloc, &mut it.help, program, size, None);
-    it.help.line(
-        "Each call of another group counts that group again. Make loops of repeated calls.",
+/// Says that a program is too large, with the functions that make most of it and the lines that call them.
+pub fn explain_size(
+    alloc: Global,
+    found: &mut Finding,
+    it: &Checked,
+    program: &Program,
+    size: u32,
+) {
+    found.code = Code::Named("too large");
+    found.title.put("the expanded size is ");
+    found.title.number(u64::from(size));
+    found.title.put(", and at most 4096 is allowed");
+    found.span = push_large_parts(alloc, &mut found.help, it, program);
+    found.help.line(
+        "Each call of another group counts that group again. Call once, after an `if` that chooses the arguments, or make a loop.",
     )
 }

@@ -22,7 +22,7 @@ impl<'n, 's> Checked<'n, 's> {
                 push_all(alloc, out, form, self, program, faults)
             }
             Verdict::TooLarge(program, size) => {
-                push_size_fault(alloc, out, form, self.source, program, *size)
+                push_size_fault(alloc, out, form, self, program, *size)
             }
         }
         true
@@ -55,13 +55,13 @@ fn push_size_fault(
     alloc: Global,
     out: &mut Message,
     form: Form,
-    source: Source,
+    it: &Checked,
     program: &Program,
     size: u32,
 ) {
-    let mut it = Finding::new(alloc, Severity::Error);
-    explain_size(alloc, &mut it, program, size);
-    it.push(alloc, out, form, source)
+    let mut found = Finding::new(alloc, Severity::Error);
+    explain_size(alloc, &mut found, it, program, size);
+    found.push(alloc, out, form, it.source)
 }
 
 // Appends that a source has too many bytes.

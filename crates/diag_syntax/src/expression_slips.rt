@@ -1,5 +1,6 @@
 //! Slips in expressions.
 
+use crate::calls::call_slip;
 use crate::expected::Expected;
 use crate::place::Place;
 use crate::slip::{BIT_RANGE, ONE_LET, Slip};
@@ -45,12 +46,16 @@ fn shift_slip(place: &Place) -> Option<Slip> {
 // Where an operand is expected.
 fn operand_slip(place: &Place) -> Option<Slip> {
     match place.text(0) {
+        b"word" | b"bool" if place.is(1, "(") => cast_slip(0),
         b"word" | b"bool" => Slip::titled(UNTYPED, BIND),
         b"fun" | b"layout" | b"exception" => {
             Slip::help(
                 "Declarations stand at the top, not inside a function. A function before may lack its last value or a bracket.",
             )
         }
+        b"packed" | b"unpacked" => Slip::help(
+            "`packed(l)` and `unpacked(l)` are types. The fields of packed words are `unpack[l](w)`.",
+        ),
         b"let" => Slip::help(
             "A `let` begins a block. Put round brackets about the block: `(let y = x; y + y)`.",
         ),
@@ -88,6 +93,13 @@ fn sign_slip(place: &Place) -> Option<Slip> {
         b"-" if place.next_is("-") => Slip::help(
             "A comment begins with `//`. There is no unary minus: write `0 - x`.",
         ),
+        b"+" | b"-" if place.is(1, "|") && place.next_is("|") => Slip::titled(
+            "sums have no limit but 32 bits",
+            "A sum that stays at the greatest word is `if (x + y < x) 0xffffffff else x + y`, a difference that stays at 0 `if (x < y) 0 else x - y`.",
+        ),
+        b"-" if place.is_among(1, &COMPARISONS) => Slip::help(
+            "Words have no sign: `x < y` compares from 0 to 4,294,967,295. The sign of 32 bits is `x >> 31`.",
+        ),
         b"-" => Slip::help("There is no unary minus. Write `0 - x`."),
         b"+" => Slip::help("There is no unary plus. Leave it out."),
         b"&" if place.is(1, "&&") => Slip::help(
@@ -124,6 +136,9 @@ fn operator_slip(place: &Place) -> Option<Slip> {
     if place.is(1, ")") && is_after_else(place) {
         return Slip::help("Write `else if (c) 1 else 2`.");
     }
+    if place.is(1, ")") && place.is(3, "(") && place.is_among(2, &FOREIGN_TYPES) {
+        return cast_slip(2);
+    }
     if place.is_among(0, &COMPARISONS) {
         return comparison_slip(place);
     }
@@ -131,9 +146,7 @@ fn operator_slip(place: &Place) -> Option<Slip> {
         b"(" if place.is(2, ".") => Slip::help(
             "There are no methods: a dot takes a record's field, and a call is `f[x, 1]`.",
         ),
-        b"(" if place.is_word(1) => Slip::help(
-            "Parameters and arguments stand in `[ ]`, as in `f[1, 2]`.",
-        ),
+        b"(" if place.is_word(1) => call_slip(place),
         b"[" if place.later(2).is_range() => Slip::titled(
             "bits of a word have no numbers",
             BIT_RANGE,
@@ -161,8 +174,25 @@ fn operator_slip(place: &Place) -> Option<Slip> {
     }
 }
 
+const FOREIGN_TYPES: [&str; 16] = [
+    "int", "uint", "unsigned", "char", "short", "long", "byte", "u8", "u16", "u32", "uint8_t",
+    "uint16_t", "uint32_t", "int32_t", "size_t", "be16",
+];
+
+// A type in brackets before a value.
+fn cast_slip(back: usize) -> Option<Slip> {
+    Slip::before(
+        back,
+        "there are no casts",
+        "Each number is a word. Its low byte is `x & 0xff`, and a bool is made by `x != 0`.",
+    )
+}
+
 // A second comparison.
 fn comparison_slip(place: &Place) -> Option<Slip> {
+    if place.is(2, "<") && place.is_among(3, &["bit", "int", "varbit"]) && place.is(4, "(") {
+        return cast_slip(3);
+    }
     if place.is(2, "<") && place.is_among(3, &["bit", "int", "varbit"]) {
         return Slip::before(3, UNTYPED, BIND);
     }

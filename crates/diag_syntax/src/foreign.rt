@@ -76,7 +76,7 @@ const HANDLER: &str =
 // Each table has words of other languages, each with a sentence on it, which may be empty, and what helps.
 
 // Words that begin a statement, before the token.
-const STATEMENTS: [(&str, &str, &str); 27] = [
+const STATEMENTS: [(&str, &str, &str); 28] = [
     (
         "return",
         "there is no `return`: the last expression is the value",
@@ -93,6 +93,7 @@ const STATEMENTS: [(&str, &str, &str); 27] = [
     ("goto", NO_LOOP, END_OF_LOOP),
     ("switch", NO_SWITCH, CHAIN),
     ("match", NO_SWITCH, CHAIN),
+    ("select", "there is no `select`", CHAIN),
     ("case", NO_SWITCH, CHAIN),
     (
         "not",
@@ -344,6 +345,13 @@ fn slip_before(place: &Place) -> Option<Slip> {
             "Bind the name again: `let x = x + 1;`.",
         );
     }
+    if place.is(1, "return") && place.is_among(0, &["Err", "err", "error", "None"]) {
+        return Slip::before(
+            1,
+            "there is no `return`: the last expression is the value",
+            "An error is an exception: `exception E[];` above, and `raise E[]` in an arm.",
+        );
+    }
     if place.is_word(0) {
         if let Some(slip) = slip_of(place, 1, &BINDINGS) {
             return Some(slip);
@@ -357,8 +365,36 @@ fn is_memory_like(place: &Place) -> bool {
     place.is(3, "[") && place.is_word(4) && !place.is_among(4, &["sram", "sdram", "scratch"])
 }
 
+// A text of another kind.
+fn other_text(place: &Place) -> Option<Slip> {
+    if place.index() > 0 {
+        return None;
+    }
+    match place.text(0) {
+        b"memory" if place.later(1).is_number(0) => Slip::titled(
+            "this is a memory text, and no source",
+            "The words are SRC MEM: the source stands first.",
+        ),
+        b"params" if place.later(1).is_number(0) => Slip::titled(
+            "this is an assembly text, and no source",
+            "`nova asm` makes an object of it.",
+        ),
+        b"ended" | b"raised" | b"going" | b"fault"
+            if place.later(1).is_number(0) || place.is(0, "going") => {
+            Slip::titled(
+                "this is an outcome text, and no source",
+                "`nova test` compares it with what the source beside it does.",
+            )
+        }
+        _ => None,
+    }
+}
+
 /// A word of another language where a declaration is expected.
 pub fn declaration_slip(place: &Place) -> Option<Slip> {
+    if let Some(slip) = other_text(place) {
+        return Some(slip);
+    }
     if place.is_among(0, &["}", ")", "]"]) {
         return Slip::titled(
             "this bracket closes nothing",

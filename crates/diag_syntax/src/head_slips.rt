@@ -84,6 +84,13 @@ fn access_slip(place: &Place, expected: &Expected) -> Option<Slip> {
             "Write the layout's name and the value: `unpack[LAYOUT](w)`, `pack[LAYOUT]({ .. })`.",
         );
     }
+    let is_keyword = place.is(1, "(") && place.is_among(2, &["packed", "unpacked"])
+        || place.is(1, "[") && place.is_among(2, &["pack", "unpack"]);
+    if is_keyword && place.is_word(0) {
+        return Slip::help(
+            "The name of a layout stands there, as in `packed(l)` and `unpack[l](w)`.",
+        );
+    }
     if place.is_among(1, &["packed", "unpacked"]) {
         return Slip::help(
             "The types of a layout are `packed(l)`, its words, and `unpacked(l)`, the record of its fields.",
@@ -97,6 +104,14 @@ fn access_slip(place: &Place, expected: &Expected) -> Option<Slip> {
 
 // Handlers, and `..`.
 fn handler_slip(place: &Place, expected: &Expected) -> Option<Slip> {
+    if place.is(1, "handle") && place.is_among(0, &["_", "{"]) {
+        return Slip::help(
+            "There is no handler of all exceptions: each is named, as in `handle E[] { .. }`.",
+        );
+    }
+    if place.is(0, ":") && place.is_in_handler() {
+        return Slip::help("A pattern has no type: `handle E[x] { .. }`.");
+    }
     if place.is(1, "handle") || place.is(2, "handle") {
         return Slip::help(
             "A handler is `handle E[x] { .. }`, with one pattern for each value of the exception.",
@@ -110,7 +125,20 @@ fn handler_slip(place: &Place, expected: &Expected) -> Option<Slip> {
             "A `try` has one handler. Put it into another `try`: `try { try { .. } handle E[] { .. } } handle F[] { .. }`.",
         );
     }
-    if place.is(0, ".") && (place.is(1, ".") || place.next_is(".")) {
+    let is_dots = place.is(0, ".") && (place.is(1, ".") || place.next_is("."));
+    if is_dots && place.is_in_layout() {
+        return Slip::help(
+            "A field has its number of bits: `a: 8`. Its place follows from those before it.",
+        );
+    }
+    let is_turn = place.is_number(1) || place.is(1, ".") && place.is_number(2);
+    if is_dots && is_turn && place.is_in_round_brackets() {
+        return Slip::titled(
+            "there are no ranges to go through",
+            "A loop is a function that calls itself last: `fun sum[i: word, s: word]: word { if (i == 0) s else sum[i - 1, s + i] }`.",
+        );
+    }
+    if is_dots {
         return Slip::titled(
             "there is no `..`",
             "A record has all its fields, as in `{ a = 1, b = h.b }`. A range is `1 <= x && x < 5`.",
@@ -121,7 +149,13 @@ fn handler_slip(place: &Place, expected: &Expected) -> Option<Slip> {
 
 // Between the braces of a layout.
 fn layout_slip(place: &Place, expected: &Expected) -> Option<Slip> {
-    if !expected.has("x") || !place.is_in_layout() {
+    if !place.is_in_layout() {
+        return None;
+    }
+    if let Some(slip) = joint_slip(place, expected) {
+        return Some(slip);
+    }
+    if !expected.has("x") {
         return None;
     }
     if place.is(1, "=") {
@@ -140,6 +174,30 @@ fn layout_slip(place: &Place, expected: &Expected) -> Option<Slip> {
     }
     if place.is_among(0, &["word", "bool"]) {
         return Slip::help("A field is its name, a colon and its bits: `a: 8`.");
+    }
+    None
+}
+
+// Between the layouts of a declaration, in gaps and in overlays.
+fn joint_slip(place: &Place, expected: &Expected) -> Option<Slip> {
+    if place.is(0, ",") && expected.has("##") && !expected.has(",") {
+        return Slip::help("Layouts are joined by `##`: `layout l = a ## { b: 8 };`.");
+    }
+    if place.is(1, "##") {
+        return Slip::help("After `##` comes a layout: its name, `{ a: 8 }`, or a gap `{8}`.");
+    }
+    if place.is(1, "{") && place.is(0, "-") {
+        return Slip::help(
+            "A gap has 1 to 1,024 bits, as `{8}`. Fields can't overlap but in an overlay.",
+        );
+    }
+    if expected.has("|") && place.is(0, "}") {
+        return Slip::help(
+            "An overlay has two alternatives or more: `v: overlay { a: 16 | b: 16 }`.",
+        );
+    }
+    if place.is(0, "-") && expected.has(":") {
+        return Slip::help("A name has letters, digits and `_`: `total_length`.");
     }
     None
 }
@@ -172,6 +230,12 @@ fn named_slip(place: &Place, expected: &Expected) -> Option<Slip> {
 
 // In the head of a function.
 fn function_slip(place: &Place, expected: &Expected) -> Option<Slip> {
+    if place.is_among(2, &["fun", "and"]) && place.is(0, "<") {
+        return Slip::titled(
+            "a function has no type parameters",
+            "Each parameter has one type: `fun f[x: word]: word { x }`.",
+        );
+    }
     if place.is_among(2, &["fun", "and"]) {
         return Slip::help(if place.is(0, "(") {
             "Parameters and arguments stand in `[ ]`, as in `f[1, 2]`."
@@ -211,6 +275,14 @@ fn pattern_slip(place: &Place, expected: &Expected) -> Option<Slip> {
     }
     if place.is(1, ")") && expected.has("=") && place.is(0, ":") {
         return Slip::help("A `let` has no type: `let (a, b) = f[];`.");
+    }
+    if place.is(0, ":") && place.is_in_pattern() {
+        return Slip::help("A pattern has no types: `let (a, b) = f[];`.");
+    }
+    if place.is(0, ")") && place.is(2, "(") && expected.has(",") && place.is_in_pattern() {
+        return Slip::help(
+            "A pattern in brackets has two parts or more: `let (x, _) = f[];`. One name has no brackets.",
+        );
     }
     if expected.has("_") && place.is(0, "{") {
         return Slip::help(

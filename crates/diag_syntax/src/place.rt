@@ -128,6 +128,79 @@ impl<'a, 't> Place<'a, 't> {
         false
     }
 
+    /// Whether the text declares a function of the name that is so many tokens before it.
+    pub fn declares(&self, back: usize) -> bool {
+        let name = self.text(back);
+        for n in 0..self.tokens.len() {
+            let place = self.moved(n);
+            if place.text(0) == name && place.is_among(1, &["fun", "and"]) {
+                return true;
+            }
+        }
+        false
+    }
+
+    /// Whether the token opens a bracket behind which `<-` stands.
+    pub fn is_before_arrow(&self) -> bool {
+        let mut open: usize = 0;
+        for n in self.index..self.tokens.len() {
+            let place = self.moved(n);
+            if place.is_among(0, &OPENING) {
+                open = open.saturating_add(1);
+            } else if place.is_among(0, &CLOSING) {
+                open = open.saturating_sub(1);
+                if open == 0 {
+                    return place.next_is("<-");
+                }
+            }
+        }
+        false
+    }
+
+    /// Whether the token is in the brackets of the pattern behind a `let`.
+    pub fn is_in_pattern(&self) -> bool {
+        match self.open_bracket() {
+            Some(open) => open.is(0, "(") && (open.is(1, "let") || open.is_in_pattern_of_let()),
+            None => false,
+        }
+    }
+
+    // Whether only brackets and names stand between the token and a `let` before it.
+    fn is_in_pattern_of_let(&self) -> bool {
+        for n in (0..self.index).rev() {
+            let place = self.moved(n);
+            if place.is(0, "let") {
+                return true;
+            }
+            if !place.is_among(0, &["(", ",", ")"]) && !place.is_word(0) {
+                return false;
+            }
+        }
+        false
+    }
+
+    /// Whether the token is in the brackets behind `handle` and a name.
+    pub fn is_in_handler(&self) -> bool {
+        match self.open_bracket() {
+            Some(open) => open.is(0, "[") && open.is(2, "handle"),
+            None => false,
+        }
+    }
+
+    /// Whether an `if` is in the `let` before the token.
+    pub fn is_after_choice(&self) -> bool {
+        for n in (0..self.index).rev() {
+            let place = self.moved(n);
+            if place.is(0, "if") {
+                return true;
+            }
+            if place.is_among(0, &["let", ";"]) {
+                return false;
+            }
+        }
+        false
+    }
+
     /// The bracket before the token that isn't closed.
     pub fn open_bracket(&self) -> Option<Place<'a, 't>> {
         let mut closed: usize = 0;
@@ -229,6 +302,14 @@ impl<'a, 't> Place<'a, 't> {
             }
         }
         false
+    }
+
+    /// Whether the innermost bracket that isn't closed is round.
+    pub fn is_in_round_brackets(&self) -> bool {
+        match self.open_bracket() {
+            Some(open) => open.is(0, "("),
+            None => false,
+        }
     }
 
     fn is_in_square_brackets(&self) -> bool {

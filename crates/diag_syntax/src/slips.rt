@@ -1,5 +1,6 @@
 //! The usual slips that end in a fault of the text, and what to write in their place.
 
+use crate::calls::called_slip;
 use crate::expected::Expected;
 use crate::expression_slips::expression_slip;
 use crate::foreign::{declaration_slip, word_slip};
@@ -61,6 +62,11 @@ fn number_slip(place: &Place) -> Option<Slip> {
             1,
             "there are no octal numbers",
             "Write decimal or hexadecimal digits: `0x1ff`.",
+        ),
+        b'B' | b'b' if place.is_in_layout() => Slip::before(
+            1,
+            "a size is a number of bits",
+            "Write the number alone: `a: 16` has two bytes.",
         ),
         b'w' | b's' => Slip::before(
             1,
@@ -132,7 +138,8 @@ fn assignment_slip(place: &Place, expected: &Expected) -> Option<Slip> {
     if expected.has("~") && place.is_joined() && place.is_among(1, &["==", "!="]) {
         return Slip::help(COMPARED);
     }
-    if expected.has("~") && place.is_joined() && place.is_among(1, &OPERATORS) {
+    let is_operand = expected.has("~") || place.is_among(1, &SHIFTS);
+    if is_operand && place.is_joined() && place.is_among(1, &OPERATORS) {
         return Slip::before(1, NO_ASSIGNMENT, BIND_AGAIN);
     }
     if !expected.has("+") {
@@ -188,6 +195,8 @@ fn named_value_slip(place: &Place) -> Option<Slip> {
     None
 }
 
+const SHIFTS: [&str; 3] = ["<<", ">>", "<<<"];
+
 const OPERATORS: [&str; 8] = ["+", "-", "&", "|", "^", "<<", ">>", "<<<"];
 
 // Whether the innermost bracket is that of a condition, or a sign of bools stands before.
@@ -209,6 +218,12 @@ fn choice_slip(place: &Place, expected: &Expected) -> Option<Slip> {
     if place.is(0, "else") && place.is(1, ";") {
         return Slip::gap("An arm ends with a value: write `()` after its last `;`.");
     }
+    if place.is(0, "else") && !place.is_after_choice() {
+        return Slip::titled(
+            "a `let` has no `else`",
+            "Its pattern fits each value. A choice is `let x = if (c) 1 else 2;`.",
+        );
+    }
     if place.is(0, "else") {
         return Slip::help("An `if` before it has both arms, or none is there.");
     }
@@ -226,7 +241,7 @@ fn unfinished_choice(place: &Place) -> Option<Slip> {
         return Slip::help("No `;` stands before `else`.");
     }
     if place.is(0, ";") && place.is(1, "]") {
-        return Slip::help("Write `else` in place of the `;`, and go on with what follows.");
+        return after_call(place);
     }
     if place.is_among(0, &[";", "}", ")", "]"]) {
         return Slip::help(
@@ -234,6 +249,19 @@ fn unfinished_choice(place: &Place) -> Option<Slip> {
         );
     }
     None
+}
+
+// A `;` after a call or a `raise` that is the first arm.
+fn after_call(place: &Place) -> Option<Slip> {
+    let is_raise = match place.opened(1) {
+        Some(open) => open.is(2, "raise"),
+        None => false,
+    };
+    Slip::help(if is_raise {
+        "Write `else` in place of the `;`, and go on with what follows."
+    } else {
+        "To go on after a call that gives `()`, write `let () = if (c) f[x] else ();`. Of one that gives a word write `let _ = if (c) f[x] else 0;`."
+    })
 }
 
 // A `;` that ends no statement.
@@ -250,6 +278,11 @@ fn semicolon_slip(place: &Place, expected: &Expected) -> Option<Slip> {
     if expected.has(",") {
         return Slip::help("The fields of a record are parted by `,`.");
     }
+    if let (true, Some(open)) = (place.is(1, "]"), place.opened(1)) {
+        if let (false, Some(slip)) = (open.declares(1), called_slip(&open, 1)) {
+            return Some(at_back(slip, place.index().saturating_sub(open.index())));
+        }
+    }
     if place.is(1, "]") {
         return Slip::help(
             "A call is no statement. Write `let () = f[x];`, or `let _ = f[x];` where it gives something.",
@@ -258,6 +291,19 @@ fn semicolon_slip(place: &Place, expected: &Expected) -> Option<Slip> {
     Slip::help(
         "Only a `let` and a store end with `;`. Leave it out after a block's value, or write `let _ = ..;`.",
     )
+}
+
+// A slip at a token before that is shown so many tokens further back.
+fn at_back(slip: Slip, count: usize) -> Slip {
+    Slip {
+        title: slip.title,
+        help: slip.help,
+        mark: match slip.mark {
+            Mark::Before(back) => Mark::Before(back.saturating_add(count)),
+            other => other,
+        },
+        is_general: slip.is_general,
+    }
 }
 
 // A `raise` that ends with a `;`.
@@ -381,9 +427,10 @@ fn single_byte_advice(byte: u8) -> &'static str {
         b'*' | b'/' | b'%' =>
             "There is no `*`, `/` or `%`. Multiply by shifts and sums, and divide by a loop.",
         b'"' | b'\'' => "There are no strings and no characters. Write their numbers, as 0x41.",
-        b'#' => "`##` joins layouts. A comment begins with `//`.",
+        b'#' => "`##` joins layouts. A comment begins with `//`, and there are no attributes.",
         b'?' => "There is no `? :`. Write `if (c) 1 else 2`.",
-        b'$' | b'@' => "A name has letters, digits and `_`.",
+        b'@' => "There are no annotations. A name has letters, digits and `_`.",
+        b'$' => "A name has letters, digits and `_`.",
         128..=255 => "Names and numbers are of ASCII. Only a comment may hold other bytes.",
         _ => "Take it out: only a comment may hold this byte.",
     }

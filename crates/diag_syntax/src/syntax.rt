@@ -1,5 +1,7 @@
 //! Why a text has no program.
 
+use crate::address::explain_address;
+use crate::alike::alike_at;
 use crate::expected::Expected;
 use crate::place::Place;
 use crate::slip::Mark;
@@ -57,8 +59,19 @@ fn explain_char(it: &mut Finding, bytes: &[u8], at: u32) {
     });
     it.code = Code::Named("syntax char");
     it.title.put("no token begins with ");
-    push_byte(&mut it.title, rest);
-    it.help.line(byte_advice(part(bytes, 0, at as usize), rest))
+    let front = part(bytes, 0, at as usize);
+    match alike_at(rest) {
+        Some(alike) if !front.is_empty() => {
+            it.title.quoted(alike.text.as_bytes());
+            it.title.put(", ");
+            it.title.put(alike.number);
+            it.help.line(alike.help)
+        }
+        _ => {
+            push_byte(&mut it.title, rest);
+            it.help.line(byte_advice(front, rest))
+        }
+    }
 }
 
 // Appends the first byte of a text: where it is a sign the sign, else its number.
@@ -103,10 +116,13 @@ fn explain_syntax(alloc: Global, it: &mut Finding, bytes: &[u8], at: u32) {
 // The same, with the tokens of the text.
 fn explain_token(alloc: Global, it: &mut Finding, bytes: &[u8], at: u32, found: &[Token]) {
     let place = Place::at(bytes, found, at as usize);
+    it.code = Code::Named("syntax syntax");
+    if explain_address(alloc, it, bytes, at as usize) {
+        return;
+    }
     let expected = Expected::at(alloc, &mut it.help, bytes, found, at as usize);
     let slip = slip_at(&place, &expected);
     it.span = Some(marked(&place, slip.mark));
-    it.code = Code::Named("syntax syntax");
     match slip.title {
         Some(title) => it.title.put(title),
         None => push_title(alloc, &mut it.title, &place, &expected),

@@ -62,6 +62,8 @@ struct Binding<'a> {
 pub struct Scope<'a> {
     seen: IndexMap<&'a Name, usize>,
     stack: Vec<Binding<'a>>,
+    // The names that were in sight.
+    gone: Vec<&'a Name>,
     is_short: bool,
 }
 
@@ -71,6 +73,7 @@ impl<'a> Scope<'a> {
         Scope {
             seen: IndexMap::new(alloc),
             stack: Vec::new(alloc),
+            gone: Vec::new(alloc),
             is_short: false,
         }
     }
@@ -116,6 +119,9 @@ impl<'a> Scope<'a> {
     fn forget(&mut self) {
         if let Some(newest) = self.stack.pop() {
             let name = newest.name;
+            if self.gone.push(name).is_err() {
+                self.is_short = true;
+            }
             match newest.hidden {
                 Some(t) => self.set(name, t),
                 None => {
@@ -123,6 +129,21 @@ impl<'a> Scope<'a> {
                 }
             }
         }
+    }
+
+    /// Whether a variable of this name was in sight.
+    pub fn was_bound(&self, name: &Name) -> bool {
+        for gone in self.gone.iter() {
+            if *gone == name {
+                return true;
+            }
+        }
+        false
+    }
+
+    /// No variable was in sight.
+    pub fn forget_gone(&mut self) {
+        self.gone.clear();
     }
 
     /// The names of the variables.

@@ -4,7 +4,7 @@ use crate::walk::{Shape, Walk};
 use diag_text::expected::{ExpectedType, Why};
 use diag_text::names::{add_all_names, add_names, stands_before};
 use diag_text::nearest::push_nearest;
-use diag_text::types::{Part, WORD};
+use diag_text::types::{Part, WORD, kind_of};
 use nv_ast::{Expr, Fun, Kind, Name, Pat, Span, TyText};
 use nv_base::Mem;
 
@@ -178,7 +178,12 @@ impl<'a> Walk<'a> {
             return;
         }
         let fields = self.types.fields_of(self.alloc, &mut self.note, record);
-        self.explain_twice(5, &fields)
+        self.explain_twice(5, &fields);
+        if self.inside == 0 {
+            self.advice = Some(
+                "The fields of joined layouts stand side by side. Give one of the layouts a name, as `eth ## { ip: ip }`: its fields are then `.ip.length`.",
+            );
+        }
     }
 
     // Appends the first name that stands twice.
@@ -186,6 +191,7 @@ impl<'a> Walk<'a> {
         for (n, name) in names.iter().enumerate() {
             if stands_before(names, n, name) {
                 self.inside = 0;
+                self.culprit = Some(*name);
                 return self.entitle("the name", name, " is given twice");
             }
         }
@@ -199,7 +205,11 @@ impl<'a> Walk<'a> {
         self.inside = 0;
         self.title.put("a gap has 1 to 1,024 bits, and this one ");
         self.title.number(u64::from(n));
-        self.advice = Some("Write several gaps, joined by `##`.")
+        self.advice = Some(if n == 0 {
+            "Leave it out."
+        } else {
+            "Write several gaps, joined by `##`."
+        })
     }
 
     /// 4: a field of a wrong size.
@@ -211,6 +221,9 @@ impl<'a> Walk<'a> {
         self.entitle("field", name, " has ");
         self.title.counted(u64::from(n), "bit");
         self.title.put(", and a field has 1 to 32");
+        if n == 0 {
+            self.advice = Some("A field without bits holds nothing: leave it out.");
+        }
         if n > 32 && n <= 64 {
             self.note_halves(name, n);
             self.advice = Some("");
@@ -326,6 +339,12 @@ impl<'a> Walk<'a> {
         if let Some(advice) = foreign_advice(name.bytes()) {
             self.advice = Some(advice);
         }
+        if self.scope.was_bound(name) {
+            self.advice = Some(
+                "What a block binds is known up to its end. Let the block give the value, as in `let y = (let x = 5; x + 1);`.",
+            );
+            return self.note_name(name, "is bound in a block or a handler that is over");
+        }
         let known = self.scope.names(self.alloc, &mut self.note);
         push_nearest(self.alloc, &mut self.note, name, &known)
     }
@@ -339,8 +358,42 @@ impl<'a> Walk<'a> {
         self.note_type("found", t);
         self.note.line(" before the dot");
         let fields = self.types.fields_of(self.alloc, &mut self.note, t);
+        if self.note_deeper(&fields, name) {
+            return;
+        }
+        if self.layouts.get(name).is_some() {
+            self.advice = Some(
+                "The fields of joined layouts stand side by side, without the layout's name. `{ ip: ip } ## ..` gives them one.",
+            );
+            return self.note_name(name, "is a layout, and no field");
+        }
         let names = self.names_of(&fields);
         push_nearest(self.alloc, &mut self.note, name, &names)
+    }
+
+    // Tells that a field of one of the fields has this name, and gives whether one has.
+    fn note_deeper(&mut self, fields: &[Part<'a>], name: &'a Name) -> bool {
+        for part in fields {
+            let inner = self.types.fields_of(self.alloc, &mut self.note, part.kind);
+            if let (Some(outer), true) = (part.name, kind_of(&inner, name).is_some()) {
+                self.note_path(outer, name);
+                self.advice = Some("");
+                return true;
+            }
+        }
+        false
+    }
+
+    // Appends how a field of a field is written.
+    fn note_path(&mut self, outer: &Name, name: &Name) {
+        self.note.quoted(name.bytes());
+        self.note.put(" is a field of ");
+        self.note.quoted(outer.bytes());
+        self.note.put(": write `.");
+        self.note.bytes(outer.bytes());
+        self.note.put(".");
+        self.note.bytes(name.bytes());
+        self.note.line("`.")
     }
 
     // The names of fields.
@@ -402,11 +455,24 @@ impl<'a> Walk<'a> {
     // 17: an unknown exception.
     fn explain_exception_name(&mut self, name: &'a Name) {
         self.entitle("no exception", name, " is declared above");
+        if self.layouts.get(name).is_some() {
+            self.advice = Some("An exception is declared by `exception E[word];`.");
+            return self.note_name(name, "is a layout, and no exception");
+        }
+        if self.functions.get(name).is_some() {
+            self.advice = Some("A call is `f[x]`, without `raise`.");
+            return self.note_name(name, "is a function, and no exception");
+        }
         push_nearest(self.alloc, &mut self.note, name, self.exceptions.names())
     }
 
     // 12: which function of a group calls which.
     fn explain_own_call(&mut self, name: &'a Name) {
+        if self.tries > 0 {
+            self.advice = Some(
+                "The block of a `try` isn't last, since its handler is left to do. Put the `try` round the first call of the loop, in a function of its own.",
+            );
+        }
         let current = self.current;
         let Some(caller) = current else {
             return;
@@ -482,7 +548,7 @@ impl<'a> Walk<'a> {
             16 => {
                 self.note_type("expected", t);
                 self.note.line(", as the value has");
-                self.advise_on_pattern(t);
+                self.advise_on_pattern(p, t);
                 self.note_parts(p, t)
             }
             _ => {}
@@ -490,7 +556,14 @@ impl<'a> Walk<'a> {
     }
 
     // 16: how the fields of a record are taken.
-    fn advise_on_pattern(&mut self, t: usize) {
+    fn advise_on_pattern(&mut self, p: &Pat, t: usize) {
+        if let (Pat::Tuple(ps), true) = (p, t == WORD) {
+            self.advice = Some(if ps.is_empty() {
+                "The value is a word: give it a name, as `let x = f[];`, or drop it by `let _ = f[];`."
+            } else {
+                "The value is one word: `let x = f[];`."
+            });
+        }
         if self.types.class_of(t).is_record() {
             self.advice = Some(
                 "A record is bound by one name, and a dot takes its fields: `let h = unpack[l](w); h.a`.",
@@ -526,7 +599,12 @@ impl<'a> Walk<'a> {
                     _ => "expected: 1 to 8 words",
                 };
                 self.note.line(expected);
-                self.note_number("found", words, "word")
+                self.note_number("found", words, "word");
+                if matches!(mem, Mem::Sdram) && words % 2 == 1 && words < 8 {
+                    self.advice = Some(
+                        "SDRAM moves pairs of words. Fetch one more and leave it out, as `let (x, _) = sdram[2](at);`, or store one more.",
+                    );
+                }
             }
             20 => self.explain_scratch(words, address),
             _ => {}

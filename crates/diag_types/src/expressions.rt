@@ -19,6 +19,7 @@ impl<'a> Walk<'a> {
         }
         self.current = Some(&fun.name);
         self.written.clear();
+        self.scope.forget_gone();
         let mark = self.scope.mark();
         self.bind_parameters(fun, function.params);
         let expected = ExpectedType::Typed(function.result, Why::Result(&fun.name));
@@ -287,7 +288,9 @@ impl<'a> Walk<'a> {
         let Kind::Try(body, exception, patterns, handler) = kind else {
             return ExprFacts::NONE;
         };
+        self.tries = self.tries.saturating_add(1);
         let tried = self.expr(ExpectedType::Anything, body);
+        self.tries = self.tries.saturating_sub(1);
         let mark = self.scope.mark();
         let known = self.exceptions.get(exception);
         let types = known.unwrap_or(WORD);

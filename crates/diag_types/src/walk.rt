@@ -70,6 +70,10 @@ pub struct Walk<'a> {
     told: Vec<Span>,
     /// The kind while the declaration that has the fault is walked, else 0.
     pub inside: u8,
+    /// In how many blocks of a `try` the walk is.
+    pub tries: u32,
+    /// The name that is given twice, where that is told.
+    pub culprit: Option<&'a Name>,
     /// Whether the fault is told, and nothing after it is walked.
     pub is_over: bool,
     /// A sentence on the fault, where more is known than the kind.
@@ -98,6 +102,8 @@ impl<'a> Walk<'a> {
             span,
             told: Vec::new(alloc),
             inside: 0,
+            tries: 0,
+            culprit: None,
             is_over: false,
             title: Message::new(alloc),
             note: Message::new(alloc),
