@@ -12,7 +12,7 @@ MOST = 8
 # Each file's word, what its pages are of, and the chapters that have them.
 FILES = {
     "type": ("the kinds of type faults", ["Types"]),
-    "source": ("the text faults, the sizes, the store and the banks", ["Text", "Sizes", "Store", "Banks"]),
+    "source": ("the text faults, the sizes, the store, the banks and the warnings", ["Text", "Sizes", "Store", "Banks", "Warnings"]),
     "input": ("the texts that aren't sources", ["Other texts"]),
     "status": ("the other statuses", ["Statuses"]),
 }

@@ -396,7 +396,7 @@ def as_made(top):
 
 TOLD = re.compile(r"^[|!] ((\w+)(?::(\d+):(\d+))?: (error|warning): (.*))$", re.M)
 SAMPLES = """\
-| s:3:7: warning: variable `x` is never used
+| s:3:7: warning: variable `x` is never used (unused)
 | s:1:24: error: no token begins with `:` (syntax char)
 | s: error: there is no function `main` (type 1)
 """
@@ -461,23 +461,29 @@ def man_as_made(top):
 
 # What a completion has to offer behind these words, of which the last is begun.
 COMPLETIONS = [
-    ("nova ", "build check explain fmt forms help list page run test version --help --version"),
+    ("nova ", "asm build check explain fmt forms help list mem page run test trace version --help --version"),
     ("nova b", "build"),
     ("nova build --s", "--slots --store"),
-    ("nova build -", "--budget --help --json --report --slots --store --weights -o"),
-    ("nova run -", "--budget --counts --help --profile --steps"),
-    ("nova check -", "--help --json --verbose"),
-    ("nova page -", "--budget --help --steps -o"),
-    ("nova fmt -", "--check --help"),
-    ("nova list -", "--budget --help"),
-    ("nova test -", "--budget --help --steps"),
+    ("nova build -", "--allow --budget --deny-warnings --help --json --report --slots --store --weights -o"),
+    ("nova run -", "--budget --counts --help --json --profile --steps"),
+    ("nova check -", "--allow --deny-warnings --help --json --verbose"),
+    ("nova page -", "--budget --help --json --steps -o"),
+    ("nova asm -", "--help --json -o"),
+    ("nova fmt -", "--check --help --json"),
+    ("nova list -", "--budget --help --json"),
+    ("nova test -", "--budget --case --help --interpret --json --junit --steps --tap --update"),
+    ("nova trace -", "--help --json --line --steps"),
     ("nova help l", "list"),
+    ("nova explain syntax n", "number name"),
+    ("nova run -- -", ""),
+    ("nova test --steps=", ""),
 ]
 
 
 def completion(top):
-    """The completion for bash offers the commands and the options of docs/COMMANDS.md."""
-    found = []
+    """The completions are as made; that for bash offers the commands and the options of docs/COMMANDS.md."""
+    made = module(top, "editors/complete").files().items()
+    found = [f"editors/{name} is to be written again by editors/complete" for name, text in made if read(top, f"editors/{name}") != text]
     for line, wanted in COMPLETIONS:
         words = line.split(" ")
         script = 'source "$1"; shift; COMP_WORDS=("$@"); COMP_CWORD=$(($# - 1)); _nova; printf "%s\\n" "${COMPREPLY[@]}"'
@@ -485,7 +491,7 @@ def completion(top):
         if sorted(ran.stdout.split()) != sorted(wanted.split()) or ran.stderr:
             found.append(f"{line!r}: {ran.stdout.split()} {ran.stderr}")
     text = read(top, "docs/COMMANDS.md")
-    told = {it for it in re.findall(r"^\| `(--?[a-z]+)[ `]", text, re.M)} | set(re.findall(r"`nova ([a-z]+)", text)) | set(re.findall(r"`nova (--[a-z]+)`", text))
+    told = {it for it in re.findall(r"^\| `(--?[a-z-]+)[ `]", text, re.M)} | set(re.findall(r"`nova ([a-z]+)", text)) | set(re.findall(r"`nova (--[a-z]+)`", text))
     offered = {it for _, wanted in COMPLETIONS for it in wanted.split()}
     return found + [f"docs/COMMANDS.md tells {it}, and no completion offers it" for it in sorted(told - offered)]
 

@@ -3,21 +3,23 @@
 ghost use Rattle.std.specs.Prelude.{◌≡◌, ◌≤◌, ℕ, IfSome};
 ghost use Rattle.nv_base.specs.Words.{compares};
 
+use crate::fields::field_bits;
+use crate::lint::Lint;
 use nv_ast::{Expr, Kind, Op, ShiftOp};
 use nv_base::Cmp;
 
 /// What a condition always is, where this is seen without running it.
-pub fn decided(e: &Expr) -> Option<bool> {
+pub fn decided<'a>(lint: &Lint<'a>, e: &'a Expr) -> Option<bool> {
     match &e.kind {
         Kind::Truth(b) => Some(*b),
-        Kind::Paren(inner) => decided(inner),
-        Kind::Negate(inner) => match decided(inner) {
+        Kind::Paren(inner) => decided(lint, inner),
+        Kind::Negate(inner) => match decided(lint, inner) {
             Some(b) => Some(!b),
             None => None,
         },
-        Kind::Binary(Op::Both, a, b) => one_of(decided(a), decided(b), false),
-        Kind::Binary(Op::Either, a, b) => one_of(decided(a), decided(b), true),
-        Kind::Binary(op, a, b) => compared(*op, a, b),
+        Kind::Binary(Op::Both, a, b) => one_of(decided(lint, a), decided(lint, b), false),
+        Kind::Binary(Op::Either, a, b) => one_of(decided(lint, a), decided(lint, b), true),
+        Kind::Binary(op, a, b) => compared(lint, *op, a, b),
         _ => None,
     }
 }
@@ -41,26 +43,26 @@ fn is_known_as(a: Option<bool>, value: bool) -> bool {
 }
 
 // A comparison: of a variable with itself, or of values with a number that they can't reach.
-fn compared(op: Op, a: &Expr, b: &Expr) -> Option<bool> {
+fn compared<'a>(lint: &Lint<'a>, op: Op, a: &'a Expr, b: &'a Expr) -> Option<bool> {
     match op {
-        Op::Eq => of_words(Cmp::Eq, a, b),
-        Op::Ne => of_words(Cmp::Ne, a, b),
-        Op::Lt => of_words(Cmp::Lt, a, b),
-        Op::Ge => of_words(Cmp::Ge, a, b),
-        Op::Gt => of_words(Cmp::Lt, b, a),
-        Op::Le => of_words(Cmp::Ge, b, a),
+        Op::Eq => of_words(lint, Cmp::Eq, a, b),
+        Op::Ne => of_words(lint, Cmp::Ne, a, b),
+        Op::Lt => of_words(lint, Cmp::Lt, a, b),
+        Op::Ge => of_words(lint, Cmp::Ge, a, b),
+        Op::Gt => of_words(lint, Cmp::Lt, b, a),
+        Op::Le => of_words(lint, Cmp::Ge, b, a),
         _ => None,
     }
 }
 
-fn of_words(cmp: Cmp, a: &Expr, b: &Expr) -> Option<bool> {
+fn of_words<'a>(lint: &Lint<'a>, cmp: Cmp, a: &'a Expr, b: &'a Expr) -> Option<bool> {
     if is_same(a, b) {
         return Some(cmp.holds(0, 0));
     }
     match (number(a), number(b)) {
         (Some(x), Some(y)) => Some(cmp.holds(x, y)),
-        (None, Some(y)) => to_number(cmp, most(a), y),
-        (Some(x), None) => from_number(cmp, x, most(b)),
+        (None, Some(y)) => to_number(cmp, most(lint, a), y),
+        (Some(x), None) => from_number(cmp, x, most(lint, b)),
         (None, None) => None,
     }
 }
@@ -76,6 +78,8 @@ fn number(e: &Expr) -> Option<u32> {
     match &e.kind {
         Kind::Number(n) => Some(*n),
         Kind::Paren(inner) => number(inner),
+        // A value without itself.
+        Kind::Binary(Op::Xor | Op::Sub, a, b) if is_same(a, b) => Some(0),
         _ => None,
     }
 }
@@ -109,12 +113,16 @@ fn from_number(cmp: Cmp, x: u32, most: u32) -> Option<bool>
 }
 
 // A number that a word can't be above.
-fn most(e: &Expr) -> u32 {
+fn most<'a>(lint: &Lint<'a>, e: &'a Expr) -> u32 {
     match &e.kind {
         Kind::Number(n) => *n,
-        Kind::Paren(inner) => most(inner),
-        Kind::Binary(Op::And, a, b) => most(a).min(most(b)),
-        Kind::Shift(ShiftOp::Right, inner, n) if *n < 32 => most(inner) >> *n,
+        Kind::Paren(inner) => most(lint, inner),
+        Kind::Binary(Op::And, a, b) => most(lint, a).min(most(lint, b)),
+        Kind::Shift(ShiftOp::Right, inner, n) if *n < 32 => most(lint, inner) >> *n,
+        Kind::Dot(_, _) => match field_bits(lint, e) {
+            Some(n) if n < 32 => (1u32 << n).wrapping_sub(1),
+            _ => u32::MAX,
+        },
         _ => u32::MAX,
     }
 }

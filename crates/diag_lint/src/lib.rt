@@ -2,7 +2,9 @@
 //! nobody uses, and conditions that are always one way.
 #![tactic(auto)]
 
+mod access;
 mod conditions;
+mod fields;
 mod lint;
 mod packing;
 mod uses;
@@ -10,4 +12,4 @@ mod walk;
 mod warning;
 mod warnings;
 
-pub use warnings::push_warnings_as;
+pub use warnings::{WARNING_NAMES, push_warnings_as, unknown_warning};

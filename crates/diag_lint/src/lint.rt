@@ -13,6 +13,8 @@ struct Bound<'a> {
     span: Span,
     // The number of the read that gives it its value.
     read: Option<usize>,
+    // The layout whose fields its value has.
+    layout: Option<&'a LayoutText>,
 }
 
 // Whether a word of a read is used, or there is a warning that none is.
@@ -36,6 +38,11 @@ pub struct Lint<'a> {
     pub current: Option<&'a Name>,
     /// The number of the read whose words are bound.
     pub read: Option<usize>,
+    /// The layout whose fields the value has that is bound.
+    pub layout: Option<&'a LayoutText>,
+    /// The calls of the function by itself with the arguments that it was given, while its body has no access and no other call.
+    pub idle: Vec<Span>,
+    pub is_idle: bool,
     // The number of the newest variable of each name.
     scope: Scope<'a>,
     variables: Vec<Bound<'a>>,
@@ -59,6 +66,9 @@ impl<'a> Lint<'a> {
             calls: Vec::new(alloc),
             current: None,
             read: None,
+            layout: None,
+            idle: Vec::new(alloc),
+            is_idle: true,
             scope: Scope::new(alloc),
             variables: Vec::new(alloc),
             used: Vec::new(alloc),
@@ -108,13 +118,45 @@ impl<'a> Lint<'a> {
 
     fn function(&mut self, fun: &'a Fun) {
         self.current = Some(&fun.name);
+        self.idle.clear();
+        self.is_idle = true;
         self.text(&fun.result);
         for param in fun.params.iter() {
             self.text(&param.1);
             self.bind(Cause::Parameter(&param.0), &param.0, fun.span);
         }
         self.expr(&fun.body);
+        self.warn_of_idle();
         self.leave(0)
+    }
+
+    // Warns of the calls that never end.
+    fn warn_of_idle(&mut self) {
+        if self.is_idle {
+            for n in 0..self.idle.len() {
+                if let Some(span) = self.idle.get(n).copied() {
+                    self.warn(Cause::Endless, span);
+                }
+            }
+        }
+    }
+
+    /// Whether a name is that of the parameter of a number, which nothing hides.
+    pub fn is_parameter(&self, name: &'a Name, number: usize) -> bool {
+        let is_first = match self.variables.get(number) {
+            Some(bound) => matches!(bound.cause, Cause::Parameter(_)),
+            None => false,
+        };
+        is_first && self.scope.get(name) == Some(number)
+    }
+
+    /// The layout whose fields a variable has.
+    pub fn layout_of(&self, name: &'a Name) -> Option<&'a LayoutText> {
+        let n = self.scope.get(name)?;
+        match self.variables.get(n) {
+            Some(bound) => bound.layout,
+            None => None,
+        }
     }
 
     /// One more warning.
@@ -126,12 +168,20 @@ impl<'a> Lint<'a> {
     pub fn bind(&mut self, cause: Cause<'a>, name: &'a Name, span: Span) {
         let is_used = starts_with_underscore(name);
         let read = self.read;
+        let layout = self.layout;
         if is_used {
             self.use_read(read);
         }
         self.scope.bind(name, self.variables.len());
-        self.note
-            .keep(&mut self.variables, Bound { cause, span, read });
+        self.note.keep(
+            &mut self.variables,
+            Bound {
+                cause,
+                span,
+                read,
+                layout,
+            },
+        );
         self.note.keep(&mut self.used, is_used)
     }
 

@@ -1,11 +1,13 @@
 //! Expressions, patterns and types in a walk.
 
+use crate::access::is_past_end;
 use crate::conditions::decided;
 use crate::lint::Lint;
 use crate::packing::wide_fields;
 use crate::warning::{Call, Cause};
 use diag_text::names::add_names;
 use nv_ast::{Expr, FieldText, Kind, LayoutText, Name, Pat, Span, Stmt, TyText};
+use nv_base::Mem;
 
 impl<'a> Lint<'a> {
     /// The layouts that a type names.
@@ -72,7 +74,12 @@ impl<'a> Lint<'a> {
             Kind::Var(x) => self.use_variable(x),
             Kind::Paren(inner) | Kind::Dot(inner, _) | Kind::Invert(inner) | Kind::Negate(inner) =>
                 self.expr(inner),
-            Kind::Shift(_, inner, _) | Kind::Fetch(_, _, inner) => self.expr(inner),
+            Kind::Shift(_, inner, _) => self.expr(inner),
+            Kind::Fetch(mem, n, inner) => {
+                self.is_idle = false;
+                self.warn_if_past(*mem, u64::from(*n), inner);
+                self.expr(inner)
+            }
             Kind::Tuple(es) => self.exprs(es),
             Kind::Fields(es) => self.record(es),
             Kind::Binary(_, a, b) => {
@@ -118,8 +125,31 @@ impl<'a> Lint<'a> {
                 span,
             };
             self.note.keep(&mut self.calls, call);
+            if caller != callee {
+                self.is_idle = false;
+            } else if self.are_parameters(es) {
+                self.note.keep(&mut self.idle, span);
+            }
         }
         self.exprs(es)
+    }
+
+    // Whether arguments are the parameters in order.
+    fn are_parameters(&self, es: &'a [Expr]) -> bool {
+        for (n, e) in es.iter().enumerate() {
+            match &e.kind {
+                Kind::Var(x) if self.is_parameter(x, n) => {}
+                _ => return false,
+            }
+        }
+        true
+    }
+
+    // Warns of an access behind the end of every memory.
+    fn warn_if_past(&mut self, mem: Mem, words: u64, address: &'a Expr) {
+        if is_past_end(mem, words, address) {
+            self.warn(Cause::Past(mem), address.span);
+        }
     }
 
     #[cycle(walk)]
@@ -143,7 +173,7 @@ impl<'a> Lint<'a> {
     }
 
     fn warn_if_decided(&mut self, condition: &'a Expr) {
-        if let Some(is_true) = decided(condition) {
+        if let Some(is_true) = decided(self, condition) {
             self.warn(Cause::Condition(is_true), condition.span);
         }
     }
@@ -186,7 +216,9 @@ impl<'a> Lint<'a> {
                 self.expr(e);
                 self.binding(p, e, *span)
             }
-            Stmt::Store(_, address, e, _) => {
+            Stmt::Store(mem, address, e, _) => {
+                self.is_idle = false;
+                self.warn_if_past(*mem, 1, address);
                 self.expr(address);
                 self.expr(e)
             }
@@ -202,11 +234,15 @@ impl<'a> Lint<'a> {
         if let Kind::Fetch(_, _, _) = &e.kind {
             self.begin_read(e.span);
         }
+        if let (Pat::Name(_), Kind::Unpack(l, _)) = (p, &e.kind) {
+            self.layout = self.layouts.get(l);
+        }
         let count = self.pattern(p, head);
         match self.read {
             Some(n) if count == 0 => self.warn_of_read(n),
             _ => {}
         }
+        self.layout = None;
         self.read = None
     }
 

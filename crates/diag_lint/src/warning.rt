@@ -1,6 +1,7 @@
 //! A warning.
 
 use nv_ast::{Name, Span};
+use nv_base::Mem;
 
 /// What a warning is about.
 #[derive(Clone, Copy)]
@@ -21,6 +22,10 @@ pub enum Cause<'a> {
     Read,
     /// A condition that is always one way.
     Condition(bool),
+    /// A call of a function by itself, with the arguments that it was given.
+    Endless,
+    /// An access behind the end of the largest memory.
+    Past(Mem),
 }
 
 /// What a warning is about, and where; of a name, the stretch of the source in which it is first.
@@ -28,6 +33,24 @@ pub enum Cause<'a> {
 pub struct Warning<'a> {
     pub cause: Cause<'a>,
     pub span: Span,
+}
+
+impl<'a> Cause<'a> {
+    /// The name by which it is explained and left out.
+    pub fn code(self) -> &'static str {
+        match self {
+            Cause::Variable(_)
+            | Cause::Parameter(_)
+            | Cause::Function(_)
+            | Cause::Exception(_)
+            | Cause::Layout(_) => "unused",
+            Cause::Wide(_, _, _) => "wide",
+            Cause::Read => "read",
+            Cause::Condition(_) => "condition",
+            Cause::Endless => "endless",
+            Cause::Past(_) => "address",
+        }
+    }
 }
 
 /// A call of a function in another one.

@@ -5,9 +5,10 @@ use crate::warning::{Call, Cause, Warning};
 use diag_source::Checked;
 use diag_source::sizes::main_cost;
 use diag_syntax::place::Place;
-use diag_text::finding::{Finding, Form, Severity, Source};
+use diag_text::finding::{Code, Finding, Form, Severity, Source};
 use diag_types::Walk;
 use nv_ast::{Name, Program, Span};
+use nv_base::Mem;
 use nv_lines::Message;
 use nv_text::Token;
 use std::alloc::Global;
@@ -18,16 +19,25 @@ struct Text<'n, 's, 't> {
     source: Source<'n, 's>,
     tokens: &'t [Token],
     form: Form,
+    allowed: &'n str,
 }
 
-/// Appends the warnings of a source without a fault in a form, in the order of their places, and gives how many there are.
-pub fn push_warnings_as(alloc: Global, out: &mut Message, form: Form, it: &Checked) -> usize {
+/// Appends the warnings of a source without a fault in a form, in the order of their places, and gives how many there are. Those of
+/// some names, with commas between them, are left out.
+pub fn push_warnings_as(
+    alloc: Global,
+    out: &mut Message,
+    form: Form,
+    it: &Checked,
+    allowed: &str,
+) -> usize {
     match it.typed() {
         Some(typed) => {
             let text = Text {
                 source: it.source,
                 tokens: &it.tokens,
                 form,
+                allowed,
             };
             push_lint(alloc, out, text, typed.program())
         }
@@ -52,9 +62,57 @@ fn push_all<'a>(
 ) -> usize {
     lint.program(program);
     out.fail_if(lint.is_short());
-    push_sorted(alloc, out, text, &lint.warnings);
-    let is_large = push_size(alloc, out, text, lint, program);
-    lint.warnings.len().saturating_add(usize::from(is_large))
+    let mut told = Vec::new(alloc);
+    for warning in lint.warnings.iter() {
+        if !is_allowed(text.allowed, warning.cause.code()) {
+            out.keep(&mut told, *warning);
+        }
+    }
+    push_sorted(alloc, out, text, &told);
+    let is_large = !is_allowed(text.allowed, SIZE) && push_size(alloc, out, text, lint, program);
+    told.len().saturating_add(usize::from(is_large))
+}
+
+/// The names of warnings.
+pub const WARNING_NAMES: [&str; 7] = [
+    "unused",
+    "wide",
+    "read",
+    "condition",
+    "endless",
+    "address",
+    SIZE,
+];
+
+const SIZE: &str = "size";
+
+// Whether a name is one of those between commas.
+fn is_allowed(allowed: &str, code: &str) -> bool {
+    for name in allowed.split(',') {
+        if name == code {
+            return true;
+        }
+    }
+    false
+}
+
+fn is_warning(name: &str) -> bool {
+    for it in WARNING_NAMES.iter() {
+        if *it == name {
+            return true;
+        }
+    }
+    false
+}
+
+/// The first of some names, with commas between them, that no warning has.
+pub fn unknown_warning(allowed: &str) -> Option<&str> {
+    for name in allowed.split(',') {
+        if !is_warning(name) {
+            return Some(name);
+        }
+    }
+    None
 }
 
 // Warns of a program that is nearly too large, and gives whether it is.
@@ -103,6 +161,7 @@ const NEARLY_TOO_LARGE: u64 = 3072;
 fn push_large(alloc: Global, out: &mut Message, text: Text, span: Span, size: u64) {
     let mut it = Finding::new(alloc, Severity::Warning);
     it.span = Some(span);
+    it.code = Code::Named(SIZE);
     it.title.put("the expanded size is ");
     it.title.number(size);
     it.title
@@ -196,6 +255,7 @@ fn first_of(warnings: &[Warning], n: usize) -> u32 {
 fn push_warning(alloc: Global, out: &mut Message, text: Text, warning: Warning) {
     let mut it = Finding::new(alloc, Severity::Warning);
     it.span = Some(shown(text, warning));
+    it.code = Code::Named(warning.cause.code());
     push_cause(&mut it.title, warning.cause);
     push_advice(&mut it.help, warning.cause);
     it.push(alloc, out, text.form, text.source)
@@ -243,6 +303,11 @@ fn push_cause(out: &mut Message, cause: Cause) {
         Cause::Read => out.put("no word of this read is used"),
         Cause::Condition(true) => out.put("this condition always holds"),
         Cause::Condition(false) => out.put("this condition never holds"),
+        Cause::Endless => out.put(
+            "this call has the arguments of the function itself, so it never ends",
+        ),
+        Cause::Past(Mem::Sdram) => out.put("no SDRAM has this quadword"),
+        Cause::Past(_) => out.put("no SRAM has this word"),
     }
 }
 
@@ -268,6 +333,11 @@ fn push_advice(out: &mut Message, cause: Cause) {
         Cause::Variable(_) => out.line("Write `_` in its place, or begin its name with `_`."),
         Cause::Parameter(_) => out.line("Leave it out, or begin its name with `_`."),
         Cause::Wide(_, _, _) => out.line("The field takes its lowest bits alone."),
+        Cause::Endless => out.line("Count down or up, as in `go[n - 1]`."),
+        Cause::Past(Mem::Sdram) => out.line(
+            "A memory has at most 32,768 quadwords, and an address of SDRAM counts quadwords.",
+        ),
+        Cause::Past(_) => out.line("A memory has at most 65,536 words."),
         Cause::Read => out.line("It can only end the run by an address fault. Leave it out."),
         _ => {}
     }

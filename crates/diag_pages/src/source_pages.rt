@@ -2,9 +2,11 @@
 
 use crate::pages::{Page, page_among};
 
-/// The page of this name among those of the text faults, the sizes, the store and the banks.
+/// The page of this name among those of the text faults, the sizes, the store, the banks and the warnings.
 pub fn source_page(name: &[u8]) -> Option<&'static str> {
-    source_page_0(name).or(source_page_1(name))
+    source_page_0(name)
+        .or(source_page_1(name))
+        .or(source_page_2(name))
 }
 
 fn source_page_0(name: &[u8]) -> Option<&'static str> {
@@ -148,14 +150,6 @@ With status 8, `too large N` says one of four things (docs/COMMANDS.md). Of a so
 `ended 00000200`.
 "#,
             },
-        ],
-        name,
-    )
-}
-
-fn source_page_1(name: &[u8]) -> Option<&'static str> {
-    page_among(
-        &[
             Page {
                 name: "status 11",
                 text: r#"status 11, store
@@ -172,6 +166,14 @@ The code has LENGTH instructions, more than the N of `store=N`, or than 2,048.
     saved r: %any
 "#,
             },
+        ],
+        name,
+    )
+}
+
+fn source_page_1(name: &[u8]) -> Option<&'static str> {
+    page_among(
+        &[
             Page {
                 name: "store",
                 text: r#"status 11, store
@@ -262,6 +264,182 @@ The source above may end so with `slots=0 budget=1`, or with 9 where the search 
 `budget N` with status 10 is said by `compile`. All N branches of the search were used before a choice of banks was found. One may be possible or not.
 It comes only where more than 15 values are live at once, and more than there are slots. REPORT alone is saved, and `check` says `spent` of it.
 The source above may end so with `slots=0 budget=1`, or with 9 where the search needs no second branch. Give it slots, or a greater budget.
+"#,
+            },
+            Page {
+                name: "warnings",
+                text: r#"warnings, unused, wide, read, condition, endless, address, size
+
+Of a source without a fault `nova check SRC` and `nova build SRC` print warnings. A warning refuses nothing, unless `--deny-warnings` is given.
+`--allow unused,size` leaves out those of these names.
+
+| Name | Warning about | When |
+|---|---|---|
+| `unused` | a variable or a parameter | it is never used. A name that begins with `_` gives no warning. |
+| `unused` | a function | `main` reaches it by no call |
+| `unused` | an exception | no `raise` names it |
+| `unused` | a layout | no type, `unpack`, `pack` or other layout names it |
+| `wide` | a number that is packed | it needs more bits than its field has, so the field takes its lowest bits |
+| `read` | a fetch that a `let` binds | none of its words is used |
+| `condition` | the condition of an `if` | it is `true`, `false`, a comparison of a variable with itself, or of values with a number that they can't reach, such as `x >= 0`, `x & 3 == 4` or a field of 4 bits with 16, or made of such parts |
+| `endless` | a call of a function by itself | its arguments are the function's own, and the function neither accesses a memory nor calls another one |
+| `address` | an access | its address is a number behind the end of the largest memory |
+| `size` | the size | the expanded size is above 3,072, which is three quarters of the limit; the call in `main` is shown whose function makes most of it |
+"#,
+            },
+            Page {
+                name: "unused",
+                text: r#"warnings, unused, wide, read, condition, endless, address, size
+
+Of a source without a fault `nova check SRC` and `nova build SRC` print warnings. A warning refuses nothing, unless `--deny-warnings` is given.
+`--allow unused,size` leaves out those of these names.
+
+| Name | Warning about | When |
+|---|---|---|
+| `unused` | a variable or a parameter | it is never used. A name that begins with `_` gives no warning. |
+| `unused` | a function | `main` reaches it by no call |
+| `unused` | an exception | no `raise` names it |
+| `unused` | a layout | no type, `unpack`, `pack` or other layout names it |
+| `wide` | a number that is packed | it needs more bits than its field has, so the field takes its lowest bits |
+| `read` | a fetch that a `let` binds | none of its words is used |
+| `condition` | the condition of an `if` | it is `true`, `false`, a comparison of a variable with itself, or of values with a number that they can't reach, such as `x >= 0`, `x & 3 == 4` or a field of 4 bits with 16, or made of such parts |
+| `endless` | a call of a function by itself | its arguments are the function's own, and the function neither accesses a memory nor calls another one |
+| `address` | an access | its address is a number behind the end of the largest memory |
+| `size` | the size | the expanded size is above 3,072, which is three quarters of the limit; the call in `main` is shown whose function makes most of it |
+"#,
+            },
+        ],
+        name,
+    )
+}
+
+fn source_page_2(name: &[u8]) -> Option<&'static str> {
+    page_among(
+        &[
+            Page {
+                name: "wide",
+                text: r#"warnings, unused, wide, read, condition, endless, address, size
+
+Of a source without a fault `nova check SRC` and `nova build SRC` print warnings. A warning refuses nothing, unless `--deny-warnings` is given.
+`--allow unused,size` leaves out those of these names.
+
+| Name | Warning about | When |
+|---|---|---|
+| `unused` | a variable or a parameter | it is never used. A name that begins with `_` gives no warning. |
+| `unused` | a function | `main` reaches it by no call |
+| `unused` | an exception | no `raise` names it |
+| `unused` | a layout | no type, `unpack`, `pack` or other layout names it |
+| `wide` | a number that is packed | it needs more bits than its field has, so the field takes its lowest bits |
+| `read` | a fetch that a `let` binds | none of its words is used |
+| `condition` | the condition of an `if` | it is `true`, `false`, a comparison of a variable with itself, or of values with a number that they can't reach, such as `x >= 0`, `x & 3 == 4` or a field of 4 bits with 16, or made of such parts |
+| `endless` | a call of a function by itself | its arguments are the function's own, and the function neither accesses a memory nor calls another one |
+| `address` | an access | its address is a number behind the end of the largest memory |
+| `size` | the size | the expanded size is above 3,072, which is three quarters of the limit; the call in `main` is shown whose function makes most of it |
+"#,
+            },
+            Page {
+                name: "read",
+                text: r#"warnings, unused, wide, read, condition, endless, address, size
+
+Of a source without a fault `nova check SRC` and `nova build SRC` print warnings. A warning refuses nothing, unless `--deny-warnings` is given.
+`--allow unused,size` leaves out those of these names.
+
+| Name | Warning about | When |
+|---|---|---|
+| `unused` | a variable or a parameter | it is never used. A name that begins with `_` gives no warning. |
+| `unused` | a function | `main` reaches it by no call |
+| `unused` | an exception | no `raise` names it |
+| `unused` | a layout | no type, `unpack`, `pack` or other layout names it |
+| `wide` | a number that is packed | it needs more bits than its field has, so the field takes its lowest bits |
+| `read` | a fetch that a `let` binds | none of its words is used |
+| `condition` | the condition of an `if` | it is `true`, `false`, a comparison of a variable with itself, or of values with a number that they can't reach, such as `x >= 0`, `x & 3 == 4` or a field of 4 bits with 16, or made of such parts |
+| `endless` | a call of a function by itself | its arguments are the function's own, and the function neither accesses a memory nor calls another one |
+| `address` | an access | its address is a number behind the end of the largest memory |
+| `size` | the size | the expanded size is above 3,072, which is three quarters of the limit; the call in `main` is shown whose function makes most of it |
+"#,
+            },
+            Page {
+                name: "condition",
+                text: r#"warnings, unused, wide, read, condition, endless, address, size
+
+Of a source without a fault `nova check SRC` and `nova build SRC` print warnings. A warning refuses nothing, unless `--deny-warnings` is given.
+`--allow unused,size` leaves out those of these names.
+
+| Name | Warning about | When |
+|---|---|---|
+| `unused` | a variable or a parameter | it is never used. A name that begins with `_` gives no warning. |
+| `unused` | a function | `main` reaches it by no call |
+| `unused` | an exception | no `raise` names it |
+| `unused` | a layout | no type, `unpack`, `pack` or other layout names it |
+| `wide` | a number that is packed | it needs more bits than its field has, so the field takes its lowest bits |
+| `read` | a fetch that a `let` binds | none of its words is used |
+| `condition` | the condition of an `if` | it is `true`, `false`, a comparison of a variable with itself, or of values with a number that they can't reach, such as `x >= 0`, `x & 3 == 4` or a field of 4 bits with 16, or made of such parts |
+| `endless` | a call of a function by itself | its arguments are the function's own, and the function neither accesses a memory nor calls another one |
+| `address` | an access | its address is a number behind the end of the largest memory |
+| `size` | the size | the expanded size is above 3,072, which is three quarters of the limit; the call in `main` is shown whose function makes most of it |
+"#,
+            },
+            Page {
+                name: "endless",
+                text: r#"warnings, unused, wide, read, condition, endless, address, size
+
+Of a source without a fault `nova check SRC` and `nova build SRC` print warnings. A warning refuses nothing, unless `--deny-warnings` is given.
+`--allow unused,size` leaves out those of these names.
+
+| Name | Warning about | When |
+|---|---|---|
+| `unused` | a variable or a parameter | it is never used. A name that begins with `_` gives no warning. |
+| `unused` | a function | `main` reaches it by no call |
+| `unused` | an exception | no `raise` names it |
+| `unused` | a layout | no type, `unpack`, `pack` or other layout names it |
+| `wide` | a number that is packed | it needs more bits than its field has, so the field takes its lowest bits |
+| `read` | a fetch that a `let` binds | none of its words is used |
+| `condition` | the condition of an `if` | it is `true`, `false`, a comparison of a variable with itself, or of values with a number that they can't reach, such as `x >= 0`, `x & 3 == 4` or a field of 4 bits with 16, or made of such parts |
+| `endless` | a call of a function by itself | its arguments are the function's own, and the function neither accesses a memory nor calls another one |
+| `address` | an access | its address is a number behind the end of the largest memory |
+| `size` | the size | the expanded size is above 3,072, which is three quarters of the limit; the call in `main` is shown whose function makes most of it |
+"#,
+            },
+            Page {
+                name: "address",
+                text: r#"warnings, unused, wide, read, condition, endless, address, size
+
+Of a source without a fault `nova check SRC` and `nova build SRC` print warnings. A warning refuses nothing, unless `--deny-warnings` is given.
+`--allow unused,size` leaves out those of these names.
+
+| Name | Warning about | When |
+|---|---|---|
+| `unused` | a variable or a parameter | it is never used. A name that begins with `_` gives no warning. |
+| `unused` | a function | `main` reaches it by no call |
+| `unused` | an exception | no `raise` names it |
+| `unused` | a layout | no type, `unpack`, `pack` or other layout names it |
+| `wide` | a number that is packed | it needs more bits than its field has, so the field takes its lowest bits |
+| `read` | a fetch that a `let` binds | none of its words is used |
+| `condition` | the condition of an `if` | it is `true`, `false`, a comparison of a variable with itself, or of values with a number that they can't reach, such as `x >= 0`, `x & 3 == 4` or a field of 4 bits with 16, or made of such parts |
+| `endless` | a call of a function by itself | its arguments are the function's own, and the function neither accesses a memory nor calls another one |
+| `address` | an access | its address is a number behind the end of the largest memory |
+| `size` | the size | the expanded size is above 3,072, which is three quarters of the limit; the call in `main` is shown whose function makes most of it |
+"#,
+            },
+            Page {
+                name: "size",
+                text: r#"warnings, unused, wide, read, condition, endless, address, size
+
+Of a source without a fault `nova check SRC` and `nova build SRC` print warnings. A warning refuses nothing, unless `--deny-warnings` is given.
+`--allow unused,size` leaves out those of these names.
+
+| Name | Warning about | When |
+|---|---|---|
+| `unused` | a variable or a parameter | it is never used. A name that begins with `_` gives no warning. |
+| `unused` | a function | `main` reaches it by no call |
+| `unused` | an exception | no `raise` names it |
+| `unused` | a layout | no type, `unpack`, `pack` or other layout names it |
+| `wide` | a number that is packed | it needs more bits than its field has, so the field takes its lowest bits |
+| `read` | a fetch that a `let` binds | none of its words is used |
+| `condition` | the condition of an `if` | it is `true`, `false`, a comparison of a variable with itself, or of values with a number that they can't reach, such as `x >= 0`, `x & 3 == 4` or a field of 4 bits with 16, or made of such parts |
+| `endless` | a call of a function by itself | its arguments are the function's own, and the function neither accesses a memory nor calls another one |
+| `address` | an access | its address is a number behind the end of the largest memory |
+| `size` | the size | the expanded size is above 3,072, which is three quarters of the limit; the call in `main` is shown whose function makes most of it |
 "#,
             },
         ],

@@ -56,7 +56,7 @@ estimate: the source has hundreds of values live at hundreds of points. To have 
                 text: r#"status 6: a text
 
 `syntax WORD at BYTE` is said of a source (`syntax char`, `syntax number`, `syntax name`, `syntax syntax`, `syntax deep`).
-`syntax text line N` and `syntax label line N` are said of an assembly text.
+`syntax text line N` and `syntax label line N` are said of an assembly text. `nova asm` says what is wrong with the line.
 "#,
             },
         ],

@@ -10,8 +10,8 @@ const MARGIN: &str = "    ";
 const REACH: usize = 120;
 
 /// Appends the line where a span begins, and a line with carets under the span, as far as it stands on that line.
-/// Of a long line the part round the span's first byte.
-pub fn push_excerpt(out: &mut Message, bytes: &[u8], span: Span) {
+/// Of a long line the part round the span's first byte. The carets stand between two texts that may colour them.
+pub fn push_excerpt(out: &mut Message, bytes: &[u8], span: Span, colour: (&str, &str)) {
     let after = line_part_from(bytes, span);
     out.put(MARGIN);
     push_excerpt_line(out, bytes, span);
@@ -19,7 +19,9 @@ pub fn push_excerpt(out: &mut Message, bytes: &[u8], span: Span) {
     out.put(MARGIN);
     push_blank(out, line_part_before(bytes, span));
     let wide = span.after.saturating_sub(span.first) as usize;
+    out.put(colour.0);
     push_carets(out, wide.min(after.len()).max(1));
+    out.put(colour.1);
     out.put("\n")
 }
 

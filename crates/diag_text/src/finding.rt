@@ -10,6 +10,8 @@ use std::alloc::Global;
 pub enum Form {
     /// As a text: `SRC:LINE:COLUMN: error: ..`, the line with carets under the part, and what helps.
     Text,
+    /// The same, with colours for a terminal.
+    Coloured,
     /// As one line with an object of JSON.
     Json,
 }
@@ -17,15 +19,33 @@ pub enum Form {
 impl Form {
     /// Whether it is the text.
     pub fn is_text(self) -> bool {
-        matches!(self, Form::Text)
+        !matches!(self, Form::Json)
+    }
+
+    // What begins a part in a colour, and what ends it.
+    fn begin(self, severity: Severity) -> &'static str {
+        match (self, severity) {
+            (Form::Coloured, Severity::Error) => "\x1b[1;31m",
+            (Form::Coloured, Severity::Warning) => "\x1b[1;35m",
+            (Form::Coloured, Severity::Note) => "\x1b[1;36m",
+            _ => "",
+        }
+    }
+
+    fn end(self) -> &'static str {
+        match self {
+            Form::Coloured => "\x1b[0m",
+            _ => "",
+        }
     }
 }
 
-/// Whether a source is refused for what is found.
+/// Whether a source is refused for what is found, whether it may be a mistake, or neither.
 #[derive(Clone, Copy)]
 pub enum Severity {
     Error,
     Warning,
+    Note,
 }
 
 impl Severity {
@@ -33,6 +53,7 @@ impl Severity {
         match self {
             Severity::Error => "error",
             Severity::Warning => "warning",
+            Severity::Note => "note",
         }
     }
 }
@@ -97,12 +118,12 @@ impl Finding {
     /// Appends it in a form.
     pub fn push(&self, alloc: Global, out: &mut Message, form: Form, source: Source) {
         match form {
-            Form::Text => self.push_text(out, source),
+            Form::Text | Form::Coloured => self.push_text(out, form, source),
             Form::Json => self.push_object(alloc, out, source),
         }
     }
 
-    fn push_text(&self, out: &mut Message, source: Source) {
+    fn push_text(&self, out: &mut Message, form: Form, source: Source) {
         out.put(source.name);
         if let Some(span) = self.span {
             let at = span.first as usize;
@@ -112,13 +133,16 @@ impl Finding {
             out.number(column_of(source.bytes, at) as u64)
         }
         out.put(": ");
+        out.put(form.begin(self.severity));
         out.put(self.severity.name());
+        out.put(form.end());
         out.put(": ");
         out.message_text(&self.title);
         self.push_code(out);
         out.line("");
         if let Some(span) = self.span {
-            push_excerpt(out, source.bytes, span);
+            let colour = (form.begin(self.severity), form.end());
+            push_excerpt(out, source.bytes, span, colour);
         }
         out.message_text(&self.help)
     }

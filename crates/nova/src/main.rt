@@ -10,7 +10,7 @@ use nova_actions::{Ending, run};
 use nv_base::NoMemory;
 use nv_outside::{DiskFiles, StdSink};
 use std::env;
-use std::io::ErrorKind;
+use std::io::{ErrorKind, IsTerminal};
 use std::process::ExitCode;
 use std::rt::Env;
 
@@ -22,6 +22,7 @@ fn main(rt: HostRuntime) -> ExitCode {
             let mut out = StdSink::new(&rt);
             let errors = rt.stderr();
             let mut err = StdSink::new(&errors);
+            let is_coloured = errors.is_terminal() && !is_plain(&rt);
             run(
                 rt.alloc(),
                 &words,
@@ -29,11 +30,20 @@ fn main(rt: HostRuntime) -> ExitCode {
                 &mut folders,
                 &mut out,
                 &mut err,
+                is_coloured,
             )
         }
         Err(NoMemory) => Ending::Failed,
     };
     ExitCode::from(ending.code())
+}
+
+// Whether the environment asks for no colour.
+fn is_plain<R: Env + AllocGlobal>(rt: &R) -> bool {
+    match env::var(rt, "NO_COLOR") {
+        Ok(value) => !value.is_empty(),
+        Err(_) => false,
+    }
 }
 
 // The words of the command line without the program's name, or no words where they aren't all texts.

@@ -5,10 +5,11 @@ ghost use Rattle.nova_compile.specs.inner.Parts.{HasParts};
 ghost use Rattle.nova_words.specs.Limits.{AreInLimits};
 ghost use Rattle.zo_cert.specs.Report.{IsValidReport};
 
-use crate::check::fault_form;
+use crate::check::{check_allowed, push_warnings};
 use crate::compiled::{compile, object_in, save_report};
+use diag_source::Checked;
 use nova_compile::{Compiled, no_weights};
-use nova_show::{Answer, Counts, Ending, Saving, add_saving, counts_of, load};
+use nova_show::{Answer, Counts, Ending, Saving, add_saving, counts_of, load, output_name};
 use nova_words::Build;
 use novac_words::limits::{SOURCE_LIMIT, WEIGHTS_LIMIT};
 use nv_lines::Message;
@@ -30,9 +31,12 @@ pub fn build<F: Files>(
     requires { AreInLimits words }
     ensures { F.held files.new ≡ F.held files.old }
 {
-    answer.form = fault_form(words.is_json);
     let mut savings = Vec::new(alloc);
-    if let Some(object) = object_name(alloc, words, answer) {
+    if !check_allowed(alloc, words.warnings, answer) {
+        return savings;
+    }
+    let name = output_name(alloc, words.source, words.object, ".nova", ".obj", answer);
+    if let Some(object) = name {
         build_as(alloc, files, words, object.as_str(), &mut savings, answer);
         drop(object);
     }
@@ -58,27 +62,6 @@ fn build_as<F: Files>(
     };
     if let Some(weights) = weights_for(alloc, files, words, answer) {
         build_source(alloc, words, object, &source, &weights, savings, answer);
-    }
-}
-
-// The name of the object: that of the source with `.obj` in place of `.nova`, where the words don't say it.
-fn object_name(alloc: Global, words: Build, answer: &mut Answer) -> Option<String> {
-    let made = match words.object {
-        Some(name) => name.to_string(alloc),
-        None => match words.source.strip_suffix(".nova") {
-            Some(stem) => format!(in alloc; "{stem}.obj"),
-            None => {
-                let source = words.source;
-                format!(in alloc; "{source}.obj")
-            }
-        },
-    };
-    match made {
-        Ok(name) => Some(name),
-        Err(_) => {
-            answer.fail();
-            None
-        }
     }
 }
 
@@ -150,9 +133,21 @@ fn build_source(
     requires words { AreInLimits words }
     requires text { length source.now ≤ source_limit }
 {
-    if let Some(compiled) = compile(alloc, words, u64::MAX, source, weights, savings, answer) {
+    let found = compile(alloc, words, u64::MAX, source, weights, savings, answer);
+    let Some(compiled) = found else {
+        return;
+    };
+    if !is_denied(alloc, words, source, answer) {
         save_both(alloc, words, object, source, compiled, savings, answer);
     }
+}
+
+// Warns of a source, and gives whether that refuses it.
+fn is_denied(alloc: Global, words: Build, source: &[u8], answer: &mut Answer) -> bool {
+    let it = Checked::new(alloc, words.source, source);
+    let is_denied = push_warnings(alloc, &it, words.warnings, answer);
+    drop(it);
+    is_denied
 }
 
 // Saves report and object, and says what they are.
@@ -170,7 +165,7 @@ fn save_both(
 {
     let counts = counts_of(compiled.built.code.list());
     let mut text = Message::new(alloc);
-    push_summary(alloc, &mut text, &compiled.built.report, counts);
+    push_summary(alloc, &mut text, &compiled.built.report, counts, false);
     save_report(alloc, words, &compiled.built.report, savings, answer);
     if let Some(bytes) = object_in(alloc, source, compiled, answer) {
         push_text(object, words.report == Some("-"), &text, answer);
@@ -189,14 +184,20 @@ fn push_text(object: &str, has_report: bool, text: &Message, answer: &mut Answer
     }
 }
 
-/// Appends what code and banks come to.
-pub fn push_summary(alloc: Global, out: &mut Message, report: &Report, counts: Counts)
+/// Appends what code and banks come to. After a search in haste the cost isn't compared with the least.
+pub fn push_summary(
+    alloc: Global,
+    out: &mut Message,
+    report: &Report,
+    counts: Counts,
+    is_hasty: bool,
+)
     requires { IsValidReport report.now }
 {
     out.counted(counts.all, "instruction");
     out.put(", moves between banks cost ");
     out.number(cost(&report.z, &report.x));
-    push_verdict(alloc, out, report);
+    push_verdict(alloc, out, report, is_hasty);
     out.line("");
     out.put("  of these ");
     out.counted(counts.between, "move");
@@ -210,11 +211,12 @@ pub fn push_summary(alloc: Global, out: &mut Message, report: &Report, counts: C
 }
 
 // Whether a cheaper choice of banks is possible.
-fn push_verdict(alloc: Global, out: &mut Message, report: &Report)
+fn push_verdict(alloc: Global, out: &mut Message, report: &Report, is_hasty: bool)
     requires { IsValidReport report.now }
 {
     match report.verdict {
         Verdict::Optimal => out.put(", optimal"),
+        Verdict::Feasible if is_hasty => out.put(", maybe above the least"),
         Verdict::Feasible => push_above(alloc, out, report),
         Verdict::Infeasible | Verdict::Spent => {}
     }

@@ -13,7 +13,7 @@ use diag_text::finding::Code;
 use nova_back::Built;
 use nova_compile::{CompileError, Compiled, compile_text_within, no_weights, object_of};
 use nova_show::{Answer, Ending, Saving, add_saving};
-use nova_words::Build;
+use nova_words::{Build, Warnings};
 use nv_base::NoMemory;
 use nv_text::MOST_BYTES;
 use place_weights::Weights;
@@ -74,18 +74,15 @@ pub fn compile_within(
 
 // That a cheaper choice of banks may be there.
 fn push_unproved(name: &str, budget: Option<u32>, answer: &mut Answer) {
-    answer.err.put(name);
-    answer.err.put(": note: ");
-    match budget {
-        Some(branches) => {
-            answer
-                .err
-                .put("the search for banks made all its branches, ");
-            answer.err.number(u64::from(branches))
-        }
-        None => answer.err.put("compiled in haste"),
-    }
-    answer.err.line(": a cheaper choice of banks may be there (`--budget N` allows N branches)")
+    answer.note(
+        name,
+        match budget {
+            Some(_) =>
+                "the search for banks made all its branches: a cheaper choice may be there (`--budget N` allows more)",
+            None =>
+                "compiled in haste: a cheaper choice of banks may be there (`--budget N` searches for it)",
+        },
+    )
 }
 
 // A search of so many branches does all that it can beside them.
@@ -93,6 +90,18 @@ fn work_for(budget: Option<u32>) -> u64 {
     match budget {
         Some(_) => u64::MAX,
         None => HASTY_WORK,
+    }
+}
+
+// The branches that are asked for, or those of a search in haste.
+fn branches_for(budget: Option<u32>) -> u32
+    requires { IsBudget budget }
+    ensures some { 1 ≤ result }
+    ensures most { result ≤ 1000000 }
+{
+    match budget {
+        Some(branches) => branches,
+        None => HASTY_BUDGET,
     }
 }
 
@@ -107,12 +116,12 @@ fn words_for(name: &str, budget: Option<u32>) -> Build<'_>
         report: None,
         weights: None,
         slots: SLOTS,
-        budget: match budget {
-            Some(branches) => branches,
-            None => HASTY_BUDGET,
-        },
+        budget: branches_for(budget),
         store: STORE,
-        is_json: false,
+        warnings: Warnings {
+            are_denied: false,
+            allowed: None,
+        },
     }
 }
 

@@ -12,8 +12,8 @@ use flow_merge::merge_labels;
 use nova_forms_print::{Page, print_cps, print_flat, print_flow, print_measures, print_single_use};
 use nova_front::{FrontError, front};
 use nova_middle::{last_flow, middle};
-use nova_show::{Answer, Ending, load};
-use nova_words::Forms;
+use nova_show::{Answer, Ending, load, push_nearest};
+use nova_words::{Forms, nearest_among};
 use nv_base::NoMemory;
 use nv_outside::Files;
 use nv_text::MOST_BYTES;
@@ -57,21 +57,34 @@ pub fn print_forms<F: Files>(alloc: Global, files: &mut F, words: Forms, answer:
         Some(name) => form_named(name),
     };
     let Some(wanted) = wanted else {
-        return push_no_form(words.form, answer);
+        return push_no_form(alloc, words.form, answer);
     };
     if let Some(bytes) = load(alloc, files, words.source, MOST, answer) {
         push_forms(alloc, words.source, &bytes, wanted, answer);
     }
 }
 
-fn push_no_form(name: Option<&str>, answer: &mut Answer) {
-    answer.ending = Ending::BadWords;
-    answer.err.put("nova: error: there is no form ");
+const FORM_NAMES: [&str; 8] = [
+    "flat",
+    "lowered",
+    "inlined",
+    "closed",
+    "contracted",
+    "simplified",
+    "single",
+    "measures",
+];
+
+fn push_no_form(alloc: Global, name: Option<&str>, answer: &mut Answer) {
+    let mut it = answer.finding();
+    it.title.put("there is no form ");
     if let Some(name) = name {
-        answer.err.quoted(name.as_bytes());
+        it.title.quoted(name.as_bytes());
+        let _ = push_nearest(&mut it.title, nearest_among(alloc, &FORM_NAMES, name));
     }
-    answer.err.line("");
-    answer.err.line("`nova help forms` names them.")
+    it.help.line("`nova help forms` names them.");
+    answer.push("nova", it);
+    answer.ending = Ending::BadWords
 }
 
 fn push_forms(alloc: Global, name: &str, bytes: &[u8], wanted: PrintedForms, answer: &mut Answer) {

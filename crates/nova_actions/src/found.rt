@@ -35,6 +35,23 @@ pub fn folder_at<'a, D: Folders>(
     }
 }
 
+/// The folder of this path, where there is one that can be read.
+pub fn folder_if<'a, D: Folders>(
+    alloc: Global,
+    folders: &mut D,
+    path: &'a str,
+    answer: &mut Answer,
+) -> Option<Folder<'a>> {
+    match folders.names(alloc, path) {
+        Ok(names) => sorted(path, names, answer),
+        Err(FolderError::NoMemory) => {
+            answer.fail();
+            None
+        }
+        Err(FolderError::Unread) => None,
+    }
+}
+
 fn sorted<'a>(path: &'a str, names: Vec<String>, answer: &mut Answer) -> Option<Folder<'a>> {
     let mut names = names;
     if names.sort().is_err() {
@@ -121,6 +138,11 @@ pub fn case_of(name: &str) -> Option<&str> {
         Some(base) => Some(base),
         None => name.strip_suffix(".nmem"),
     }
+}
+
+/// Whether a name of a memory text is this one, with or without its ending.
+pub fn is_case(name: &str, case: &str) -> bool {
+    name == case || case_of(name) == Some(case)
 }
 
 /// A path as that of its folder, which is empty where it has none, and the name in it.

@@ -18,6 +18,7 @@ use nova_page::{
 };
 use nova_show::{
     Answer, Ending, MemoryText, Saving, add_saving, counts_of, list_object, load, load_memory,
+    output_name,
 };
 use nova_words::{Page, Run};
 use novac_words::limits::{MEMORY_LIMIT, SOURCE_LIMIT};
@@ -39,30 +40,12 @@ pub fn make_page<F: Files>(
     ensures held { F.held files.new ≡ F.held files.old }
 {
     let mut savings = Vec::new(alloc);
-    if let Some(name) = page_name(alloc, words, answer) {
+    let name = output_name(alloc, words.source, words.output, ".nova", ".html", answer);
+    if let Some(name) = name {
         page_as(alloc, files, words, name.as_str(), &mut savings, answer);
         drop(name);
     }
     savings
-}
-
-// The name of the page: that of the source with `.html` in place of `.nova`, where the words don't say it.
-fn page_name(alloc: Global, words: &Page, answer: &mut Answer) -> Option<String> {
-    let source = words.source;
-    let made = match words.output {
-        Some(name) => name.to_string(alloc),
-        None => match source.strip_suffix(".nova") {
-            Some(stem) => format!(in alloc; "{stem}.html"),
-            None => format!(in alloc; "{source}.html"),
-        },
-    };
-    match made {
-        Ok(name) => Some(name),
-        Err(_) => {
-            answer.fail();
-            None
-        }
-    }
 }
 
 fn page_as<F: Files>(
@@ -150,7 +133,7 @@ fn page_on(
         return;
     };
     let mut page = Message::new(alloc);
-    push_head(alloc, &mut page, words.source, source, &compiled, answer);
+    push_head(alloc, &mut page, words, source, &compiled, answer);
     push_names(alloc, &mut page, words);
     push_traces(alloc, &mut page, words, &compiled.typed, memories);
     let Some(object) = object_in(alloc, source, compiled, answer) else {
@@ -186,19 +169,26 @@ fn add_page(
 fn push_head(
     alloc: Global,
     page: &mut Message,
-    name: &str,
+    words: &Page,
     source: &[u8],
     compiled: &Compiled,
     answer: &mut Answer,
 )
     requires parts { HasParts compiled.now }
 {
+    let name = words.source;
     push_page_head(page);
     push_page_block(page, "name", name.as_bytes());
     push_page_block(page, "source", source);
     let mut summary = Message::new(alloc);
     let counts = counts_of(compiled.built.code.list());
-    push_summary(alloc, &mut summary, &compiled.built.report, counts);
+    push_summary(
+        alloc,
+        &mut summary,
+        &compiled.built.report,
+        counts,
+        words.budget.is_none(),
+    );
     push_text(page, "summary", 0, summary);
     let mut sizes = Message::new(alloc);
     push_typed_sizes(alloc, &mut sizes, name, &compiled.typed);
@@ -297,7 +287,7 @@ fn push_run(
     }
     let mut ran = Answer::new(alloc);
     let mut none = Vec::new(alloc);
-    run_object(alloc, run, object, memory, &mut none, &mut ran);
+    let _ = run_object(alloc, run, object, memory, &mut none, &mut ran);
     drop(none);
     let (_, out, err) = ran.into_parts();
     let is_refused = out.is_empty();

@@ -4,15 +4,19 @@ ghost use Rattle.novac_words.specs.Limits.{object_limit, memory_limit};
 ghost use Rattle.nova_words.specs.Limits.{IsBudget};
 
 use crate::compiled::object_of_source;
+use diag_text::finding::{Severity, Source};
 use nova_show::{
-    Answer, Ending, MemoryText, Saving, Visits, load, load_memory, push_profile, push_run_refusal,
-    save_counts, visits_of,
+    Answer, Ending, MemoryText, Saving, Visits, load, load_memory, push_outside, push_profile,
+    push_run_refusal, save_counts, visits_of,
 };
+use nova_trace::last_place;
 use nova_words::Run;
 use novac_machine::run_bytes;
 use novac_words::limits::OBJECT_LIMIT;
 use novac_words::{Reply, Status};
+use nv_ast::Span;
 use nv_outside::Files;
+use nv_text::MOST_BYTES;
 use std::alloc::Global;
 use uc_object::{Object, decode};
 
@@ -53,9 +57,51 @@ fn simulate_on<F: Files>(
     let Some(memory) = load_memory(alloc, files, words.memory, answer) else {
         return;
     };
-    if let Some(object) = object_for(alloc, words, program, answer) {
-        run_object(alloc, words, &object, &memory, savings, answer);
+    if program.starts_with(b"NVO") {
+        let _ = run_object(alloc, words, &program, &memory, savings, answer);
+    } else {
+        run_source(alloc, words, &program, &memory, savings, answer);
     }
+}
+
+// Runs the code of a source, and shows where an access was outside of its memory.
+fn run_source(
+    alloc: Global,
+    words: Run,
+    source: &[u8],
+    memory: &MemoryText,
+    savings: &mut Vec<Saving>,
+    answer: &mut Answer,
+)
+    requires steps { words.steps ≤ 100000000 }
+    requires budget { IsBudget words.budget }
+    requires memory { length memory.now.text.items ≤ memory_limit }
+{
+    let Some(object) = object_of_source(alloc, words.program, words.budget, source, answer) else {
+        return;
+    };
+    let is_outside = run_object(alloc, words, &object, memory, savings, answer);
+    drop(object);
+    if is_outside && source.len() <= MOST_BYTES {
+        let calls = u64::from(words.steps);
+        if let Some(span) = last_place(alloc, source, &memory.text, calls) {
+            push_place(words.program, source, span, answer);
+        }
+    }
+}
+
+fn push_place(name: &str, source: &[u8], span: Span, answer: &mut Answer) {
+    let mut it = answer.finding();
+    it.severity = Severity::Note;
+    it.span = Some(span);
+    it.title.put("this access is outside of its memory");
+    answer.push_in(
+        Source {
+            name,
+            bytes: source,
+        },
+        it,
+    )
 }
 
 // Refuses to save over an input.
@@ -70,18 +116,8 @@ fn check_names(words: Run, answer: &mut Answer) -> bool {
     }
 }
 
-// The bytes of an object, which these are or which is that of the source that they are.
-fn object_for(alloc: Global, words: Run, bytes: Vec<u8>, answer: &mut Answer) -> Option<Vec<u8>>
-    requires { IsBudget words.budget }
-{
-    if bytes.starts_with(b"NVO") {
-        Some(bytes)
-    } else {
-        object_of_source(alloc, words.program, words.budget, &bytes, answer)
-    }
-}
-
-/// Runs the code of the object that the bytes are on a memory text, and says how many steps it took.
+/// Runs the code of the object that the bytes are on a memory text, and says how many steps it took. Gives whether an access was
+/// outside of its memory.
 pub fn run_object(
     alloc: Global,
     words: Run,
@@ -89,17 +125,20 @@ pub fn run_object(
     memory: &MemoryText,
     savings: &mut Vec<Saving>,
     answer: &mut Answer,
-)
+) -> bool
     requires steps { words.steps ≤ 100000000 }
     requires memory { length memory.now.text.items ≤ memory_limit }
 {
     if object.len() as u64 > OBJECT_LIMIT {
-        return answer.fault(words.program, "the object is too long");
+        answer.fault(words.program, "the object is too long");
+        return false;
     }
     match run_bytes(alloc, object, &memory.text, u64::from(words.steps)) {
         Ok(reply) => {
-            push_reply(reply, answer);
-            push_visits(alloc, words, object, &memory.text, savings, answer)
+            let is_outside = reply.status == Status::Fault;
+            push_reply(words, reply, answer);
+            push_visits(alloc, words, object, &memory.text, savings, answer);
+            is_outside
         }
         Err(refusal) => {
             let params = params_of(alloc, object);
@@ -111,7 +150,8 @@ pub fn run_object(
                 memory,
                 refusal,
                 answer,
-            )
+            );
+            false
         }
     }
 }
@@ -131,9 +171,10 @@ fn params_of(alloc: Global, object: &[u8]) -> Option<u8>
 }
 
 // The text of an outcome; only a run that ended is done.
-fn push_reply(reply: Reply, answer: &mut Answer) {
+fn push_reply(words: Run, reply: Reply, answer: &mut Answer) {
     let Reply { status, text } = reply;
     answer.out.bytes(&text);
+    push_outside(words.program, &text, answer);
     if status != Status::Done {
         answer.ending = Ending::Failed;
     }

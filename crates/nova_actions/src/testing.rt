@@ -6,10 +6,13 @@ ghost use Rattle.nova_words.specs.Limits.{IsBudget};
 use crate::compare::push_plain;
 use crate::compiled::{object_of_source, push_refused};
 use crate::folders::Folders;
-use crate::found::{Folder, case_of, folder_at, split_path};
+use crate::found::{Folder, case_of, folder_at, is_case, split_path};
 use crate::verdict::{Outcomes, push_verdict};
 use nova_front::{FrontError, typed};
-use nova_show::{Answer, Ending, MemoryText, load, load_memory, push_run_refusal};
+use nova_show::{
+    Answer, Ending, MemoryText, Saving, add_saving, load, load_memory, push_run_refusal,
+};
+use nova_test_report::Report;
 use nova_words::Test;
 use novac_machine::{exec_job, job_of, run_bytes};
 use novac_words::limits::{MEMORY_LIMIT, OBJECT_LIMIT, SOURCE_LIMIT};
@@ -20,61 +23,56 @@ use nv_lines::Message;
 use nv_outside::Files;
 use std::alloc::{AllocError, Global};
 
-// How many memory texts came to what they should, and how many did not.
-#[derive(Clone, Copy)]
-struct Tally {
-    passed: u64,
-    failed: u64,
-}
-
-impl Tally {
-    fn pass(&mut self) {
-        self.passed = self.passed.saturating_add(1);
-    }
-
-    fn miss(&mut self) {
-        self.failed = self.failed.saturating_add(1);
-    }
-}
-
 /// Runs sources on the memory texts beside them, by the interpreter and by their code, and compares what both print with each
-/// other and with the outcome text beside them.
+/// other and with the outcome text beside them. Gives the outcome texts that are to be saved.
 pub fn test<F: Files, D: Folders>(
     alloc: Global,
     files: &mut F,
     folders: &mut D,
     words: &Test,
     answer: &mut Answer,
-)
+) -> Vec<Saving>
     requires steps { words.now.steps ≤ 100000000 }
     requires budget { IsBudget words.now.budget }
     ensures held { F.held files.new ≡ F.held files.old }
 {
-    let mut tally = Tally {
-        passed: 0,
-        failed: 0,
+    let mut results = Results {
+        report: Report::new(alloc, words.report),
+        savings: Vec::new(alloc),
     };
     for path in words.paths.iter() {
-        test_path(alloc, files, folders, *path, words, &mut tally, answer);
+        test_path(alloc, files, folders, *path, words, &mut results, answer);
     }
-    push_tally(tally, answer)
+    let Results { report, savings } = results;
+    push_report(&report, words, answer);
+    drop(report);
+    savings
 }
 
-// The last line. No memory text at all is a fault too, since a wrong path would pass else.
-fn push_tally(tally: Tally, answer: &mut Answer) {
-    if tally.passed == 0 && tally.failed == 0 {
+// What came of the tests, and the outcome texts that are to be saved.
+#[derive(Drop)]
+struct Results {
+    report: Report,
+    savings: Vec<Saving>,
+}
+
+// No memory text at all is a fault too, since a wrong path would pass else.
+fn push_report(report: &Report, words: &Test, answer: &mut Answer) {
+    if report.is_empty() {
         answer.fault(
             "nova",
-            "no memory text `NAME*.mem` or `NAME*.nmem` was found beside a source `NAME.nova`",
+            match words.case {
+                None =>
+                    "no memory text `NAME*.mem` or `NAME*.nmem` was found beside a source `NAME.nova`",
+                Some(_) =>
+                    "no memory text of this name was found beside a source `NAME.nova` that it belongs to",
+            },
         );
     }
-    if tally.failed > 0 {
+    if report.failed() > 0 {
         answer.ending = Ending::Failed;
     }
-    answer.out.number(tally.passed);
-    answer.out.put(" passed, ");
-    answer.out.number(tally.failed);
-    answer.out.line(" failed")
+    report.push(&mut answer.out)
 }
 
 // A source, or each one of a folder.
@@ -84,7 +82,7 @@ fn test_path<F: Files, D: Folders>(
     folders: &mut D,
     path: &str,
     words: &Test,
-    tally: &mut Tally,
+    results: &mut Results,
     answer: &mut Answer,
 )
     requires steps { words.now.steps ≤ 100000000 }
@@ -94,11 +92,11 @@ fn test_path<F: Files, D: Folders>(
     if path.ends_with(".nova") {
         let (at, name) = split_path(path);
         if let Some(folder) = folder_at(alloc, folders, at, answer) {
-            test_source(alloc, files, &folder, name, words, tally, answer);
+            test_source(alloc, files, &folder, name, words, results, answer);
             drop(folder)
         }
     } else if let Some(folder) = folder_at(alloc, folders, path, answer) {
-        test_folder(alloc, files, &folder, words, tally, answer);
+        test_folder(alloc, files, &folder, words, results, answer);
         drop(folder)
     }
 }
@@ -108,7 +106,7 @@ fn test_folder<F: Files>(
     files: &mut F,
     folder: &Folder,
     words: &Test,
-    tally: &mut Tally,
+    results: &mut Results,
     answer: &mut Answer,
 )
     requires steps { words.now.steps ≤ 100000000 }
@@ -117,7 +115,7 @@ fn test_folder<F: Files>(
 {
     for name in folder.names.iter() {
         if name.as_str().ends_with(".nova") {
-            test_source(alloc, files, folder, name.as_str(), words, tally, answer);
+            test_source(alloc, files, folder, name.as_str(), words, results, answer);
         }
     }
 }
@@ -128,7 +126,7 @@ fn test_source<F: Files>(
     folder: &Folder,
     name: &str,
     words: &Test,
-    tally: &mut Tally,
+    results: &mut Results,
     answer: &mut Answer,
 )
     requires steps { words.now.steps ≤ 100000000 }
@@ -140,26 +138,41 @@ fn test_source<F: Files>(
     };
     let path = path.as_str();
     let Some(source) = load(alloc, files, path, SOURCE_LIMIT, answer) else {
-        return tally.miss();
+        return results.report.refuse(path);
     };
-    let Some(object) = object_of_source(alloc, path, words.budget, &source, answer) else {
-        return tally.miss();
+    let Some(object) = object_for(alloc, path, &source, words, answer) else {
+        return results.report.refuse(path);
     };
     let Some(typed) = typed_in(alloc, path, &source, answer) else {
-        return tally.miss();
+        return results.report.refuse(path);
     };
     let program = Program {
         path,
         typed: &typed,
         object: &object,
-        steps: words.steps,
     };
     if object.len() as u64 <= OBJECT_LIMIT {
-        test_program(alloc, files, folder, program, name, tally, answer)
+        test_program(alloc, files, folder, program, name, words, results, answer)
     } else {
-        tally.miss();
+        results.report.refuse(path);
         answer.fault(path, "the object is too long")
     }
+}
+
+// The object of a source; no byte where the interpreter alone runs.
+fn object_for(
+    alloc: Global,
+    path: &str,
+    source: &[u8],
+    words: &Test,
+    answer: &mut Answer,
+) -> Option<Vec<u8>>
+    requires budget { IsBudget words.now.budget }
+{
+    if words.is_interpreted {
+        return Some(Vec::new(alloc));
+    }
+    object_of_source(alloc, path, words.budget, source, answer)
 }
 
 // The typed program of a source.
@@ -179,13 +192,12 @@ fn typed_in(alloc: Global, path: &str, source: &[u8], answer: &mut Answer) -> Op
     }
 }
 
-// The program of a source, the object of its code, and the steps that each run may take.
+// The program of a source, and the object of its code.
 #[derive(Clone, Copy)]
 struct Program<'a> {
     path: &'a str,
     typed: &'a Typed,
     object: &'a [u8],
-    steps: u32,
 }
 
 fn test_program<F: Files>(
@@ -194,10 +206,11 @@ fn test_program<F: Files>(
     folder: &Folder,
     program: Program,
     name: &str,
-    tally: &mut Tally,
+    words: &Test,
+    results: &mut Results,
     answer: &mut Answer,
 )
-    requires steps { program.steps ≤ 100000000 }
+    requires steps { words.now.steps ≤ 100000000 }
     requires object { length program.object.now ≤ object_limit }
     ensures held { F.held files.new ≡ F.held files.old }
 {
@@ -205,32 +218,49 @@ fn test_program<F: Files>(
         Some(stem) => stem,
         None => name,
     };
-    push_lonely(alloc, folder, stem, tally, answer);
+    if words.case.is_none() {
+        push_lonely(alloc, folder, stem, results, answer);
+    }
     for memory in folder.names.iter() {
-        if folder.is_memory_of(stem, memory.as_str()) {
+        if folder.is_memory_of(stem, memory.as_str()) && is_asked(words, memory.as_str()) {
             test_memory(
                 alloc,
                 files,
                 folder,
                 program,
                 memory.as_str(),
-                tally,
+                words,
+                results,
                 answer,
             );
         }
     }
 }
 
+// Whether the words ask for a memory text.
+fn is_asked(words: &Test, name: &str) -> bool {
+    match words.case {
+        Some(case) => is_case(name, case),
+        None => true,
+    }
+}
+
 // Outcome texts without a memory text are faults.
-fn push_lonely(alloc: Global, folder: &Folder, stem: &str, tally: &mut Tally, answer: &mut Answer) {
+fn push_lonely(
+    alloc: Global,
+    folder: &Folder,
+    stem: &str,
+    results: &mut Results,
+    answer: &mut Answer,
+) {
     for name in folder.names.iter() {
         if folder.is_lonely(stem, name.as_str()) {
             if let Some(path) = folder.path_of(alloc, name.as_str(), answer) {
-                tally.miss();
-                answer.out.put(path.as_str());
-                answer.out.line(
-                    ": FAILED: no memory text `.mem` or `.nmem` of this name is beside the outcome text",
+                let mut reason = Message::new(alloc);
+                reason.line(
+                    "no memory text `.mem` or `.nmem` of this name is beside the outcome text",
                 );
+                results.report.fail(path.as_str(), reason);
                 drop(path)
             }
         }
@@ -244,10 +274,11 @@ fn test_memory<F: Files>(
     folder: &Folder,
     program: Program,
     name: &str,
-    tally: &mut Tally,
+    words: &Test,
+    results: &mut Results,
     answer: &mut Answer,
 )
-    requires steps { program.steps ≤ 100000000 }
+    requires steps { words.now.steps ≤ 100000000 }
     requires object { length program.object.now ≤ object_limit }
     ensures held { F.held files.new ≡ F.held files.old }
 {
@@ -256,10 +287,10 @@ fn test_memory<F: Files>(
     };
     let path = path.as_str();
     let Some(memory) = load_memory(alloc, files, path, answer) else {
-        return tally.miss();
+        return results.report.refuse(path);
     };
-    let Some((meant, done)) = outcomes_on(alloc, program, path, &memory, answer) else {
-        return tally.miss();
+    let Some((meant, done)) = outcomes_on(alloc, program, words, path, &memory, answer) else {
+        return results.report.refuse(path);
     };
     let expected = expected_of(alloc, files, folder, name, answer);
     let outcomes = Outcomes {
@@ -269,12 +300,33 @@ fn test_memory<F: Files>(
         },
         meant: &meant,
         done: &done,
-        steps: program.steps,
+        steps: words.steps,
+        is_updating: words.is_updating,
     };
-    if push_verdict(path, outcomes, answer) {
-        tally.pass()
-    } else {
-        tally.miss()
+    if push_verdict(alloc, path, outcomes, &mut results.report) {
+        save_outcome(alloc, path, &meant, results, answer);
+    }
+}
+
+// The outcome text beside a memory text is to hold this.
+fn save_outcome(
+    alloc: Global,
+    path: &str,
+    text: &[u8],
+    results: &mut Results,
+    answer: &mut Answer,
+) {
+    let stem = case_of(path).unwrap_or(path);
+    let made = format!(in alloc; "{stem}.out");
+    match (made, Vec::from_slice(alloc, text)) {
+        (Ok(name), Ok(bytes)) => add_saving(
+            alloc,
+            &mut results.savings,
+            name.as_str(),
+            bytes,
+            answer,
+        ),
+        _ => answer.fail(),
     }
 }
 
@@ -282,21 +334,36 @@ fn test_memory<F: Files>(
 fn outcomes_on(
     alloc: Global,
     program: Program,
+    words: &Test,
     path: &str,
     memory: &MemoryText,
     answer: &mut Answer,
 ) -> Option<(Vec<u8>, Vec<u8>)>
-    requires steps { program.steps ≤ 100000000 }
+    requires steps { words.now.steps ≤ 100000000 }
     requires object { length program.object.now ≤ object_limit }
     requires memory { length memory.now.text.items ≤ memory_limit }
 {
-    let steps = u64::from(program.steps);
-    let meant = reply_of(alloc, program, &memory.text);
+    let steps = u64::from(words.steps);
+    let meant = reply_of(alloc, program, steps, &memory.text);
     let meant = text_of(alloc, program, path, memory, meant, answer)?;
+    if words.is_interpreted {
+        return interpreted(alloc, meant, answer);
+    }
     let done = run_bytes(alloc, program.object, &memory.text, steps);
     let done = text_of(alloc, program, path, memory, done, answer)?;
     let done = plain_of(alloc, done, answer)?;
     Some((meant, done))
+}
+
+// The interpreter's outcome in the place of both.
+fn interpreted(alloc: Global, meant: Vec<u8>, answer: &mut Answer) -> Option<(Vec<u8>, Vec<u8>)> {
+    match Vec::from_slice(alloc, &meant) {
+        Ok(done) => Some((meant, done)),
+        Err(_) => {
+            answer.fail();
+            None
+        }
+    }
 }
 
 // An outcome text without the line that names an exception.
@@ -313,11 +380,15 @@ fn plain_of(alloc: Global, text: Vec<u8>, answer: &mut Answer) -> Option<Vec<u8>
 }
 
 // What the interpreter answers.
-fn reply_of<'a>(alloc: Global, program: Program, text: &[u8]) -> Result<Reply, Refusal<'a>>
+fn reply_of<'a>(
+    alloc: Global,
+    program: Program,
+    steps: u64,
+    text: &[u8],
+) -> Result<Reply, Refusal<'a>>
     requires memory { length text.now ≤ memory_limit }
 {
     let job = job_of(alloc, text, program.typed.params())?;
-    let steps = u64::from(program.steps);
     Ok(exec_job(alloc, program.typed, job, steps)?)
 }
 

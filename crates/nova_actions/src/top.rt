@@ -10,10 +10,13 @@ use crate::listing::list;
 use crate::page::make_page;
 use crate::simulation::simulate_program;
 use crate::testing::test;
+use diag_text::finding::Form;
 use nova_fmt_files::format_sources;
 use nova_show::{
     Answer, Ending, Saving, VERSION, print, push_help, push_page_on, push_word_fault, save_all,
 };
+use nova_texts::{assemble_file, show_memory};
+use nova_trace::trace;
 use nova_words::{Command, command_of};
 use nv_base::NoMemory;
 use nv_lines::Message;
@@ -21,7 +24,7 @@ use nv_outside::{Files, Sink};
 use std::alloc::Global;
 
 /// Does what the words of a command line say, which are those after the program's name. Prints on `out` what the command is
-/// asked for, and on `err` faults and remarks.
+/// asked for, and on `err` faults and remarks, which may be coloured.
 pub fn run<F: Files, D: Folders, K: Sink, E: Sink>(
     alloc: Global,
     words: &Vec<String>,
@@ -29,13 +32,31 @@ pub fn run<F: Files, D: Folders, K: Sink, E: Sink>(
     folders: &mut D,
     out: &mut K,
     err: &mut E,
+    is_coloured: bool,
 ) -> Ending
-    // Only `build`, `run`, `page` and `fmt` change files.
+    // Only `build`, `run`, `test`, `page`, `fmt` and `asm` change files.
     ensures { (MaySave words.now.items → ⊥) → F.held files.new ≡ F.held files.old }
 {
-    let mut answer = Answer::new(alloc);
+    let mut answer = Answer::in_form(alloc, form_of(words, is_coloured));
     let savings = savings_of(alloc, words, files, folders, &mut answer);
     finish(answer, &savings, files, out, err)
+}
+
+// How faults are printed: as objects where an option asks for that.
+fn form_of(words: &[String], is_coloured: bool) -> Form {
+    for word in words {
+        if word.as_str() == "--" {
+            break;
+        }
+        if word.as_str() == "--json" {
+            return Form::Json;
+        }
+    }
+    if is_coloured {
+        Form::Coloured
+    } else {
+        Form::Text
+    }
 }
 
 // Does what the words say, but for saving and printing.
@@ -78,16 +99,20 @@ fn perform<F: Files, D: Folders>(
             return savings;
         }
         Command::Format(words) => return format_sources(alloc, files, words, answer),
+        Command::Asm(words) => return assemble_file(alloc, files, words, answer),
+        Command::Mem(name) => show_memory(alloc, files, name, answer),
         Command::List(words) => list(alloc, files, words, answer),
         Command::Forms(words) => print_forms(alloc, files, words, answer),
         Command::Check(words) => {
-            check(alloc, files, &words, answer);
+            check(alloc, files, folders, &words, answer);
             drop(words)
         }
         Command::Test(words) => {
-            test(alloc, files, folders, &words, answer);
-            drop(words)
+            let savings = test(alloc, files, folders, &words, answer);
+            drop(words);
+            return savings;
         }
+        Command::Trace(words) => trace(alloc, files, words, answer),
         Command::Explain(words) => push_page_on(alloc, words, answer),
         Command::Help(verb) => push_help(&mut answer.out, verb),
         Command::Version => answer.out.line(VERSION),

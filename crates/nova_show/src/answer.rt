@@ -46,11 +46,18 @@ impl Answer {
     pub fn new(alloc: Global) -> Answer
         ensures { result.ending ≡ Ending.Done }
     {
+        Answer::in_form(alloc, Form::Text)
+    }
+
+    /// Nothing yet, of which faults are printed in this form.
+    pub fn in_form(alloc: Global, form: Form) -> Answer
+        ensures { result.ending ≡ Ending.Done }
+    {
         Answer {
             ending: Ending::Done,
             out: Message::new(alloc),
             err: Message::new(alloc),
-            form: Form::Text,
+            form,
             alloc,
         }
     }
@@ -58,6 +65,21 @@ impl Answer {
     /// A fault of which nothing is said yet.
     pub fn finding(&self) -> Finding {
         Finding::new(self.alloc, Severity::Error)
+    }
+
+    /// Appends what is no fault of a file, in one sentence.
+    pub fn note(&mut self, name: &str, text: &str)
+        ensures { self.new.ending ≡ self.old.ending }
+    {
+        let mut it = Finding::new(self.alloc, Severity::Note);
+        it.title.put(text);
+        it.push(
+            self.alloc,
+            &mut self.err,
+            self.form,
+            Source { name, bytes: b"" },
+        );
+        drop(it)
     }
 
     /// Appends a fault of a file.

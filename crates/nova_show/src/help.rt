@@ -22,9 +22,12 @@ pub fn push_help(out: &mut Message, verb: Option<Verb>) {
         Some(Verb::List) => push_lines(out, &LIST),
         Some(Verb::Check) => push_lines(out, &CHECK),
         Some(Verb::Test) => push_lines(out, &TEST),
+        Some(Verb::Trace) => push_lines(out, &TRACE),
         Some(Verb::Page) => push_lines(out, &PAGE),
         Some(Verb::Forms) => push_lines(out, &FORMS),
         Some(Verb::Format) => push_lines(out, &FORMAT),
+        Some(Verb::Asm) => push_lines(out, &ASM),
+        Some(Verb::Mem) => push_lines(out, &MEM),
         Some(Verb::Explain) => push_lines(out, &EXPLAIN),
         Some(Verb::Help) => out.line(
             "nova help [COMMAND]: prints the options of a command, or all commands.",
@@ -41,24 +44,28 @@ fn push_lines(out: &mut Message, lines: &[&str]) {
     }
 }
 
-const USAGE: [&str; 22] = [
+const USAGE: [&str; 26] = [
     "nova compiles, runs, tests and explains programs of Nova, a language for packets.",
     "",
     "  nova build SRC [-o OBJ] ..     compiles a source and saves its object",
     "  nova run OBJ-or-SRC MEM ..     runs an object, or the code of a source, on a memory text",
     "  nova list OBJ-or-SRC           lists code with its labels, moves and spills",
-    "  nova check SRC ..              prints where sources are refused, what may be wrong with them, and how large they are",
+    "  nova check SRC-or-FOLDER ..    prints where sources are refused, what may be wrong with them, and how large they are",
     "  nova test SRC-or-FOLDER ..     runs sources on the memory texts beside them, and compares the outcomes",
+    "  nova trace SRC MEM             prints which line of a source made each write, by which calls",
     "  nova page SRC [MEM..]          makes a page of HTML on a source and its code",
     "  nova forms SRC [FORM]          prints the forms between the source and its code",
     "  nova fmt SRC ..                formats sources: sets their blanks, and leaves tokens, comments and ends of lines",
+    "  nova asm TEXT [-o OBJ]         assembles an assembly text and saves its object",
+    "  nova mem MEM                   prints a memory text of a readable one, or the other way round",
     "  nova explain CODE              prints what a refusal means, as `nova explain type 14`",
     "  nova help [COMMAND]            prints the options of a command",
     "  nova --version                 prints the version",
     "",
     "Options come before or after names, as `--steps 100` or `--steps=100`; after `--` each word is a name.",
     "As an input `-` is the standard input, as an output the standard output; a file called `-` is written `./-`.",
-    "Faults go to the standard error, as `SRC:LINE:COLUMN: error: ..`.",
+    "Faults go to the standard error, as `SRC:LINE:COLUMN: error: ..`. With `--json` each is an object of JSON on a line.",
+    "On a terminal they are coloured, unless NO_COLOR is set.",
     "",
     "Status  0  done; of `run`, the run ended; of `test`, all passed",
     "        1  refused or failed; of `run`, an exception, a fault of an access, or all steps were taken",
@@ -66,11 +73,13 @@ const USAGE: [&str; 22] = [
     "`novac` is the compiler for programs that call it: its words, lines and statuses are fixed.",
 ];
 
-const BUILD: [&str; 16] = [
-    "nova build SRC [-o OBJ] [--report FILE] [--slots N] [--budget N] [--store N] [--weights FILE]",
+const BUILD: [&str; 20] = [
+    "nova build SRC [-o OBJ] [--report FILE] [--slots N] [--budget N] [--store N] [--weights FILE] [--deny-warnings]",
+    "           [--allow NAMES]",
     "",
     "Compiles the source SRC, saves the object, and prints how many instructions it has, what its moves between banks cost,",
     "and whether a choice of banks may be cheaper. `optimal` means that none is. It says nothing of the other instructions.",
+    "It warns of what may be a mistake, as `nova check` does.",
     "",
     "  -o OBJ           where the object is saved; by default SRC with `.obj` in place of `.nova`",
     "  --report FILE    saves the report on the banks with its certificate, which `novac check FILE` checks",
@@ -78,7 +87,9 @@ const BUILD: [&str; 16] = [
     "  --budget N       branches of the search for banks, 1 to 1000000; by default 2000",
     "  --store N        instructions of the code, 1 to 1048576; by default 2048",
     "  --weights FILE   how often each label is entered: moves there cost that much more",
-    "  --json           prints each fault as an object of JSON on a line",
+    "  --deny-warnings  refuses a source that it warns of, and saves nothing",
+    "  --allow NAMES    leaves out warnings of these names, with commas between them; `nova explain warnings` has them",
+    "  --json           prints each fault and each warning as an object of JSON on a line",
     "",
     "A move between banks costs 1, an access to a slot 16, each times the weight of its label, which is 1 by default.",
     "Two things are printed of the cost: that of the choice of banks, and how many instructions the code has of each kind.",
@@ -113,21 +124,23 @@ const LIST: [&str; 8] = [
     "                   Where a cheaper choice of banks may be there, the standard error says so",
 ];
 
-const CHECK: [&str; 10] = [
-    "nova check SRC .. [--verbose] [--json]",
+const CHECK: [&str; 12] = [
+    "nova check SRC-or-FOLDER .. [--verbose] [--deny-warnings] [--allow NAMES] [--json]",
     "",
     "Prints on the standard error where each source is refused, with line and column, what is wrong and what helps: the",
     "first type fault of each function. Of a source without a fault it warns of what may be a mistake, as of an unused",
-    "variable, and prints on the standard output how large it is.",
+    "variable, and prints on the standard output how large it is. Of a FOLDER each source in it is checked.",
     "",
     "  --verbose        prints the sizes of all its parts",
+    "  --deny-warnings  ends with 1 where it warns of a source",
+    "  --allow NAMES    leaves out warnings of these names, with commas between them; `nova explain warnings` has them",
     "  --json           prints each fault and each warning as an object of JSON on a line, and no sizes",
     "",
-    "The status is 1 where a source is refused. A warning doesn't change it.",
+    "The status is 1 where a source is refused. A warning alone doesn't change it.",
 ];
 
-const TEST: [&str; 15] = [
-    "nova test SRC-or-FOLDER .. [--steps N] [--budget N]",
+const TEST: [&str; 19] = [
+    "nova test SRC-or-FOLDER .. [--steps N] [--budget N] [--case NAME] [--update] [--interpret] [--tap | --junit]",
     "",
     "Runs each source NAME.nova on the memory texts NAME*.mem and NAME*.nmem in its folder, by the interpreter and by its",
     "compiled code. Both have to print the same outcome. Where a memory text X.mem or X.nmem has an outcome text X.out",
@@ -136,12 +149,28 @@ const TEST: [&str; 15] = [
     "  --steps N        how many steps the code, and how many calls the interpreter may take, 1 to 100000000; by default",
     "                   1000000",
     "  --budget N       the branches of the search for banks, 1 to 1000000; without it the search is cut short",
+    "  --case NAME      runs the memory text of this name alone, with or without its ending",
+    "  --update         writes the outcome text of each memory text whose outcome is another one or has none, where interpreter",
+    "                   and code agree",
+    "  --interpret      runs the interpreter alone, and compiles nothing",
+    "  --tap, --junit   prints the results in the form of the Test Anything Protocol, or of JUnit",
     "",
     "Prints a line for each memory text, the first line that differs where one failed, and how many passed and failed.",
     "A memory text belongs to the source with the longest name that it begins with.",
     "The status is 0 where all passed, and 1 where one failed, a source is refused, there is no memory text, or an outcome",
     "text has none.",
-    "`novac exec SRC MEM steps=N` prints an outcome text.",
+];
+
+const TRACE: [&str; 9] = [
+    "nova trace SRC MEM [--steps N] [--line N]",
+    "",
+    "Runs the program of the source SRC on the memory text MEM by its meaning, and prints each of its first 1024 writes with the",
+    "line of its statement and the functions in progress. `nova test` says whether the code does the same.",
+    "",
+    "  --steps N        how many calls it may make, 1 to 100000000; by default 1000000",
+    "  --line N         ends with the first write of this line, 1 to 1000000, if there is one",
+    "",
+    "The status is 1 where the source or the memory text is refused. How the run ended doesn't change it.",
 ];
 
 const PAGE: [&str; 13] = [
@@ -184,6 +213,28 @@ const FORMAT: [&str; 11] = [
     "large or a name that is too long. Then no other source is saved either. A source with another fault is formatted.",
     "",
     "The status is 1 where a source is refused, and under `--check` where one would change.",
+];
+
+const ASM: [&str; 8] = [
+    "nova asm TEXT [-o OBJ]",
+    "",
+    "Assembles the assembly text TEXT, saves the object that `novac asm` saves, and prints how many instructions it has.",
+    "Where the text is refused it prints at which line and column, what is wrong and what helps.",
+    "",
+    "  -o OBJ           where the object is saved; by default TEXT with `.obj` in place of `.asm`",
+    "",
+    "The status is 1 where the text is refused.",
+];
+
+const MEM: [&str; 8] = [
+    "nova mem MEM",
+    "",
+    "Of a file whose name ends in `.nmem`, a readable memory text, it prints the memory text that it says. Of another memory",
+    "text it prints a readable text that says the same: the arguments, and each 16 bytes that aren't all zero.",
+    "",
+    "`run`, `test` and `page` take readable texts too, by the ending of their name. docs/MEMORY.md has the form.",
+    "",
+    "The status is 1 where the text is refused.",
 ];
 
 const EXPLAIN: [&str; 4] = [

@@ -19,7 +19,7 @@ fn push_bad_object(name: &str, at: u32, answer: &mut Answer) {
     it.title
         .put("no object begins with these bytes: from byte ");
     it.title.number(u64::from(at));
-    it.title.put(" on they are others");
+    it.title.put(" on they are others, or they end there");
     it.code = Code::Named("status 12");
     answer.push(name, it)
 }

@@ -2,7 +2,7 @@
 use Rattle.std.specs.Prelude.{◌≡◌, ◌≢◌, ◌≤◌, ◌⊎◌, ℕ, All, IfSome, List, MatchOption, None, Option, Some, String, slice_get, string_bytes, codes, ⊤}
 use Rattle.std.specs.Global.{Global}
 use Rattle.nova_words.specs.declared.command.Command.{Command}
-use Rattle.nova_words.specs.declared.command.Command.TheVariants.{Build, Run, List as ListCommand, Check, Test, Page, Forms, Format, Explain, Help, Version}
+use Rattle.nova_words.specs.declared.command.Command.TheVariants.{Build, Run, List as ListCommand, Check, Test, Trace, Page, Forms, Format, Asm, Mem, Explain, Help, Version}
 use Rattle.nova_words.specs.declared.command.Build.{Build as BuildWords}
 use Rattle.nova_words.specs.declared.verb.Verb.{Verb}
 use Rattle.nova_words.specs.declared.verb.Verb.TheVariants as verb
@@ -29,6 +29,7 @@ HasLimits (Run r) = (r.steps ≤ steps_limit) × IsBudget r.budget
 HasLimits (ListCommand l) = IsBudget l.budget
 HasLimits (Page p) = (p.steps ≤ steps_limit) × IsBudget p.budget
 HasLimits (Test t) = (t.steps ≤ steps_limit) × IsBudget t.budget
+HasLimits (Trace t) = t.steps ≤ steps_limit
 HasLimits _ = ⊤
 
 -- the store and the steps that it allows are not 0
@@ -37,14 +38,17 @@ AllowsSome (Build b) = 1 ≤ b.store
 AllowsSome (Run r) = 1 ≤ r.steps
 AllowsSome (Page p) = 1 ≤ p.steps
 AllowsSome (Test t) = 1 ≤ t.steps
+AllowsSome (Trace t) = 1 ≤ t.steps
 AllowsSome _ = ⊤
 
 -- the command may save files
 abbrev pub Saves : Command → Type 0
 Saves (Build b) = ⊤
 Saves (Run r) = ⊤
+Saves (Test t) = ⊤
 Saves (Page p) = ⊤
 Saves (Format f) = ⊤
+Saves (Asm a) = ⊤
 Saves _ = ⊥
 
 -- the name of a command
@@ -54,9 +58,12 @@ name_of verb.Run = codes "run"
 name_of verb.List = codes "list"
 name_of verb.Check = codes "check"
 name_of verb.Test = codes "test"
+name_of verb.Trace = codes "trace"
 name_of verb.Page = codes "page"
 name_of verb.Forms = codes "forms"
 name_of verb.Format = codes "fmt"
+name_of verb.Asm = codes "asm"
+name_of verb.Mem = codes "mem"
 name_of verb.Explain = codes "explain"
 name_of verb.Help = codes "help"
 name_of verb.Version = codes "version"
@@ -76,9 +83,12 @@ IsCalled word (Run r) = word ≡ codes "run"
 IsCalled word (ListCommand name) = word ≡ codes "list"
 IsCalled word (Check c) = word ≡ codes "check"
 IsCalled word (Test t) = word ≡ codes "test"
+IsCalled word (Trace t) = word ≡ codes "trace"
 IsCalled word (Page p) = word ≡ codes "page"
 IsCalled word (Forms f) = word ≡ codes "forms"
 IsCalled word (Format f) = word ≡ codes "fmt"
+IsCalled word (Asm a) = word ≡ codes "asm"
+IsCalled word (Mem name) = word ≡ codes "mem"
 IsCalled word (Explain words) = word ≡ codes "explain"
 IsCalled word (Help None) = AsksHelp word ⊎ (word ≡ codes "help")
 IsCalled word (Help (Some verb)) = (word ≡ name_of verb) ⊎ (word ≡ codes "help")
@@ -91,11 +101,11 @@ IsHelp _ = ⊥
 
 -- no word is the option that asks for help
 abbrev pub HaveNoHelp : List (String Global) → Type 0
-HaveNoHelp words = All (λ word. string_bytes word ≢ codes "--help") words
+HaveNoHelp words = All (λ word. (string_bytes word ≢ codes "--help") × (string_bytes word ≢ codes "-h")) words
 
 -- the word is the name of a command that may save files
 abbrev pub NamesSaver : List ℕ → Type 0
-NamesSaver word = (word ≡ codes "build") ⊎ (word ≡ codes "run") ⊎ (word ≡ codes "page") ⊎ (word ≡ codes "fmt")
+NamesSaver word = (word ≡ codes "build") ⊎ (word ≡ codes "run") ⊎ (word ≡ codes "test") ⊎ (word ≡ codes "page") ⊎ (word ≡ codes "fmt") ⊎ (word ≡ codes "asm")
 
 -- this holds of the first of the words, and there is one
 abbrev pub FirstIs : List (String Global) → (List ℕ → Type 0) → Type 0

@@ -1,11 +1,11 @@
 -- Which value is given an option, and which number that is.
 use Rattle.std.specs.Prelude.{◌≡◌, ◌≢◌, ◌⊎◌, ◌++◌, ◌∷◌, ℕ, All, List, MatchOption, Option, Some, decimal, ⊤}
 use Rattle.nova_words.specs.declared.command.Command.{Command}
-use Rattle.nova_words.specs.declared.command.Command.TheVariants.{Build, Run, List as ListCommand, Page, Test}
+use Rattle.nova_words.specs.declared.command.Command.TheVariants.{Build, Run, List as ListCommand, Page, Test, Trace}
 use Rattle.nova_words.specs.declared.parts.Given.{Given}
 use Rattle.nova_words.specs.declared.parts.Parts.{Parts}
 use Rattle.nova_words.specs.declared.setting.Setting.{Setting}
-use Rattle.nova_words.specs.declared.setting.Setting.TheVariants.{Slots, Budget, Store, Steps, Help}
+use Rattle.nova_words.specs.declared.setting.Setting.TheVariants.{Slots, Budget, Store, Steps, Line, Help}
 
 abbrev pub IsNotGiven : List Given → Setting → Type 0
 IsNotGiven given setting = All (λ g. g.setting ≢ setting) given
@@ -35,5 +35,6 @@ HasNumbers given (Build b) = IsNumberOf given Slots 128 b.slots × IsNumberOf gi
 HasNumbers given (Run r) = IsNumberOf given Steps 1000000 r.steps × IsNumberIfGiven given Budget r.budget
 HasNumbers given (ListCommand l) = IsNumberIfGiven given Budget l.budget
 HasNumbers given (Page p) = IsNumberOf given Steps 1000000 p.steps × IsNumberIfGiven given Budget p.budget
+HasNumbers given (Trace t) = IsNumberOf given Steps 1000000 t.steps × IsNumberIfGiven given Line t.line
 HasNumbers given (Test t) = IsNumberOf given Steps 1000000 t.steps × IsNumberIfGiven given Budget t.budget
 HasNumbers given _ = ⊤

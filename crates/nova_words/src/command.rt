@@ -26,6 +26,8 @@ const MOST_STEPS: u32 = 100_000_000;
 
 const USUAL_STEPS: u32 = 1_000_000;
 
+const MOST_LINE: u32 = 1_000_000;
+
 /// What `build` is asked for.
 #[derive(Clone, Copy)]
 pub struct Build<'a> {
@@ -39,8 +41,16 @@ pub struct Build<'a> {
     pub slots: u32,
     pub budget: u32,
     pub store: u32,
-    /// Whether faults are printed as JSON.
-    pub is_json: bool,
+    pub warnings: Warnings<'a>,
+}
+
+/// What is done about warnings.
+#[derive(Clone, Copy)]
+pub struct Warnings<'a> {
+    /// Whether one refuses a source.
+    pub are_denied: bool,
+    /// The names of those that aren't told, with commas between them.
+    pub allowed: Option<&'a str>,
 }
 
 /// What `run` is asked for.
@@ -74,8 +84,7 @@ pub struct Check<'a> {
     pub sources: Vec<&'a str>,
     /// Whether the sizes of all parts are told.
     pub is_verbose: bool,
-    /// Whether faults and warnings are printed as JSON.
-    pub is_json: bool,
+    pub warnings: Warnings<'a>,
 }
 
 /// What `page` is asked for.
@@ -107,6 +116,15 @@ pub struct Format<'a> {
     pub is_check: bool,
 }
 
+/// What `asm` is asked for.
+#[derive(Clone, Copy)]
+pub struct Asm<'a> {
+    /// The assembly text.
+    pub source: &'a str,
+    /// Where the object is saved, if that is said.
+    pub object: Option<&'a str>,
+}
+
 /// What `test` is asked for.
 #[derive(Drop)]
 pub struct Test<'a> {
@@ -116,6 +134,35 @@ pub struct Test<'a> {
     pub steps: u32,
     /// The branches of the search for banks of each source, if that is said.
     pub budget: Option<u32>,
+    /// The name of the one memory text that is run, without its ending, if it is said.
+    pub case: Option<&'a str>,
+    /// Whether outcome texts are written anew.
+    pub is_updating: bool,
+    /// Whether the interpreter alone runs.
+    pub is_interpreted: bool,
+    pub report: TestReport,
+}
+
+/// How results of tests are printed.
+#[derive(Clone, Copy, PartialEq, Eq)]
+pub enum TestReport {
+    Lines,
+    /// In the form of the Test Anything Protocol.
+    Tap,
+    /// In that of JUnit.
+    Junit,
+}
+
+/// What `trace` is asked for.
+#[derive(Clone, Copy)]
+pub struct Tracing<'a> {
+    pub source: &'a str,
+    /// The memory text.
+    pub memory: &'a str,
+    /// The calls of the interpreter.
+    pub steps: u32,
+    /// The line whose first write ends the trace.
+    pub line: Option<u32>,
 }
 
 /// A command with what its words name.
@@ -126,9 +173,13 @@ pub enum Command<'a> {
     List(Listing<'a>),
     Check(Check<'a>),
     Test(Test<'a>),
+    Trace(Tracing<'a>),
     Page(Page<'a>),
     Forms(Forms<'a>),
     Format(Format<'a>),
+    Asm(Asm<'a>),
+    /// Of a memory text.
+    Mem(&'a str),
     /// The words that a page is called by.
     Explain(&'a [String]),
     /// Of one command, or of all.
@@ -141,12 +192,12 @@ pub fn command_of<'a>(alloc: Global, words: &'a [String]) -> Result<Command<'a>,
     ensures limits { IfOk result HasLimits }
     ensures some { IfOk result AllowsSome }
     ensures called { IfOk result (λ c. FirstIs words.now (λ word. IsCalled word c)) }
-    // Only `build`, `run`, `page` and `fmt` save files.
+    // Only `build`, `run`, `test`, `page`, `fmt` and `asm` save files.
     ensures saves { IfOk result (λ c. Saves c → MaySave words.now) }
     ensures empty { words.now ≡ [] → result ≡ Err WordFault.NoWords }
     ensures help { FirstIs words.now AsksHelp → result ≡ Ok (Command.Help None) }
     ensures version { FirstIs words.now (λ word. word ≡ codes "--version") → result ≡ Ok Command.Version }
-    // But for the first word `help` or `-h`, only a word `--help` asks for help.
+    // But for the first word `help`, only a word `--help` or `-h` asks for help.
     ensures asks { HaveNoHelp words.now → IfOk result (λ c. IsHelp c → FirstIs words.now (λ word. AsksHelp word ⊎ (word ≡ codes "help"))) }
     ensures refused { IfErr result (HaveFault words.now) }
 {
@@ -221,9 +272,12 @@ fn command_in<'a>(
         Verb::List => list_in(parts),
         Verb::Check => check_in(alloc, parts),
         Verb::Test => test_in(alloc, parts),
+        Verb::Trace => trace_in(parts),
         Verb::Page => page_in(alloc, parts),
         Verb::Forms => forms_in(parts),
         Verb::Format => format_in(alloc, parts),
+        Verb::Asm => asm_in(parts),
+        Verb::Mem => Ok(Command::Mem(only_name(parts, "MEM")?)),
         Verb::Explain => explain_in(parts, words),
         Verb::Help => help_in(parts),
         Verb::Version => Ok(Command::Version),
@@ -258,8 +312,15 @@ fn build_in<'a>(parts: &Parts<'a>) -> Result<Command<'a>, WordFault<'a>>
         slots,
         budget,
         store,
-        is_json: parts.value(Setting::Json).is_some(),
+        warnings: warnings_in(parts),
     }))
+}
+
+fn warnings_in<'a>(parts: &Parts<'a>) -> Warnings<'a> {
+    Warnings {
+        are_denied: parts.value(Setting::DenyWarnings).is_some(),
+        allowed: parts.value(Setting::Allow),
+    }
 }
 
 fn list_in<'a>(parts: &Parts<'a>) -> Result<Command<'a>, WordFault<'a>>
@@ -310,7 +371,7 @@ fn check_in<'a>(alloc: Global, parts: &Parts<'a>) -> Result<Command<'a>, WordFau
     Ok(Command::Check(Check {
         sources,
         is_verbose: parts.value(Setting::Verbose).is_some(),
-        is_json: parts.value(Setting::Json).is_some(),
+        warnings: warnings_in(parts),
     }))
 }
 
@@ -367,6 +428,21 @@ fn forms_in<'a>(parts: &Parts<'a>) -> Result<Command<'a>, WordFault<'a>>
     Ok(Command::Forms(Forms { source, form }))
 }
 
+fn asm_in<'a>(parts: &Parts<'a>) -> Result<Command<'a>, WordFault<'a>>
+    ensures limits { IfOk result HasLimits }
+    ensures some { IfOk result AllowsSome }
+    ensures numbers { IfOk result (HasNumbers parts.now.given.items) }
+    ensures called { IfOk result (IsCalled (codes "asm")) }
+    ensures asks { IfOk result (λ c. IsHelp c → ⊥) }
+    ensures refused { IfErr result (IsFaultAt (name_of parts.now.verb)) }
+{
+    let source = only_name(parts, "TEXT")?;
+    Ok(Command::Asm(Asm {
+        source,
+        object: parts.value(Setting::Output),
+    }))
+}
+
 fn test_in<'a>(alloc: Global, parts: &Parts<'a>) -> Result<Command<'a>, WordFault<'a>>
     ensures limits { IfOk result HasLimits }
     ensures some { IfOk result AllowsSome }
@@ -382,6 +458,41 @@ fn test_in<'a>(alloc: Global, parts: &Parts<'a>) -> Result<Command<'a>, WordFaul
         paths,
         steps,
         budget,
+        case: parts.value(Setting::Case),
+        is_updating: parts.value(Setting::Update).is_some(),
+        is_interpreted: parts.value(Setting::Interpret).is_some(),
+        report: report_in(parts),
+    }))
+}
+
+fn report_in<'a>(parts: &Parts<'a>) -> TestReport {
+    if parts.value(Setting::Junit).is_some() {
+        TestReport::Junit
+    } else if parts.value(Setting::Tap).is_some() {
+        TestReport::Tap
+    } else {
+        TestReport::Lines
+    }
+}
+
+fn trace_in<'a>(parts: &Parts<'a>) -> Result<Command<'a>, WordFault<'a>>
+    ensures limits { IfOk result HasLimits }
+    ensures some { IfOk result AllowsSome }
+    ensures numbers { IfOk result (HasNumbers parts.now.given.items) }
+    ensures called { IfOk result (IsCalled (codes "trace")) }
+    ensures asks { IfOk result (λ c. IsHelp c → ⊥) }
+    ensures refused { IfErr result (IsFaultAt (name_of parts.now.verb)) }
+{
+    parts.check_names(2)?;
+    let source = parts.name(0, "SRC")?;
+    let memory = parts.name(1, "MEM")?;
+    let steps = number_in(parts, Setting::Steps, 1, MOST_STEPS, USUAL_STEPS)?;
+    let line = given_number_in(parts, Setting::Line, 1, MOST_LINE)?;
+    Ok(Command::Trace(Tracing {
+        source,
+        memory,
+        steps,
+        line,
     }))
 }
 

@@ -9,8 +9,11 @@ mod parts;
 mod setting;
 mod verb;
 
-pub use command::{Build, Check, Command, Format, Forms, Listing, Page, Run, Test, command_of};
+pub use command::{
+    Asm, Build, Check, Command, Format, Forms, Listing, Page, Run, Test, TestReport, Tracing,
+    Warnings, command_of,
+};
 pub use fault::WordFault;
-pub use nearest::{nearest_setting, nearest_verb};
+pub use nearest::{nearest_among, nearest_setting, nearest_verb, verb_with};
 pub use setting::Setting;
 pub use verb::Verb;

@@ -53,7 +53,7 @@ impl<'a> Parts<'a> {
 
     fn read(&mut self, word: &'a str) -> Result<(), WordFault<'a>>
         ensures verb { self.new.verb ≡ self.old.verb }
-        ensures asks { IfOk result (λ _. word.now ≢ codes "--help" → AsksNone self.old → AsksNone self.new) }
+        ensures asks { IfOk result (λ _. word.now ≢ codes "--help" → word.now ≢ codes "-h" → AsksNone self.old → AsksNone self.new) }
         ensures refused { IfErr result (IsFaultAt (name_of self.old.verb)) }
     {
         if let Some(setting) = self.pending {
@@ -79,10 +79,10 @@ impl<'a> Parts<'a> {
         Ok(())
     }
 
-    // `--NAME`, `--NAME=VALUE` or `-o`.
+    // `--NAME`, `--NAME=VALUE`, `-o` or `-h`.
     fn read_option(&mut self, word: &'a str) -> Result<(), WordFault<'a>>
         ensures verb { self.new.verb ≡ self.old.verb }
-        ensures asks { IfOk result (λ _. word.now ≢ codes "--help" → AsksNone self.old → AsksNone self.new) }
+        ensures asks { IfOk result (λ _. word.now ≢ codes "--help" → word.now ≢ codes "-h" → AsksNone self.old → AsksNone self.new) }
         ensures refused { IfErr result (IsFaultAt (name_of self.old.verb)) }
     {
         match word.split_once('=') {
@@ -93,9 +93,12 @@ impl<'a> Parts<'a> {
 
     fn read_alone(&mut self, word: &'a str) -> Result<(), WordFault<'a>>
         ensures verb { self.new.verb ≡ self.old.verb }
-        ensures asks { IfOk result (λ _. word.now ≢ codes "--help" → AsksNone self.old → AsksNone self.new) }
+        ensures asks { IfOk result (λ _. word.now ≢ codes "--help" → word.now ≢ codes "-h" → AsksNone self.old → AsksNone self.new) }
         ensures refused { IfErr result (IsFaultAt (name_of self.old.verb)) }
     {
+        if word == "-h" {
+            return self.give(Setting::Help, "");
+        }
         let Some(setting) = self.verb.setting(word) else {
             return Err(WordFault::UnknownOption(self.verb, word));
         };

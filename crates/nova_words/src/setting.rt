@@ -27,6 +27,22 @@ pub enum Setting {
     Verbose,
     /// Faults are printed as JSON.
     Json,
+    /// Warnings refuse a source.
+    DenyWarnings,
+    /// The warnings that aren't told.
+    Allow,
+    /// The one memory text that is tested.
+    Case,
+    /// Outcome texts are written anew.
+    Update,
+    /// The code isn't run.
+    Interpret,
+    /// Results of tests in the form of the Test Anything Protocol.
+    Tap,
+    /// Results of tests in that of JUnit.
+    Junit,
+    /// The line of a source.
+    Line,
     /// It is only told what would change.
     Check,
     /// What the command is for.
@@ -50,6 +66,14 @@ impl Setting {
             Setting::Counts => "--counts",
             Setting::Verbose => "--verbose",
             Setting::Json => "--json",
+            Setting::DenyWarnings => "--deny-warnings",
+            Setting::Allow => "--allow",
+            Setting::Case => "--case",
+            Setting::Update => "--update",
+            Setting::Interpret => "--interpret",
+            Setting::Tap => "--tap",
+            Setting::Junit => "--junit",
+            Setting::Line => "--line",
             Setting::Check => "--check",
             Setting::Help => "--help",
         }
@@ -60,8 +84,16 @@ impl Setting {
         ensures { result ≡ takes_value self }
     {
         match self {
-            Setting::Profile | Setting::Verbose | Setting::Json | Setting::Check | Setting::Help =>
-                false,
+            Setting::Profile
+            | Setting::Verbose
+            | Setting::Json
+            | Setting::Check
+            | Setting::DenyWarnings
+            | Setting::Update
+            | Setting::Interpret
+            | Setting::Tap
+            | Setting::Junit
+            | Setting::Help => false,
             Setting::Output
             | Setting::Report
             | Setting::Slots
@@ -69,7 +101,10 @@ impl Setting {
             | Setting::Store
             | Setting::Weights
             | Setting::Steps
-            | Setting::Counts => true,
+            | Setting::Counts
+            | Setting::Allow
+            | Setting::Case
+            | Setting::Line => true,
         }
     }
 }

@@ -13,24 +13,30 @@ pub enum Verb {
     List,
     Check,
     Test,
+    Trace,
     Page,
     Forms,
     Format,
+    Asm,
+    Mem,
     Explain,
     Help,
     Version,
 }
 
 /// All commands, in the order of the help.
-pub const VERBS: [Verb; 11] = [
+pub const VERBS: [Verb; 14] = [
     Verb::Build,
     Verb::Run,
     Verb::List,
     Verb::Check,
     Verb::Test,
+    Verb::Trace,
     Verb::Page,
     Verb::Forms,
     Verb::Format,
+    Verb::Asm,
+    Verb::Mem,
     Verb::Explain,
     Verb::Help,
     Verb::Version,
@@ -47,9 +53,12 @@ impl Verb {
             Verb::List => "list",
             Verb::Check => "check",
             Verb::Test => "test",
+            Verb::Trace => "trace",
             Verb::Page => "page",
             Verb::Forms => "forms",
             Verb::Format => "fmt",
+            Verb::Asm => "asm",
+            Verb::Mem => "mem",
             Verb::Explain => "explain",
             Verb::Help => "help",
             Verb::Version => "version",
@@ -79,9 +88,12 @@ impl Verb {
             Verb::List => &LIST,
             Verb::Check => &CHECK,
             Verb::Test => &TEST,
+            Verb::Trace => &TRACE,
             Verb::Page => &PAGE,
             Verb::Format => &FORMAT,
-            Verb::Forms | Verb::Explain | Verb::Help | Verb::Version => &OTHER,
+            Verb::Asm => &ASM,
+            Verb::Forms | Verb::Mem => &SHOWN,
+            Verb::Explain | Verb::Help | Verb::Version => &OTHER,
         }
     }
 
@@ -99,38 +111,64 @@ impl Verb {
     }
 }
 
-const BUILD: [Setting; 8] = [
+const BUILD: [Setting; 10] = [
     Setting::Output,
     Setting::Report,
     Setting::Slots,
     Setting::Budget,
     Setting::Store,
     Setting::Weights,
+    Setting::DenyWarnings,
+    Setting::Allow,
     Setting::Json,
     Setting::Help,
 ];
 
-const RUN: [Setting; 5] = [
+const RUN: [Setting; 6] = [
     Setting::Steps,
     Setting::Budget,
     Setting::Profile,
     Setting::Counts,
+    Setting::Json,
     Setting::Help,
 ];
 
-const LIST: [Setting; 2] = [Setting::Budget, Setting::Help];
+const LIST: [Setting; 3] = [Setting::Budget, Setting::Json, Setting::Help];
 
-const CHECK: [Setting; 3] = [Setting::Verbose, Setting::Json, Setting::Help];
+const CHECK: [Setting; 5] = [
+    Setting::Verbose,
+    Setting::DenyWarnings,
+    Setting::Allow,
+    Setting::Json,
+    Setting::Help,
+];
 
-const PAGE: [Setting; 4] = [
+const TEST: [Setting; 9] = [
+    Setting::Steps,
+    Setting::Budget,
+    Setting::Case,
+    Setting::Update,
+    Setting::Interpret,
+    Setting::Tap,
+    Setting::Junit,
+    Setting::Json,
+    Setting::Help,
+];
+
+const TRACE: [Setting; 4] = [Setting::Steps, Setting::Line, Setting::Json, Setting::Help];
+
+const PAGE: [Setting; 5] = [
     Setting::Output,
     Setting::Steps,
     Setting::Budget,
+    Setting::Json,
     Setting::Help,
 ];
 
-const FORMAT: [Setting; 2] = [Setting::Check, Setting::Help];
+const FORMAT: [Setting; 3] = [Setting::Check, Setting::Json, Setting::Help];
 
-const TEST: [Setting; 3] = [Setting::Steps, Setting::Budget, Setting::Help];
+const ASM: [Setting; 3] = [Setting::Output, Setting::Json, Setting::Help];
+
+const SHOWN: [Setting; 2] = [Setting::Json, Setting::Help];
 
 const OTHER: [Setting; 1] = [Setting::Help];

@@ -8,10 +8,10 @@ use Rattle.nova_words.proofs.verb.Verb.named.Goals as goal
 
 -- all commands are in the list
 none-named : (word : List ℕ) (index : ℕ)
-    → let all : List Verb = verb.Build ∷ verb.Run ∷ verb.List ∷ verb.Check ∷ verb.Test ∷ verb.Page ∷ verb.Forms ∷ verb.Format ∷ verb.Explain ∷ verb.Help ∷ verb.Version ∷ [] in
-    (11 ≤ index → All (λ v. word ≢ name_of v) (take index all) → NamesNone word)
+    → let all : List Verb = verb.Build ∷ verb.Run ∷ verb.List ∷ verb.Check ∷ verb.Test ∷ verb.Trace ∷ verb.Page ∷ verb.Forms ∷ verb.Format ∷ verb.Asm ∷ verb.Mem ∷ verb.Explain ∷ verb.Help ∷ verb.Version ∷ [] in
+    (14 ≤ index → All (λ v. word ≢ name_of v) (take index all) → NamesNone word)
 none-named word index h none v =
-    let all : List Verb = verb.Build ∷ verb.Run ∷ verb.List ∷ verb.Check ∷ verb.Test ∷ verb.Page ∷ verb.Forms ∷ verb.Format ∷ verb.Explain ∷ verb.Help ∷ verb.Version ∷ [] in
+    let all : List Verb = verb.Build ∷ verb.Run ∷ verb.List ∷ verb.Check ∷ verb.Test ∷ verb.Trace ∷ verb.Page ∷ verb.Forms ∷ verb.Format ∷ verb.Asm ∷ verb.Mem ∷ verb.Explain ∷ verb.Help ∷ verb.Version ∷ [] in
     let P : List Verb → Type 0 = All (λ v. word ≢ name_of v) in
     let each : All (λ v. word ≢ name_of v) all = subst P (take_all index all h) none in
     elim v as (λ v. word ≢ name_of v) [
@@ -20,12 +20,15 @@ none-named word index h none v =
       | verb.List ↦ each 2 verb.Build (lit< tt)
       | verb.Check ↦ each 3 verb.Build (lit< tt)
       | verb.Test ↦ each 4 verb.Build (lit< tt)
-      | verb.Page ↦ each 5 verb.Build (lit< tt)
-      | verb.Forms ↦ each 6 verb.Build (lit< tt)
-      | verb.Format ↦ each 7 verb.Build (lit< tt)
-      | verb.Explain ↦ each 8 verb.Build (lit< tt)
-      | verb.Help ↦ each 9 verb.Build (lit< tt)
-      | verb.Version ↦ each 10 verb.Build (lit< tt)
+      | verb.Trace ↦ each 5 verb.Build (lit< tt)
+      | verb.Page ↦ each 6 verb.Build (lit< tt)
+      | verb.Forms ↦ each 7 verb.Build (lit< tt)
+      | verb.Format ↦ each 8 verb.Build (lit< tt)
+      | verb.Asm ↦ each 9 verb.Build (lit< tt)
+      | verb.Mem ↦ each 10 verb.Build (lit< tt)
+      | verb.Explain ↦ each 11 verb.Build (lit< tt)
+      | verb.Help ↦ each 12 verb.Build (lit< tt)
+      | verb.Version ↦ each 13 verb.Build (lit< tt)
     ]
 
 pub loop-verb-preserved : goal.loop-verb-preserved
