@@ -3,14 +3,22 @@ PREFIX ?= /usr/local
 PROGRAMS = nova novac
 BUILT = $(foreach it,$(PROGRAMS),crates/$(it)/out/$(it))
 
-.PHONY: all test rows try check bench install clean
+SOURCES = crates.txt $(shell find crates -name out -prune -o -type f \( -name '*.rt' -o -name '*.antt' \) -print)
+SHARE = $(DESTDIR)$(PREFIX)/share
+# What `make install` puts below $(PREFIX)/share, as TO:FROM.
+SHARED = man/man1/nova.1:docs/man/nova.1 man/man1/novac.1:docs/man/novac.1 bash-completion/completions/nova:editors/nova.bash \
+	zsh/site-functions/_nova:editors/nova.zsh fish/vendor_completions.d/nova.fish:editors/nova.fish \
+	$(foreach it,compiler ftdetect ftplugin syntax,vim/vimfiles/$(it)/nova.vim:editors/vim/$(it)/nova.vim)
+
+.PHONY: all test rows try check bench install uninstall deb clean
 
 # Proves and builds the programs.
 all: $(BUILT)
 
-# A program is built by a run of it, here on words that are refused.
-$(BUILT):
+# A program is built by a run of it, here on words that are refused, whenever a source is newer.
+$(BUILT): $(SOURCES)
 	cd crates/$(notdir $@) && { rt run -- absent || test -x out/$(notdir $@); }
+	touch $@
 
 # The gate: proofs, must-fail edits, tests and rows.
 test:
@@ -35,9 +43,14 @@ bench: all
 install: all
 	install -d $(DESTDIR)$(PREFIX)/bin
 	install $(BUILT) $(DESTDIR)$(PREFIX)/bin
-	install -d $(DESTDIR)$(PREFIX)/share/man/man1 $(DESTDIR)$(PREFIX)/share/bash-completion/completions
-	install -m 644 docs/man/nova.1 docs/man/novac.1 $(DESTDIR)$(PREFIX)/share/man/man1
-	install -m 644 editors/nova.bash $(DESTDIR)$(PREFIX)/share/bash-completion/completions/nova
+	$(foreach it,$(SHARED),install -D -m 644 $(lastword $(subst :, ,$(it))) $(SHARE)/$(firstword $(subst :, ,$(it))) &&) true
+
+uninstall:
+	rm -f $(foreach it,$(PROGRAMS),$(DESTDIR)$(PREFIX)/bin/$(it)) $(foreach it,$(SHARED),$(SHARE)/$(firstword $(subst :, ,$(it))))
+
+# A package for Debian, of the programs as they are built.
+deb: all
+	packaging/deb $(BUILT)
 
 clean:
 	rm -rf crates/*/out out

@@ -1,27 +1,46 @@
-# Completion of nova's words for bash.
+# Completion of nova's words for bash. Written by editors/complete.
 _nova() {
-    local word=${COMP_WORDS[COMP_CWORD]} before=${COMP_WORDS[COMP_CWORD - 1]} command=${COMP_WORDS[1]}
-    local commands="build check explain fmt forms help list page run test version"
+    local word=${COMP_WORDS[COMP_CWORD]} before=${COMP_WORDS[COMP_CWORD - 1]} command=${COMP_WORDS[1]} it
+    local commands="asm build check explain fmt forms help list mem page run test trace version"
     COMPREPLY=()
     if [ "$COMP_CWORD" -eq 1 ]; then
-        COMPREPLY=($(compgen -W "$commands --help --version" -- "$word"))
+        mapfile -t COMPREPLY < <(compgen -W "$commands --help --version" -- "$word")
         return
     fi
+    for it in "${COMP_WORDS[@]:2:COMP_CWORD-2}"; do
+        if [ "$it" = -- ]; then
+            mapfile -t COMPREPLY < <(compgen -f -- "$word")
+            return
+        fi
+    done
     case $before in
-        --slots | --budget | --store | --steps) return ;;
+        --slots | --budget | --store | --steps | --line) return ;;
+        --allow) mapfile -t COMPREPLY < <(compgen -W "unused wide read condition endless address size" -- "$word") && return ;;
     esac
     case $command:$word in
-        build:-*) COMPREPLY=($(compgen -W "-o --report --slots --budget --store --weights --json --help" -- "$word")) ;;
-        run:-*) COMPREPLY=($(compgen -W "--steps --budget --profile --counts --help" -- "$word")) ;;
-        list:-*) COMPREPLY=($(compgen -W "--budget --help" -- "$word")) ;;
-        page:-*) COMPREPLY=($(compgen -W "-o --steps --budget --help" -- "$word")) ;;
-        test:-*) COMPREPLY=($(compgen -W "--steps --budget --help" -- "$word")) ;;
-        fmt:-*) COMPREPLY=($(compgen -W "--check --help" -- "$word")) ;;
-        check:-*) COMPREPLY=($(compgen -W "--verbose --json --help" -- "$word")) ;;
-        *:-*) COMPREPLY=($(compgen -W "--help" -- "$word")) ;;
-        help:*) COMPREPLY=($(compgen -W "$commands" -- "$word")) ;;
-        explain:*) COMPREPLY=($(compgen -W "type syntax status" -- "$word")) ;;
-        *) COMPREPLY=($(compgen -f -- "$word")) ;;
+        *:--*=*) ;;
+        build:-*) mapfile -t COMPREPLY < <(compgen -W "-o --report --slots --budget --store --weights --deny-warnings --allow --json --help" -- "$word") ;;
+        run:-*) mapfile -t COMPREPLY < <(compgen -W "--budget --steps --profile --counts --json --help" -- "$word") ;;
+        list:-*) mapfile -t COMPREPLY < <(compgen -W "--budget --json --help" -- "$word") ;;
+        check:-*) mapfile -t COMPREPLY < <(compgen -W "--deny-warnings --allow --json --verbose --help" -- "$word") ;;
+        forms:-*) mapfile -t COMPREPLY < <(compgen -W "--json --help" -- "$word") ;;
+        test:-*) mapfile -t COMPREPLY < <(compgen -W "--budget --steps --case --update --interpret --tap --junit --json --help" -- "$word") ;;
+        trace:-*) mapfile -t COMPREPLY < <(compgen -W "--steps --line --json --help" -- "$word") ;;
+        page:-*) mapfile -t COMPREPLY < <(compgen -W "-o --budget --steps --json --help" -- "$word") ;;
+        fmt:-*) mapfile -t COMPREPLY < <(compgen -W "--json --check --help" -- "$word") ;;
+        asm:-*) mapfile -t COMPREPLY < <(compgen -W "-o --json --help" -- "$word") ;;
+        mem:-*) mapfile -t COMPREPLY < <(compgen -W "--json --help" -- "$word") ;;
+        *:-*) mapfile -t COMPREPLY < <(compgen -W "--help" -- "$word") ;;
+        help:*) mapfile -t COMPREPLY < <(compgen -W "$commands" -- "$word") ;;
+        explain:*)
+            case $before in
+                type) mapfile -t COMPREPLY < <(compgen -W "1 2 3 4 5 6 7 8 9 10 11 12 13 14 15 16 17 18 19 20 21 22 23 24" -- "$word") ;;
+                syntax) mapfile -t COMPREPLY < <(compgen -W "char number name syntax deep" -- "$word") ;;
+                *) mapfile -t COMPREPLY < <(compgen -W "type syntax status warnings" -- "$word") ;;
+            esac
+            ;;
+        forms:*) mapfile -t COMPREPLY < <(compgen -f -- "$word"; [ "$COMP_CWORD" -lt 3 ] || compgen -W "flat lowered inlined closed contracted simplified single measures" -- "$word") ;;
+        *) mapfile -t COMPREPLY < <(compgen -f -- "$word") ;;
     esac
 }
 complete -o filenames -F _nova nova
