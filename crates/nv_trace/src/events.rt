@@ -1,5 +1,7 @@
 // The events of a trace as a text, for a script.
 
+ghost use Rattle.std.specs.Prelude.{◌≤◌};
+
 use nv_base::Mem;
 use nv_lines::Message;
 use nv_meaning_values::{Event, Trace};
