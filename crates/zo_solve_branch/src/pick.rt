@@ -3,6 +3,9 @@
 //! At the first branch all are probed, or evenly as many as the work allows. Later they are probed in the order of their old
 //! scores, until the best score is at least the next old one; and first the column of the last node of this depth, which is
 //! kept while its score holds. Where no probe gains, a core names the column.
+//!
+//! Coarse probes don't show an arm that closes after many rounds. Where they say that the budget can't close the tree, the best
+//! columns are probed again, finely, and so are those of all later branches.
 
 use crate::probe::Probe;
 use crate::tree::{FRACTION_LIMIT, Hint, Tree};
@@ -16,10 +19,31 @@ const WORK: u64 = 60_000_000;
 const SAMPLE: usize = 16;
 /// At each later branch N columns are probed at the most.
 const PROBES: u32 = 200;
+/// Of fine probes, so many at the first branch, in so much work, and so many at each later one. Where the first of them takes more
+/// than its part, there are no others.
+const FINE_PROBES: u32 = 30;
+
+const FINE_WORK: u64 = 100_000_000;
+
+const FINE_PART: u64 = 8_000_000;
+
+const LATER_FINE_PROBES: u32 = 12;
+/// Coarse probes show at least one part in so many of a gain, and fine ones.
+const COARSE_PART: i128 = 4;
+
+const FINE_GAIN_PART: i128 = 2;
 /// A column that is nearer to 0 or 1 than this isn't kept for a neighbouring node.
 const MIDDLE: i64 = ONE / 5;
 /// Where the best score is less, a core is looked for.
 const LITTLE: i64 = (ONE / 32) * (ONE / 32) / 1_024;
+
+/// The hint of the greater score, or the first.
+fn better(best: Option<Hint>, next: Hint) -> Option<Hint> {
+    match best {
+        Some(hint) if hint.score >= next.score => Some(hint),
+        _ => Some(next),
+    }
+}
 
 impl Tree {
     /// Puts the columns in doubt of a row after the others.
@@ -60,7 +84,8 @@ impl Tree {
         let Some(hint) = self.hints.get(self.depth()).copied() else {
             return None;
         };
-        if !self.rounds.is_free(hint.column) || self.rounds.fractionality(hint.column) < MIDDLE {
+        let is_doubtful = self.is_fine || self.rounds.fractionality(hint.column) >= MIDDLE;
+        if !self.rounds.is_free(hint.column) || !is_doubtful {
             return None;
         }
         let score = self.probe(hint.column, need).score;
@@ -127,34 +152,97 @@ impl Tree {
             wait = wait.saturating_sub(1);
         }
         let lack = need.wrapping_sub(self.rounds.bound());
-        self.note_gains(lack, gain);
+        self.note_gains(lack, gain, COARSE_PART);
         None
     }
 
-    /// The column whose probe gains most, probed in the order of old scores.
+    /// Has the probes be fine from here on. Whether one of the column takes no more than its part.
+    fn turn_fine(&mut self, column: u32, need: i128) -> bool {
+        let begun = self.rounds.work();
+        self.is_fine = true;
+        self.probe(column, need);
+        self.is_fine = self.rounds.work().saturating_sub(begun) <= FINE_PART;
+        if self.is_fine {
+            self.rounds.take_noted_weight();
+        }
+        self.is_fine
+    }
+
+    /// Probes the columns finely, by their coarse scores, the best first; up to one that closes both arms. Of columns with the same
+    /// score the first alone is probed, since it is likely that they stand for each other. The column whose probe gains most.
+    fn probe_finely(&mut self, columns: &[u32], need: i128) -> Option<Hint> {
+        let end = self.rounds.work().saturating_add(FINE_WORK);
+        let mut best: Option<Hint> = None;
+        let mut left = FINE_PROBES;
+        let mut same: i64 = -1;
+        let mut score: i64 = -1;
+        let mut gain: i64 = 0;
+        for column in columns {
+            let was = self.score_of(*column);
+            if was < 0 || (was != same && (left == 0 || self.rounds.work() > end)) {
+                break;
+            }
+            if was != same {
+                same = was;
+                left = left.saturating_sub(1);
+                let told = self.probe(*column, need);
+                score = told.score;
+                gain = gain.max(told.least);
+                if told.is_closing {
+                    return Some(told.hint(*column));
+                }
+                best = better(best, told.hint(*column));
+            }
+            if let Some(it) = self.scores.get_mut(*column as usize) {
+                *it = score;
+            }
+        }
+        let lack = need.wrapping_sub(self.rounds.bound());
+        self.note_gains(lack, gain, FINE_GAIN_PART);
+        best
+    }
+
+    /// The column for the first branch by fine probes, where coarse ones give no hope; none where those take long.
+    fn refined(&mut self, alloc: Global, columns: &[u32], need: i128) -> Option<Hint> {
+        if !self.is_hopeless || !self.rounds.has_prices() {
+            return None;
+        }
+        let columns = self.ordered(alloc, columns, true);
+        let first = columns.first().copied()?;
+        if !self.turn_fine(first, need) {
+            return None;
+        }
+        self.probe_finely(&columns, need)
+    }
+
+    /// The column whose probe gains most, probed in the order of old scores; of fine probes one for each old score.
     fn best_probed(&mut self, columns: &[u32], need: i128) -> Option<Hint> {
         let mut best: Option<Hint> = None;
-        let mut left = PROBES;
+        let mut left = if self.is_fine {
+            LATER_FINE_PROBES
+        } else {
+            PROBES
+        };
+        let mut same: i64 = -1;
         for column in columns {
+            let was = self.score_of(*column);
             if let Some(hint) = &best {
                 let is_last = left == 0 || !self.may_go_on();
-                if is_last || hint.score >= self.score_of(*column) {
+                if is_last || hint.score >= was {
                     break;
                 }
+                if self.is_fine && was == same {
+                    continue;
+                }
             }
+            same = was;
             left = left.saturating_sub(1);
             let told = self.probe(*column, need);
             self.score(*column, told.score);
             if told.is_closing {
                 return Some(told.hint(*column));
             }
-            let is_best = match &best {
-                Some(hint) => told.score > hint.score,
-                None => true,
-            };
-            if is_best {
-                best = Some(told.hint(*column));
-            }
+            best = better(best, told.hint(*column));
         }
         best
     }
@@ -204,7 +292,12 @@ impl Tree {
         }
         if !self.has_scores {
             self.has_scores = true;
-            if let Some(hint) = self.probe_first(alloc, &columns, need) {
+            let closing = self.probe_first(alloc, &columns, need);
+            let first = match closing {
+                Some(hint) => Some(hint),
+                None => self.refined(alloc, &columns, need),
+            };
+            if let Some(hint) = first {
                 self.note(hint);
                 return Some(hint.column);
             }

@@ -1,12 +1,25 @@
-//! Probing: what a branch on a column would gain, by some coarse rounds in both of its arms, which are undone.
+//! Probing: what a branch on a column would gain, by some rounds in both of its arms, which are undone.
 
 use crate::tree::{Hint, Tree};
 use zo_solve_relaxation::ONE;
 
-/// So many rounds go in an arm, by moves of this size.
-const ROUNDS: u32 = 80;
+/// How far the rounds of a probe go in an arm, by moves of what size.
+#[derive(Clone, Copy, Drop)]
+struct Reach {
+    rounds: u32,
+    tolerance: i64,
+}
 
-const TOLERANCE: i64 = ONE >> 8;
+/// At first, and where a finer probe would take long.
+const COARSE: Reach = Reach {
+    rounds: 80,
+    tolerance: ONE >> 8,
+};
+/// Until an arm that is closed shows.
+const FINE: Reach = Reach {
+    rounds: 300,
+    tolerance: ONE >> 16,
+};
 /// No gain is greater.
 const MOST: i128 = 1 << 40;
 /// A smaller gain counts as this.
@@ -35,9 +48,9 @@ impl Probe {
 
 impl Tree {
     /// The best bound of some rounds.
-    fn best_bound(&mut self, need: i128) -> i128 {
+    fn best_bound(&mut self, need: i128, rounds: u32) -> i128 {
         let mut top = self.rounds.bound();
-        for _ in 0..ROUNDS {
+        for _ in 0..rounds {
             if self.rounds.is_still() {
                 return top;
             }
@@ -51,7 +64,7 @@ impl Tree {
     }
 
     /// What the bound gains with the column fixed at this; an arm that is closed gains half a unit more than is missing.
-    fn gain(&mut self, column: u32, value: bool, need: i128) -> (i64, bool) {
+    fn gain(&mut self, column: u32, value: bool, need: i128, rounds: u32) -> (i64, bool) {
         let before = self.rounds.bound();
         let mark = self.rounds.log_mark();
         let trail = self.rounds.fixed_count();
@@ -59,7 +72,7 @@ impl Tree {
         self.rounds.fix(column, value);
         let mut top = need.wrapping_add(1);
         if self.rounds.propagate() {
-            top = self.best_bound(need);
+            top = self.best_bound(need, rounds);
         }
         let gain = if top > need {
             need.wrapping_sub(before)
@@ -77,10 +90,11 @@ impl Tree {
 
     /// What a branch on the column gains.
     pub fn probe(&mut self, column: u32, need: i128) -> Probe {
+        let reach = if self.is_fine { FINE } else { COARSE };
         self.rounds.set_aside();
-        let tolerance = self.rounds.set_tolerance(TOLERANCE);
-        let (zero, is_closed) = self.gain(column, false, need);
-        let (one, is_also_closed) = self.gain(column, true, need);
+        let tolerance = self.rounds.set_tolerance(reach.tolerance);
+        let (zero, is_closed) = self.gain(column, false, need, reach.rounds);
+        let (one, is_also_closed) = self.gain(column, true, need, reach.rounds);
         self.rounds.set_tolerance(tolerance);
         self.rounds.take_aside();
         self.rounds.log_mark();

@@ -8,6 +8,7 @@ use std::alloc::{AllocError, Global};
 use zo_cert_tree::{CertNode, Claim};
 use zo_model::ZeroOne;
 use zo_solve_dive::{dive_below, improve_again, needed};
+use zo_solve_relaxation::long::Length;
 use zo_solve_relaxation::{ONE, Rounds, put};
 use zo_solve_state::Best;
 
@@ -19,6 +20,13 @@ const MULTIPLIERS: usize = 4_000_000;
 const ROOT_ROUNDS: u32 = 400;
 
 const WINDOW: u32 = 80;
+/// A run for the bound at the root alone, and its work.
+const ROOT_RUN: Length = Length {
+    rounds: 4_000,
+    most: 0,
+};
+
+const ROOT_WORK: u64 = 100_000_000;
 
 /// How far the rounds go at a node.
 #[derive(Clone, Copy, Drop)]
@@ -48,6 +56,8 @@ const COARSE: Effort = Effort {
 const FAR: i128 = 1 << 100;
 /// After so many branches the exchanges are taken up again.
 const LATER: u64 = 16;
+/// After so many, behind these exchanges, the rounds of a tree end that is lost.
+const LOST_AFTER: u64 = LATER + 8;
 /// After so much work, and every so many branches, the share of the tree that is closed has to give hope.
 const HOPE_WORK: u64 = 100_000_000;
 
@@ -116,6 +126,10 @@ pub struct Tree {
     pub budget: u64,
     pub is_off: bool,
     is_doubtful: bool,
+    // whether probes say that the budget can't close the tree, whether they show so much that this is sure, and whether they are fine
+    pub is_hopeless: bool,
+    is_lost: bool,
+    pub is_fine: bool,
     // whether the last node is open, and the work of the dives from such nodes
     is_open: bool,
     dive_work: u64,
@@ -158,6 +172,9 @@ impl Tree {
             budget: 0,
             is_off: false,
             is_doubtful: false,
+            is_hopeless: false,
+            is_lost: false,
+            is_fine: false,
             is_open: false,
             dive_work: 0,
         })
@@ -296,14 +313,16 @@ impl Tree {
             self.leave();
         }
         if !self.has_begun {
+            self.rounds.limit_to(ROOT_WORK);
+            self.rounds.run_long(FAR, ROOT_RUN);
             self.begin(0);
-            self.runs(FAR);
         }
     }
 
     /// Some rounds, until the bound is above `need` or a window gains too little. Whether it is.
     pub fn runs(&mut self, need: i128) -> bool {
-        let effort = if self.open < FINE_NODES { FINE } else { COARSE };
+        let is_fine = self.is_fine || self.open < FINE_NODES;
+        let effort = if is_fine { FINE } else { COARSE };
         let rounds = if self.arms.is_empty() {
             ROOT_ROUNDS
         } else {
@@ -418,13 +437,16 @@ impl Tree {
         }
     }
 
-    /// Notes what is missing at the root, and the best of what the weaker arms gain there.
-    pub fn note_gains(&mut self, lack: i128, gain: i64) {
+    /// Notes what is missing at the root, and the best of what the weaker arms gain there by probes that show at least the
+    /// part of one in so many.
+    pub fn note_gains(&mut self, lack: i128, gain: i64, part: i128) {
         let levels = 64_u32
             .saturating_sub(self.budget.leading_zeros())
             .saturating_add(DOUBT_LEVELS);
         let most = i128::from(gain).wrapping_mul(i128::from(levels));
         self.is_doubtful = gain >= DOUBT_GAIN && lack > most;
+        self.is_hopeless = lack > most.wrapping_mul(part);
+        self.is_lost = self.is_hopeless && gain >= DOUBT_GAIN;
     }
 
     /// Whether it is time to ask for hope.
@@ -437,10 +459,13 @@ impl Tree {
     }
 
     /// The node wasn't closed. Where a quarter of the budget can't close the tree by the share that is closed so far, the rounds
-    /// end.
+    /// end. They do so after the exchanges in a tree that is lost.
     pub fn leave_open(&mut self) {
         self.open = self.open.saturating_add(1);
         self.is_open = true;
+        if self.is_lost && self.open > LOST_AFTER {
+            self.is_off = true;
+        }
         if self.is_hope_due() {
             let budget = u128::from(self.budget).wrapping_mul(4);
             let hope = u128::from(self.share()).wrapping_mul(budget);

@@ -299,6 +299,7 @@ fn run_second(best: &Best, rounds: &mut Rounds) {
             rounds.run_long(need, SECOND);
         }
     }
+    rounds.note_weight();
     rounds.reset_weight();
     rounds.set_tolerance(TOLERANCE);
 }

@@ -45,6 +45,8 @@ pub struct Rounds {
     divisor: u32,
     pub(crate) first_weight: Weight,
     pub(crate) weight: Weight,
+    // a weight that was noted for later
+    noted_weight: Weight,
     tolerance: i64,
     pub(crate) bound: i128,
     has_prices: bool,
@@ -268,6 +270,7 @@ fn assembled(
         divisor: tables.divisor,
         first_weight: weight,
         weight,
+        noted_weight: weight,
         tolerance: 1,
         bound: 0,
         has_prices: true,
@@ -356,6 +359,20 @@ impl Rounds {
     /// Has columns and multipliers move as they did at first. How they did until now.
     pub fn reset_weight(&mut self) -> Weight {
         mem::replace(&mut self.weight, self.first_weight)
+    }
+
+    /// Notes the weight halfway between the first one and this one.
+    pub fn note_weight(&mut self) {
+        let both = self
+            .first_weight
+            .exponent
+            .wrapping_add(self.weight.exponent);
+        self.noted_weight = Weight::new(quotient(both, 2));
+    }
+
+    /// Has columns and multipliers move by the weight that was noted.
+    pub fn take_noted_weight(&mut self) {
+        self.weight = self.noted_weight;
     }
 
     /// How columns move, against multipliers.
