@@ -1,5 +1,5 @@
 -- Primitives that are the same.
-use Rattle.std.proofs.Common.{◌≡◌, ℕ, Bool, true, false, nat_eq, ◌&&◌, refl, sym, ap, ◌∙◌, List, [], ◌∷◌, Option, Some, None, if◌then◌else◌, All}
+use Rattle.std.proofs.Common.{◌≡◌, ℕ, zero, suc, ◌-◌, length, drop, Bool, true, false, nat_eq, ◌&&◌, refl, sym, ap, ◌∙◌, List, [], ◌∷◌, Option, Some, None, if◌then◌else◌, All}
 use Rattle.std.proofs.lemmas.Bool.{and_parts, false≢true}
 use Rattle.std.proofs.lemmas.List.Elements.{All-head, All-tail}
 use Rattle.nv_base.specs.declared.term.Atom.{Atom}
@@ -12,7 +12,8 @@ use Rattle.nv_base.specs.declared.term.Primitive.{Primitive}
 use Rattle.nv_base.specs.declared.term.Primitive.TheVariants.{Same, Una as UnaOf, Bin as BinOf}
 use Rattle.nv_base.proofs.Sets.{same-number}
 use Rattle.flow_values.specs.Values.{same_atom, una_code, bin_code, same_una, same_bin, same}
-use Rattle.flow_values.specs.inner.Above.{Entry, first}
+use Rattle.flow_values.specs.declared.known.Known.{Known}
+use Rattle.flow_values.specs.inner.Above.{Entry, entries, first, chosen, answer}
 
 atom_is : (a b : Atom) → same_atom a b ≡ true → a ≡ b
 atom_is (Var x) (Var y) e = ap Var (same-number x y e)
@@ -70,3 +71,18 @@ found P (k ∷ es) p y e h = at (same k.0 p) refl e (λ f. found P es p y f (All
     at : (b : Bool) → same k.0 p ≡ b → (if b then Some k.1 else first es p) ≡ Some y → (first es p ≡ Some y → Found P p y) → Found P p y
     at true s f rest = record { entry = k; holds = All-head P k es h; prim = prim_is k.0 p s; variable = some_is k.1 y f }
     at false s f rest = rest f
+
+-- ---- the nearest ones
+
+drop_entries : (n : ℕ) (ks : List Known) → entries (drop n ks) ≡ drop n (entries ks)
+drop_entries zero ks = refl
+drop_entries (suc n) [] = refl
+drop_entries (suc n) (k ∷ ks) = drop_entries n ks
+
+length_entries : (ks : List Known) → length (entries ks) ≡ length ks
+length_entries [] = refl
+length_entries (k ∷ ks) = ap suc (length_entries ks)
+
+pub answer_at : (above close : List Known) (p : Primitive) (o : Option ℕ) → close ≡ drop (length above - 256) above → o ≡ first (entries close) p → chosen o p ≡ answer (entries above) p
+answer_at above close p o e f =
+    ap (λ r. chosen r p) (f ∙ ap (λ l. first (entries l) p) e ∙ ap (λ l. first l p) (drop_entries (length above - 256) above) ∙ ap (λ n. first (drop (n - 256) (entries above)) p) (sym (length_entries above)))
