@@ -1,7 +1,7 @@
 # Completion of nova's words for bash. Written by editors/complete.
 _nova() {
     local word=${COMP_WORDS[COMP_CWORD]} before=${COMP_WORDS[COMP_CWORD - 1]} command=${COMP_WORDS[1]} it
-    local commands="asm build check explain fmt forms help list mem page run test trace version"
+    local commands="asm build check explain fmt forms help list lsp mem page run test trace version"
     COMPREPLY=()
     if [ "$COMP_CWORD" -eq 1 ]; then
         mapfile -t COMPREPLY < <(compgen -W "$commands --help --version" -- "$word")
@@ -30,6 +30,7 @@ _nova() {
         fmt:-*) mapfile -t COMPREPLY < <(compgen -W "--json --check --help" -- "$word") ;;
         asm:-*) mapfile -t COMPREPLY < <(compgen -W "-o --json --help" -- "$word") ;;
         mem:-*) mapfile -t COMPREPLY < <(compgen -W "--json --help" -- "$word") ;;
+        lsp:-*) mapfile -t COMPREPLY < <(compgen -W "--json --help" -- "$word") ;;
         *:-*) mapfile -t COMPREPLY < <(compgen -W "--help" -- "$word") ;;
         help:*) mapfile -t COMPREPLY < <(compgen -W "$commands" -- "$word") ;;
         explain:*)

@@ -10,6 +10,7 @@ _nova() {
     'forms:prints what each pass makes of a source'
     'help:prints the options of a command'
     'list:lists code with its labels'
+    'lsp:serves an editor by the Language Server Protocol on the standard input and output'
     'mem:prints the memory text that a readable text says'
     'page:saves a page of HTML'
     'run:runs an object'
@@ -33,8 +34,9 @@ _nova() {
     fmt) _arguments '--json[prints each error and each warning as an object of JSON on a line of its own]' '--check[saves no source]' '--help[prints the options of the command]' '*:file:_files' ;;
     asm) _arguments '-o[where the object or the page is saved]:value:_files' '--json[prints each error and each warning as an object of JSON on a line of its own]' '--help[prints the options of the command]' '*:file:_files' ;;
     mem) _arguments '--json[prints each error and each warning as an object of JSON on a line of its own]' '--help[prints the options of the command]' '*:file:_files' ;;
+    lsp) _arguments '--json[prints each error and each warning as an object of JSON on a line of its own]' '--help[prints the options of the command]' '*:file:_files' ;;
     explain) _arguments '--help[prints the options of the command]' '*:code:(type syntax status warnings)' ;;
-    help) _arguments '--help[prints the options of the command]' '*:command:(asm build check explain fmt forms help list mem page run test trace version)' ;;
+    help) _arguments '--help[prints the options of the command]' '*:command:(asm build check explain fmt forms help list lsp mem page run test trace version)' ;;
     version) _arguments '--help[prints the options of the command]' '*:file:_files' ;;
   esac
 }

@@ -427,7 +427,7 @@ def problems(top):
         module(top, "editors/make").package(file)
         with zipfile.ZipFile(file) as it:
             packed = set(it.namelist())
-    named = [given["languages"][0]["configuration"], given["grammars"][0]["path"]]
+    named = [given["languages"][0]["configuration"], given["grammars"][0]["path"], about["main"], "./connection.js"]
     found += [f"the package lacks {it}" for it in named if f"extension/{it[2:]}" not in packed]
     task = json.loads(read(top, "editors/vscode/tasks.json"))["tasks"][0]
     found += [] if task["problemMatcher"] == f"${matcher['name']}" else ["the task has another matcher"]
@@ -461,7 +461,7 @@ def man_as_made(top):
 
 # What a completion has to offer behind these words, of which the last is begun.
 COMPLETIONS = [
-    ("nova ", "asm build check explain fmt forms help list mem page run test trace version --help --version"),
+    ("nova ", "asm build check explain fmt forms help list lsp mem page run test trace version --help --version"),
     ("nova b", "build"),
     ("nova build --s", "--slots --store"),
     ("nova build -", "--allow --budget --deny-warnings --help --json --report --slots --store --weights -o"),
@@ -473,7 +473,7 @@ COMPLETIONS = [
     ("nova list -", "--budget --help --json"),
     ("nova test -", "--budget --case --help --interpret --json --junit --steps --tap --update"),
     ("nova trace -", "--help --json --line --steps"),
-    ("nova help l", "list"),
+    ("nova help l", "list lsp"),
     ("nova explain syntax n", "number name"),
     ("nova run -- -", ""),
     ("nova test --steps=", ""),

@@ -7,15 +7,25 @@ mod folders;
 
 use folders::DiskFolders;
 use nova_actions::{Ending, run};
+use nova_lsp::serve;
+use nova_words::{Command, command_of};
 use nv_base::NoMemory;
 use nv_outside::{DiskFiles, StdSink};
+use std::alloc::Global;
 use std::env;
-use std::io::{ErrorKind, IsTerminal};
+use std::io::{BufReader, ErrorKind, IsTerminal};
 use std::process::ExitCode;
 use std::rt::Env;
 
 fn main(rt: HostRuntime) -> ExitCode {
     let ending = match command_line(&rt) {
+        Ok(words) if asks_server(rt.alloc(), &words) => {
+            let mut out = StdSink::new(&rt);
+            match BufReader::new(rt.alloc(), rt.reader()) {
+                Ok(mut input) => ending_of(serve(rt.alloc(), &mut input, &mut out)),
+                Err(_) => Ending::Failed,
+            }
+        }
         Ok(words) => {
             let mut files = DiskFiles::new(&rt);
             let mut folders = DiskFolders::new(&rt);
@@ -36,6 +46,19 @@ fn main(rt: HostRuntime) -> ExitCode {
         Err(NoMemory) => Ending::Failed,
     };
     ExitCode::from(ending.code())
+}
+
+// Whether the words ask for the language server.
+fn asks_server(alloc: Global, words: &[String]) -> bool {
+    matches!(command_of(alloc, words), Ok(Command::Serve))
+}
+
+fn ending_of(is_done: bool) -> Ending {
+    if is_done {
+        Ending::Done
+    } else {
+        Ending::Failed
+    }
 }
 
 // Whether the environment asks for no colour.

@@ -116,6 +116,8 @@ fn perform<F: Files, D: Folders>(
         Command::Explain(words) => push_page_on(alloc, words, answer),
         Command::Help(verb) => push_help(&mut answer.out, verb),
         Command::Version => answer.out.line(VERSION),
+        // `main` serves an editor itself: it reads the standard input as it comes.
+        Command::Serve => {}
     }
     Vec::new(alloc)
 }

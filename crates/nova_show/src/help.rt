@@ -26,6 +26,7 @@ pub fn push_help(out: &mut Message, verb: Option<Verb>) {
         Some(Verb::Page) => push_lines(out, &PAGE),
         Some(Verb::Forms) => push_lines(out, &FORMS),
         Some(Verb::Format) => push_lines(out, &FORMAT),
+        Some(Verb::Serve) => push_lines(out, &SERVE),
         Some(Verb::Asm) => push_lines(out, &ASM),
         Some(Verb::Mem) => push_lines(out, &MEM),
         Some(Verb::Explain) => push_lines(out, &EXPLAIN),
@@ -44,7 +45,7 @@ fn push_lines(out: &mut Message, lines: &[&str]) {
     }
 }
 
-const USAGE: [&str; 26] = [
+const USAGE: [&str; 27] = [
     "nova compiles, runs, tests and explains programs of Nova, a language for packets.",
     "",
     "  nova build SRC [-o OBJ] ..     compiles a source and saves its object",
@@ -58,6 +59,7 @@ const USAGE: [&str; 26] = [
     "  nova fmt SRC ..                formats sources: sets their blanks, and leaves tokens, comments and ends of lines",
     "  nova asm TEXT [-o OBJ]         assembles an assembly text and saves its object",
     "  nova mem MEM                   prints a memory text of a readable one, or the other way round",
+    "  nova lsp                       answers an editor, as a language server on the standard input and output",
     "  nova explain CODE              prints what a refusal means, as `nova explain type 14`",
     "  nova help [COMMAND]            prints the options of a command",
     "  nova --version                 prints the version",
@@ -235,6 +237,17 @@ const MEM: [&str; 8] = [
     "`run`, `test` and `page` take readable texts too, by the ending of their name. docs/MEMORY.md has the form.",
     "",
     "The status is 1 where the text is refused.",
+];
+
+const SERVE: [&str; 8] = [
+    "nova lsp",
+    "",
+    "Serves an editor by the Language Server Protocol on the standard input and output: faults and warnings while one types,",
+    "types and sizes under the cursor, definitions and uses, other names, completion, and the format of `nova fmt`.",
+    "",
+    "An editor starts it, and editors/README.md says how. It reads no file: the editor sends the texts.",
+    "",
+    "The status is 0 where the editor said `shutdown` and `exit`, and else 1.",
 ];
 
 const EXPLAIN: [&str; 4] = [

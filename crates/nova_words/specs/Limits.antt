@@ -2,7 +2,7 @@
 use Rattle.std.specs.Prelude.{◌≡◌, ◌≢◌, ◌≤◌, ◌⊎◌, ℕ, All, IfSome, List, MatchOption, None, Option, Some, String, slice_get, string_bytes, codes, ⊤}
 use Rattle.std.specs.Global.{Global}
 use Rattle.nova_words.specs.declared.command.Command.{Command}
-use Rattle.nova_words.specs.declared.command.Command.TheVariants.{Build, Run, List as ListCommand, Check, Test, Trace, Page, Forms, Format, Asm, Mem, Explain, Help, Version}
+use Rattle.nova_words.specs.declared.command.Command.TheVariants.{Build, Run, List as ListCommand, Check, Test, Trace, Page, Forms, Format, Asm, Mem, Serve, Explain, Help, Version}
 use Rattle.nova_words.specs.declared.command.Build.{Build as BuildWords}
 use Rattle.nova_words.specs.declared.verb.Verb.{Verb}
 use Rattle.nova_words.specs.declared.verb.Verb.TheVariants as verb
@@ -64,6 +64,7 @@ name_of verb.Forms = codes "forms"
 name_of verb.Format = codes "fmt"
 name_of verb.Asm = codes "asm"
 name_of verb.Mem = codes "mem"
+name_of verb.Serve = codes "lsp"
 name_of verb.Explain = codes "explain"
 name_of verb.Help = codes "help"
 name_of verb.Version = codes "version"
@@ -87,6 +88,7 @@ IsCalled word (Trace t) = word ≡ codes "trace"
 IsCalled word (Page p) = word ≡ codes "page"
 IsCalled word (Forms f) = word ≡ codes "forms"
 IsCalled word (Format f) = word ≡ codes "fmt"
+IsCalled word Serve = word ≡ codes "lsp"
 IsCalled word (Asm a) = word ≡ codes "asm"
 IsCalled word (Mem name) = word ≡ codes "mem"
 IsCalled word (Explain words) = word ≡ codes "explain"

@@ -177,6 +177,8 @@ pub enum Command<'a> {
     Page(Page<'a>),
     Forms(Forms<'a>),
     Format(Format<'a>),
+    /// Answers an editor.
+    Serve,
     Asm(Asm<'a>),
     /// Of a memory text.
     Mem(&'a str),
@@ -276,6 +278,7 @@ fn command_in<'a>(
         Verb::Page => page_in(alloc, parts),
         Verb::Forms => forms_in(parts),
         Verb::Format => format_in(alloc, parts),
+        Verb::Serve => serve_in(parts),
         Verb::Asm => asm_in(parts),
         Verb::Mem => Ok(Command::Mem(only_name(parts, "MEM")?)),
         Verb::Explain => explain_in(parts, words),
@@ -388,6 +391,18 @@ fn format_in<'a>(alloc: Global, parts: &Parts<'a>) -> Result<Command<'a>, WordFa
         sources,
         is_check: parts.value(Setting::Check).is_some(),
     }))
+}
+
+fn serve_in<'a>(parts: &Parts<'a>) -> Result<Command<'a>, WordFault<'a>>
+    ensures limits { IfOk result HasLimits }
+    ensures some { IfOk result AllowsSome }
+    ensures numbers { IfOk result (HasNumbers parts.now.given.items) }
+    ensures called { IfOk result (IsCalled (codes "lsp")) }
+    ensures asks { IfOk result (λ c. IsHelp c → ⊥) }
+    ensures refused { IfErr result (IsFaultAt (name_of parts.now.verb)) }
+{
+    parts.check_names(0)?;
+    Ok(Command::Serve)
 }
 
 fn page_in<'a>(alloc: Global, parts: &Parts<'a>) -> Result<Command<'a>, WordFault<'a>>

@@ -19,13 +19,14 @@ pub enum Verb {
     Format,
     Asm,
     Mem,
+    Serve,
     Explain,
     Help,
     Version,
 }
 
 /// All commands, in the order of the help.
-pub const VERBS: [Verb; 14] = [
+pub const VERBS: [Verb; 15] = [
     Verb::Build,
     Verb::Run,
     Verb::List,
@@ -37,6 +38,7 @@ pub const VERBS: [Verb; 14] = [
     Verb::Format,
     Verb::Asm,
     Verb::Mem,
+    Verb::Serve,
     Verb::Explain,
     Verb::Help,
     Verb::Version,
@@ -59,6 +61,7 @@ impl Verb {
             Verb::Format => "fmt",
             Verb::Asm => "asm",
             Verb::Mem => "mem",
+            Verb::Serve => "lsp",
             Verb::Explain => "explain",
             Verb::Help => "help",
             Verb::Version => "version",
@@ -93,7 +96,7 @@ impl Verb {
             Verb::Format => &FORMAT,
             Verb::Asm => &ASM,
             Verb::Forms | Verb::Mem => &SHOWN,
-            Verb::Explain | Verb::Help | Verb::Version => &OTHER,
+            Verb::Serve | Verb::Explain | Verb::Help | Verb::Version => &OTHER,
         }
     }
 
