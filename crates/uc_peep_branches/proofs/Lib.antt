@@ -1,0 +1,4 @@
+pub mod Lighter
+pub mod Exchanged
+pub mod Turning
+pub mod Level
