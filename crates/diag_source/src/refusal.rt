@@ -74,13 +74,14 @@ fn explain_walked<'a>(
         found.title.put(kind_sentence(fault.kind));
     }
     found.title.message_text(&walk.title);
+    let span = named_span(found, fault);
     push_elsewhere(
         alloc,
         &mut found.help,
         program,
         it.source.bytes,
         fault.kind,
-        named_span(found, fault),
+        span,
     );
     found.help.message_text(&walk.note);
     let advice = walk.advice.unwrap_or(kind_advice(fault.kind));
