@@ -1,10 +1,10 @@
 -- What holds through passes that improve a flow, and of the flow that is chosen in the end.
-use Rattle.std.proofs.Common.{◌≡◌, ℕ, ◌≤◌, ◌⊎◌, inl, inr, List, map, sym, subst, ◌∙◌, Result, Ok, Err, All, IfOk, le_trans}
+use Rattle.std.proofs.Common.{◌≡◌, ℕ, ◌≤◌, ◌⊎◌, inl, inr, List, map, refl, sym, subst, ◌∙◌, Result, Ok, Err, All, IfOk, le_trans}
 use Rattle.nv_base.specs.declared.error.NoMemory.{NoMemory}
 use Rattle.nv_base.specs.Memories.{Memories}
 use Rattle.nv_base.specs.Meanings.{Meaning, KeepsOutcomes, AreEqual}
 use Rattle.nv_base.specs.Measures.{Bulk, IsAtMost}
-use Rattle.nv_base.proofs.Same.{keeps-trans}
+use Rattle.nv_base.proofs.Same.{keeps-trans, keeps-equal}
 use Rattle.cps_rules.specs.Simplified.{AreTidy}
 use Rattle.flow_ir.specs.Meaning.{flow_meaning, flow_params}
 use Rattle.flow_ir.specs.Reachable.{AreReachable}
@@ -35,6 +35,12 @@ pub equal_then : (f g h : List Label) → Equal f g → KeepsOutcomes (flow_para
 equal_then f g h p q =
     keeps-trans (flow_params f) (flow_params g) (flow_params h) (flow_meaning f) (flow_meaning g) (flow_meaning h) (equal_kept (flow_params f) (flow_params g) (flow_meaning f) (flow_meaning g) p.params p.equal) q
 
+-- a pass more whose outcomes are equal
+pub if_equal : (f g : List Label) (r : Result Flow NoMemory) → Equal f g → IfOk r (λ h. flow_params (map label_view h.labels.items) ≡ flow_params g) → IfOk r (λ h. AreEqual (flow_params g) (flow_meaning g) (flow_meaning (map label_view h.labels.items)))
+    → IfOk r (λ h. AreEqual (flow_params f) (flow_meaning f) (flow_meaning (map label_view h.labels.items)))
+if_equal f g (Ok h) e params equal = (equal_trans f g (map label_view h.labels.items) e (record { params = params; equal = equal })).equal
+if_equal f g (Err e') e params equal = tt
+
 -- ---- reduced flows
 
 pub if_reduced : (r : Result Flow NoMemory) → IfOk r (λ g. AreMerged (map label_view g.labels.items)) → IfOk r (λ g. AreReachable (map label_view g.labels.items)) → IfOk r (λ g. AllWanted (map label_view g.labels.items)) → IfOk r (λ g. All IsAtRest (map label_view g.labels.items)) → IfOk r (λ g. AreTidy (map label_view g.labels.items))
@@ -47,6 +53,13 @@ if_reduced (Err e) contracted led wanted rules tidy = tt
 pub kept_either : (a : ℕ) (m : List ℕ → Memories → Meaning) (f g h : List Label) → KeepsOutcomes a (flow_params f) m (flow_meaning f) → KeepsOutcomes (flow_params f) (flow_params g) (flow_meaning f) (flow_meaning g) → (h ≡ f) ⊎ (h ≡ g) → KeepsOutcomes a (flow_params h) m (flow_meaning h)
 kept_either a m f g h p q (inl e) = subst (λ k. KeepsOutcomes a (flow_params k) m (flow_meaning k)) (sym e) p
 kept_either a m f g h p q (inr e) = subst (λ k. KeepsOutcomes a (flow_params k) m (flow_meaning k)) (sym e) (keeps-trans a (flow_params f) (flow_params g) m (flow_meaning f) (flow_meaning g) p q)
+
+-- a flow that is another one keeps what that keeps
+pub kept_as : (a : ℕ) (m : List ℕ → Memories → Meaning) (f h : List Label) → KeepsOutcomes a (flow_params f) m (flow_meaning f) → h ≡ f → KeepsOutcomes a (flow_params h) m (flow_meaning h)
+kept_as a m f h p e = subst (λ k. KeepsOutcomes a (flow_params k) m (flow_meaning k)) (sym e) p
+
+pub kept_self : (f : List Label) → KeepsOutcomes (flow_params f) (flow_params f) (flow_meaning f) (flow_meaning f)
+kept_self f = keeps-equal (flow_params f) (flow_meaning f) (flow_meaning f) (λ args p arguments sizes n. refl)
 
 -- ---- bounds
 

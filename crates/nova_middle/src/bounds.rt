@@ -93,6 +93,5 @@ pub fn is_within(alloc: Global, b: &Bounds, s: &Ssu) -> Result<bool, NoMemory>
 {
     let held = ssu_liveness::peak(alloc, s)? as u64;
     let whole = ssu_ir::size(alloc, s)?;
-    let code = product(6, whole)?;
-    Ok(held <= b.peak && whole <= b.size && code <= b.length)
+    Ok(held <= b.peak && whole <= b.size && whole <= b.length / 6)
 }

@@ -19,7 +19,7 @@ ghost use Rattle.ssu_ir.specs.View.{labels_view};
 ghost use Rattle.ssu_make.specs.Bounds.{size_bound, length_bound};
 
 use crate::bounds::{Bounds, bounds_of, is_within};
-use crate::improve::improved;
+use crate::improve::{hoisted, improved};
 use crate::program::{first_flow, reduce};
 use flat_ir::FlatProgram;
 use flow_ir::Flow;
@@ -69,6 +69,29 @@ fn chosen(alloc: Global, b: &Bounds, flow: Flow, better: Flow) -> Result<Last, N
     }
 }
 
+// The second flow with literals as parameters, where its form is within bounds; else the chosen one of both.
+fn with_literals(alloc: Global, b: &Bounds, flow: Flow, better: Flow) -> Result<Last, NoMemory>
+    requires reduced { AreReduced (map label_view flow.labels.items) }
+    requires better { AreReduced (map label_view better.labels.items) }
+    requires kept { KeepsOutcomes (flow_params (map label_view flow.labels.items)) (flow_params (map label_view better.labels.items)) (flow_meaning (map label_view flow.labels.items)) (flow_meaning (map label_view better.labels.items)) }
+    requires peak { wide (map label_view flow.labels.items) ≤ b.now.peak }
+    requires size { size_bound (wide (map label_view flow.labels.items)) (bulk (map label_view flow.labels.items)) ≤ b.now.size }
+    requires code { length_bound (wide (map label_view flow.labels.items)) (bulk (map label_view flow.labels.items)) ≤ b.now.length }
+    ensures kept { IfOk result (λ l. KeepsOutcomes (flow_params (map label_view flow.labels.items)) (flow_params (map label_view l.flow.labels.items)) (flow_meaning (map label_view flow.labels.items)) (flow_meaning (map label_view l.flow.labels.items))) }
+    ensures made { IfOk result IsMade }
+    ensures peak { IfOk result (λ l. peak (labels_view l.form) ≤ b.now.peak) }
+    ensures size { IfOk result (λ l. size (labels_view l.form) ≤ b.now.size) }
+    ensures code { IfOk result (λ l. code_bound (labels_view l.form) ≤ b.now.length) }
+{
+    let held = hoisted(alloc, &better)?;
+    let third = made(alloc, held)?;
+    if is_within(alloc, b, &third.form)? {
+        Ok(third)
+    } else {
+        chosen(alloc, b, flow, better)
+    }
+}
+
 // The last flow of a flat program, with its form.
 fn finish(alloc: Global, f: &FlatProgram) -> Result<Last, NoMemory>
     ensures kept { IfOk result (λ l. KeepsOutcomes (flat_params f.now.funs.items f.now.main) (flow_params (map label_view l.flow.labels.items)) (flat_meaning f.now.funs.items f.now.main) (flow_meaning (map label_view l.flow.labels.items))) }
@@ -81,12 +104,12 @@ fn finish(alloc: Global, f: &FlatProgram) -> Result<Last, NoMemory>
     let bounds = bounds_of(alloc, &first)?;
     let flow = reduce(alloc, &first)?;
     let better = improved(alloc, &flow)?;
-    chosen(alloc, &bounds, flow, better)
+    with_literals(alloc, &bounds, flow, better)
 }
 
 /// The flow of which `middle` makes the single-use form, which has the program's outcomes: that of `to_flow`
-/// improved, where the form is still within the program's bounds, or else that of `to_flow`. The passes have nothing
-/// left to do in it.
+/// improved and with literals as parameters of loops, or improved alone, where the form is still within the program's
+/// bounds, or else that of `to_flow`. The passes have nothing left to do in it.
 pub fn last_flow(alloc: Global, f: &FlatProgram) -> Result<Flow, NoMemory>
     ensures kept { IfOk result (λ g. KeepsOutcomes (flat_params f.now.funs.items f.now.main) (flow_params (map label_view g.labels.items)) (flat_meaning f.now.funs.items f.now.main) (flow_meaning (map label_view g.labels.items))) }
     ensures reduced { IfOk result (λ g. AreReduced (map label_view g.labels.items)) }
