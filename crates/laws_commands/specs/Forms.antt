@@ -1,5 +1,5 @@
 -- Forms of one program, their banks and their code.
-use Rattle.std.specs.Prelude.{◌≡◌, ◌≤◌, ℕ, Bool, true, false, List, [], ◌∷◌, Option, filter, length}
+use Rattle.std.specs.Prelude.{◌≡◌, ◌≤◌, ℕ, suc, Bool, true, false, List, [], ◌∷◌, Option, Some, None, filter, filter_map, length}
 use Rattle.nv_ast.specs.Laws.{sum}
 use Rattle.nv_ast.specs.Sizes.{main_words}
 use Rattle.nv_ast.specs.Tree.{ProgramTree}
@@ -13,6 +13,7 @@ use Rattle.ucode_emit.specs.Operations.Operation.{Branching, Ending, Immediate, 
 use Rattle.uc_isa.specs.Agrees.{IsStart}
 use Rattle.uc_isa.specs.Code.{CodeView}
 use Rattle.uc_isa.specs.Engine.{engine}
+use Rattle.uc_isa.specs.declared.instruction.Cond.TheVariants.{Always, C, NC, NZ, Z}
 use Rattle.novac_words.specs.declared.status.Status.{Status}
 use Rattle.novac_words.specs.declared.status.Status.TheVariants.{Done}
 use Rattle.nova_back.specs.LeftOut.{LeavesOut}
@@ -39,7 +40,18 @@ pub record NoOtherEnd : Type 0 where
   pub large : (program : ProgramTree) (slots n : ℕ) → HasSmallBanks program slots → HasLargeBanks program slots n → ⊥
   pub done : (held : Holding) (name : List ℕ) (slots store : ℕ) (weights : Option (List ℕ)) (status : Status) (can : IsCompilable held name slots store weights) → HasTyped can.text (λ program. IsEndOf program slots store status) → status ≡ Done
 
--- an operation that is no computation: a read, a write, a branch or an end
+-- of an operation that is neither a computation nor a jump, what stays whatever the code: a read, a write, an end, or a branch by a flag, in one of its two senses
+abbrev pub lasting : Operation → Option Operation
+lasting (Reading m n) = Some (Reading m n)
+lasting (Writing m n) = Some (Writing m n)
+lasting (Branching Z) = Some (Branching Z)
+lasting (Branching NZ) = Some (Branching Z)
+lasting (Branching C) = Some (Branching C)
+lasting (Branching NC) = Some (Branching C)
+lasting (Ending k n) = Some (Ending k n)
+lasting _ = None
+
+-- an operation that is no computation
 abbrev pub acts : Operation → Bool
 acts (Reading m n) = true
 acts (Writing m n) = true
@@ -47,9 +59,18 @@ acts (Branching c) = true
 acts (Ending k n) = true
 acts _ = false
 
--- All reads, writes, branches and ends are kept, in order, and nothing is added. An immediate may be left out, and a read may not.
+-- how many jumps there are
+abbrev pub jumps : List Operation → ℕ
+jumps [] = 0
+jumps (Branching Always ∷ os) = suc (jumps os)
+jumps (o ∷ os) = jumps os
+
+-- All reads, writes, branches by a flag and ends are kept, in order, and nothing is added. Where no jump is left out, branches and jumps stay as they were. An
+-- immediate may be left out, and a read may not. A branch may take the other sense where the jump behind it goes.
 pub record OnlyComputationsAreLeftOut : Type 0 where
-  pub kept : (all rest : List Operation) → LeavesOut all rest → filter acts all ≡ filter acts rest
+  pub kept : (all rest : List Operation) → LeavesOut all rest → filter_map lasting all ≡ filter_map lasting rest
+  pub branches : (all rest : List Operation) → LeavesOut all rest → jumps all ≡ jumps rest → filter acts all ≡ filter acts rest
   pub fewer : (all rest : List Operation) → LeavesOut all rest → length rest ≤ length all
   pub immediate : LeavesOut (Immediate ∷ Ending 0 1 ∷ []) (Ending 0 1 ∷ [])
   pub read : LeavesOut (Reading Sram 1 ∷ Ending 0 1 ∷ []) (Ending 0 1 ∷ []) → ⊥
+  pub turned : LeavesOut (Branching Z ∷ Branching Always ∷ Ending 0 1 ∷ []) (Branching NZ ∷ Ending 0 1 ∷ [])

@@ -15,12 +15,14 @@ use Rattle.uc_isa.specs.declared.instruction.UnOp.TheVariants.{Copy, Not, Shl, S
 use Rattle.uc_peep.specs.Rewrites.{IsWithout, Compares}
 use Rattle.uc_peep.specs.Rewrites.IsWithout.{Nothing, Gone, Tested, Stays}
 use Rattle.uc_peep.proofs.Without.{compares-straight}
+use Rattle.uc_peep_branches.specs.Turned.{IsTurned, opposite}
+use Rattle.uc_peep_branches.specs.Turned.IsTurned.{Nothing as Flat, Turned as OneBranch, Stays as Unturned, InTurn as TwiceTurned}
 use Rattle.uc_isa_executions.specs.Relocated.{relocated}
 use Rattle.uc_isa_executions.specs.StraightCode.{IsStraight}
 use Rattle.ucode_emit.specs.Operations.{Operation, code_operations, instr_operation}
 use Rattle.ucode_emit.specs.SpillBase.{IsOtherSource, KeepsBase, SpillsByBase}
 use Rattle.nova_back.specs.LeftOut.{LeavesOut}
-use Rattle.nova_back.specs.LeftOut.LeavesOut.{Empty, Needless, Kept}
+use Rattle.nova_back.specs.LeftOut.LeavesOut.{Empty, Needless, Kept, Turned, InTurn as OneByOne}
 
 -- ---- operations
 
@@ -99,6 +101,30 @@ spills-left slots a b (Stays f i code code' w) h = both (spills-left slots code 
     both : SpillsByBase slots code' → SpillsByBase slots (relocated f i ∷ code')
     both rest zero d lt = keeps-relocated f slots i (h zero d (omega arith))
     both rest (suc k) d lt = rest k d (omega arith)
+
+-- ---- turned branches
+
+pub operations-turned : (code code' : List Instr) → IsTurned code code' → LeavesOut (code_operations code) (code_operations code')
+operations-turned a b Flat = Empty
+operations-turned a b (OneBranch c x y z code code' asked h) = Turned c (code_operations code) (code_operations code') asked (operations-turned code code' h)
+operations-turned a b (Unturned f i code code' h) =
+    subst (λ o. LeavesOut (cons_option (instr_operation i) (code_operations code)) (cons_option o (code_operations code'))) (sym (relocated-operation f i))
+    (stays (instr_operation i) (code_operations code) (code_operations code') (operations-turned code code' h))
+operations-turned a b (TwiceTurned first second third h g) = OneByOne (code_operations first) (code_operations second) (code_operations third) (operations-turned first second h) (operations-turned second third g)
+
+pub spills-turned : (slots : ℕ) (code code' : List Instr) → IsTurned code code' → SpillsByBase slots code → SpillsByBase slots code'
+spills-turned slots a b Flat h = h
+spills-turned slots a b (OneBranch c x y z code code' asked t) h = both (spills-turned slots code code' t (λ k d lt. h (suc (suc k)) d (omega arith)))
+  where
+    both : SpillsByBase slots code' → SpillsByBase slots (Br (opposite c) z ∷ code')
+    both rest zero d lt = tt
+    both rest (suc k) d lt = rest k d (omega arith)
+spills-turned slots a b (Unturned f i code code' t) h = both (spills-turned slots code code' t (λ k d lt. h (suc k) d (omega arith)))
+  where
+    both : SpillsByBase slots code' → SpillsByBase slots (relocated f i ∷ code')
+    both rest zero d lt = keeps-relocated f slots i (h zero d (omega arith))
+    both rest (suc k) d lt = rest k d (omega arith)
+spills-turned slots a b (TwiceTurned first second third t u) h = spills-turned slots second third u (spills-turned slots first second t h)
 
 -- ---- parameters
 

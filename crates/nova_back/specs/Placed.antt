@@ -6,14 +6,19 @@ use Rattle.place_plan.specs.Plan.{plan_view}
 use Rattle.reg_assign.specs.Assigned.{IsReadFrom}
 use Rattle.uc_isa.specs.declared.instruction.Instr.{Instr}
 use Rattle.uc_peep.specs.Rewrites.{IsWithout}
+use Rattle.uc_peep_branches.specs.Turned.{IsTurned}
 use Rattle.ucode_emit.specs.Emits.{AreEmitted}
 
--- for a placement that is read from the vector, the code is what the form emits under it, without some straight instructions, and with tests
--- in the place of some comparisons
+-- for a placement that is read from the vector, the code comes of what the form emits under it. First, some straight instructions are left out, and tests
+-- stand in the place of some comparisons. Then some branches and the jumps behind them become one branch. At last more is left out as at first
 pub record IsPlacedBy (labels : List Label) (slots : ℕ) (x : ℕ → Bool) (code : List Instr) : Type 0 where
   pub placement : Placement
   pub read : IsReadFrom labels slots x placement
   pub emitted_code : List Instr
   pub emitted_starts : List ℕ
   pub emitted : AreEmitted labels (plan_view placement) emitted_code emitted_starts
-  pub without : IsWithout emitted_code code
+  pub thinner_code : List Instr
+  pub thinner : IsWithout emitted_code thinner_code
+  pub turned_code : List Instr
+  pub turned : IsTurned thinner_code turned_code
+  pub without : IsWithout turned_code code

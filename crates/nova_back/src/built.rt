@@ -25,6 +25,7 @@ use ssu_ir::Ssu;
 use std::alloc::Global;
 use uc_isa::Code;
 use uc_peep::without_needless;
+use uc_peep_branches::with_turned_branches;
 use uc_peep_facts::without_repeats;
 use ucode_emit::{Emitted, emit};
 use zo_cert::Report;
@@ -41,7 +42,7 @@ pub struct Built {
 }
 
 /// The code of a form whose values stand where a choice of banks has them, without instructions that repeat what stands
-/// already, and without needless ones.
+/// already, without branches over a jump, and without needless instructions.
 fn code_of(
     alloc: Global,
     bank: &BankTables<'_>,
@@ -62,7 +63,8 @@ fn code_of(
     let emitted = emit(alloc, bank.form.ssu, &placement)?;
     let first = without_needless(alloc, emitted.code, emitted.starts)?;
     let once = without_repeats(alloc, first.code, first.starts)?;
-    let peeped = without_needless(alloc, once.code, once.starts)?;
+    let turned = with_turned_branches(alloc, once.code, once.starts)?;
+    let peeped = without_needless(alloc, turned.code, turned.starts)?;
     Ok(Emitted {
         code: peeped.code,
         starts: peeped.starts,
