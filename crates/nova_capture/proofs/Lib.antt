@@ -1,0 +1,2 @@
+pub mod NextOption
+pub mod Taken
