@@ -78,19 +78,11 @@ fn is_part(byte: u8) -> bool {
 
 fn push_address(alloc: Global, it: &mut Finding, text: &[u8]) -> bool {
     if let Ok(address) = Ipv4Addr::parse_ascii(text) {
-        it.title.put("an address has no points");
-        it.help.put("Write it as one number, ");
-        push_word(alloc, &mut it.help, address.to_bits());
-        it.help.line(".");
+        push_short(alloc, it, address.to_bits());
         return true;
     }
-    if let Some([a, b, c, d, e, f]) = station(text) {
-        it.title.put("a hardware address has no colons");
-        it.help.put("It is two words, of 32 and of 16 bits: ");
-        push_word(alloc, &mut it.help, word_of(a, b, c, d));
-        it.help.put(" and ");
-        push_word(alloc, &mut it.help, word_of(0, 0, e, f));
-        it.help.line(".");
+    if let Some(bytes) = station(text) {
+        push_station(alloc, it, bytes);
         return true;
     }
     match Ipv6Addr::parse_ascii(text) {
@@ -100,6 +92,23 @@ fn push_address(alloc: Global, it: &mut Finding, text: &[u8]) -> bool {
         }
         Err(_) => false,
     }
+}
+
+fn push_short(alloc: Global, it: &mut Finding, address: u32) {
+    it.title.put("an address has no points");
+    it.help.put("Write it as one number, ");
+    push_word(alloc, &mut it.help, address);
+    it.help.line(".")
+}
+
+fn push_station(alloc: Global, it: &mut Finding, bytes: [u8; 6]) {
+    let [a, b, c, d, e, f] = bytes;
+    it.title.put("a hardware address has no colons");
+    it.help.put("It is two words, of 32 and of 16 bits: ");
+    push_word(alloc, &mut it.help, word_of(a, b, c, d));
+    it.help.put(" and ");
+    push_word(alloc, &mut it.help, word_of(0, 0, e, f));
+    it.help.line(".")
 }
 
 fn push_long(alloc: Global, it: &mut Finding, bytes: [u8; 16]) {
