@@ -11,7 +11,7 @@ without_needless-requires-clause-lawful c = subst (λ (o : Object). IsLawful (co
 
 pub without_needless-requires-in-Two-clause-lawful : goal.without_needless-requires-in-Two-clause-lawful
 without_needless-requires-in-Two-clause-lawful c =
-    subst (λ (v : CodeView). IsLawful v.list) (sym c.into_parts.ensures.code) (subst (λ (o : Object). IsLawful (code_of o).list) c.in-Two.is c.requires)
+    subst (λ (v : CodeView). IsLawful v.list) (sym c.into_parts-code.ensures.code) (subst (λ (o : Object). IsLawful (code_of o).list) c.in-Two.is c.requires)
 
 pub returns-in_ok-peeped-in-One : goal.returns-in_ok-peeped-in-One
 returns-in_ok-peeped-in-One c =
@@ -27,8 +27,8 @@ returns-in_ok-peeped-in-Two c =
     let h = c.in_ok-peeped-in-Two.ensures in
     let d = c.in_ok-peeped-in-Two.peeped.code in
     let starts' = c.in_ok-peeped-in-Two.peeped.starts.items in
-    let parts = c.into_parts.ensures in
-    without-two c.args.object c.in-Two.tagged c.new-in-Two.result d c.into_parts.result.1.items starts' c.in-Two.is c.new-in-Two.ensures parts.exceptions
+    let parts = c.into_parts-code.ensures in
+    without-two c.args.object c.in-Two.tagged c.new-in-Two.result d c.into_parts-code.result.1.items starts' c.in-Two.is c.new-in-Two.ensures parts.exceptions
     (subst (λ (v : CodeView). IsShorterCode v c.in-Two.tagged.starts d starts') parts.code
-    (subst (λ (l : List ℕ). IsShorterCode c.into_parts.result.0 l d starts') parts.starts
+    (subst (λ (l : List ℕ). IsShorterCode c.into_parts-code.result.0 l d starts') parts.starts
     (record { params = h.params; lawful = h.lawful; agrees = h.agrees; kept = h.kept; without = h.without; settled = h.settled })))
