@@ -1,5 +1,6 @@
 -- Ids that are read in the same way are the same.
-use Rattle.std.proofs.Common.{◌≡◌, ℕ, ℤ, List, Bool, true, false, Option, Some, None, option_and_then, is_some, refl, sym, ap, ◌∙◌, true≢false, false≢true, rules}
+use Rattle.std.proofs.Common.{◌≡◌, ℕ, ℤ, List, Bool, true, false, Option, Some, None, option_and_then, is_some, refl, sym, ap, ◌∙◌, true≢false, rules}
+use Rattle.std.proofs.lemmas.Bool.{false≢true}
 use Rattle.std.proofs.lemmas.Option.{none-some}
 use Rattle.serde_json.specs.Data.{Num, unsigned, negative, float, Data, null, boolean, number, string, array, object}
 use Rattle.serde_json.specs.View.{view}
@@ -55,4 +56,4 @@ pub same_unsigned : (d e : Data) (n : ℕ) → option_and_then as_u64 (as_number
 same_unsigned d e n g h = of_unsigned d n g ∙ sym (of_unsigned e n h)
 
 pub same_negative : (d e : Data) (z : ℤ) → option_and_then as_u64 (as_number d) ≡ None → option_and_then as_u64 (as_number e) ≡ None → option_and_then as_i64 (as_number d) ≡ Some z → option_and_then as_i64 (as_number e) ≡ Some z → d ≡ e
-same_negative d e z no none g h = of_negative d z no g ∙ sym (of_negative e z none h)
+same_negative d e z small other g h = of_negative d z small g ∙ sym (of_negative e z other h)
