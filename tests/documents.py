@@ -118,7 +118,7 @@ def explained(row, answer):
     if " at " in answer:
         front = ".. error: .."
     elif answer.startswith("too large"):
-        front = f"s.nova: error: the expanded size is {answer.split()[-1]}, .."
+        front = f".. error: the expanded size is {answer.split()[-1]}, .."
     else:
         front = "s.nova: a program without a fault"
     words, text = ["nova", "check", "--verbose", "s.nova"], f"{front}\n..\n".encode()

@@ -228,9 +228,9 @@ def megabytes_of_report(it):
 def saved_report(it):
     stores = "".join(f"sram({at}) <- a + b; " for at in range(250))
     it.put("s", f"fun main[a: word, b: word]: () {{ {stores}() }}\n".encode())
-    it.runs("compile s o r store=1048576", 0, "compiled 511 optimal 1\n")
+    it.runs("compile s o r store=1048576", 0, "compiled 512 optimal 251\n")
     it.holds(os.path.getsize(it.path("r")) > 1 << 20, "the report is short")
-    it.runs("check r", 0, "optimal 1\n")
+    it.runs("check r", 0, "optimal 251\n")
     it.has("s", "o", "r")
 
 
