@@ -47,7 +47,7 @@ fn assemble_as<F: Files>(
     let Some(text) = load(alloc, files, words.source, ASSEMBLY_LIMIT, answer) else {
         return;
     };
-    if let Some(assembled) = assembled(alloc, words.source, &text, answer) {
+    if let Some(assembled) = object_of_text(alloc, words.source, &text, answer) {
         let Assembled {
             object: bytes,
             instructions,
@@ -85,7 +85,7 @@ struct Assembled {
 }
 
 // The object of an assembly text; where there is none, the answer says why.
-fn assembled(alloc: Global, name: &str, text: &[u8], answer: &mut Answer) -> Option<Assembled>
+fn object_of_text(alloc: Global, name: &str, text: &[u8], answer: &mut Answer) -> Option<Assembled>
     requires { length text.now ≤ assembly_limit }
     ensures { IfSome result (λ it. IsAssembledTo text.now it.object.items it.instructions) }
 {
