@@ -16,7 +16,7 @@ use nova_show::{
     Answer, Ending, Saving, VERSION, print, push_help, push_page_on, push_word_fault, save_all,
 };
 use nova_texts::{assemble_file, show_memory};
-use nova_trace::trace;
+use nova_trace::print_trace;
 use nova_words::{Command, command_of};
 use nv_base::NoMemory;
 use nv_lines::Message;
@@ -112,7 +112,7 @@ fn perform<F: Files, D: Folders>(
             drop(words);
             return savings;
         }
-        Command::Trace(words) => trace(alloc, files, words, answer),
+        Command::Trace(words) => print_trace(alloc, files, words, answer),
         Command::Explain(words) => push_page_on(alloc, words, answer),
         Command::Help(verb) => push_help(&mut answer.out, verb),
         Command::Version => answer.out.line(VERSION),

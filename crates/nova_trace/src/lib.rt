@@ -5,4 +5,4 @@ mod place;
 mod trace;
 
 pub use place::last_place;
-pub use trace::trace;
+pub use trace::print_trace;

@@ -19,7 +19,7 @@ use std::alloc::Global;
 const KEPT_WRITES: u32 = 1024;
 
 /// Tells which statement of a source made each write, and by which calls, on the memories and arguments of a memory text.
-pub fn trace<F: Files>(alloc: Global, files: &mut F, words: Tracing, answer: &mut Answer)
+pub fn print_trace<F: Files>(alloc: Global, files: &mut F, words: Tracing, answer: &mut Answer)
     ensures { F.held files.new ≡ F.held files.old }
 {
     let Some(source) = load(alloc, files, words.source, SOURCE_LIMIT, answer) else {
