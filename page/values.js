@@ -9,7 +9,7 @@ const NODES = [
   [/^([0-9]+)=~([0-9]+)$/, m => ({ op: 'un', operation: 'NOT', defines: valuesIn(m[1]), uses: valuesIn(m[2]), text: ' = ~v' + m[2] })],
   [/^([0-9]+)=([0-9]+)([-+&|^])([0-9]+)$/, m => ({ op: 'alu', operation: { '+': 'ADD', '-': 'SUB', '&': 'AND', '|': 'OR', '^': 'XOR' }[m[3]], defines: valuesIn(m[1]), uses: valuesIn(m[2] + ',' + m[4]), text: ' = v' + m[2] + ' ' + m[3] + ' v' + m[4] })],
   [/^([0-9]+)=(\w+)$/, m => ({ op: 'literal', word: Number(m[2]), defines: valuesIn(m[1]), text: ' = ' + m[2] })],
-  [/^if([0-9]+)([=!<>]+)([0-9]+)\{$/, m => ({ op: 'if', uses: valuesIn(m[1] + ',' + m[3]), text: 'if v' + m[1] + ' ' + m[2] + ' v' + m[3] + ' {' })],
+  [/^if([0-9]+)([=!<>]+)([0-9]+)\{$/, m => ({ op: 'if', fails: { '==': 'NZ', '!=': 'Z', '<': 'C', '>=': 'NC' }[m[2]], uses: valuesIn(m[1] + ',' + m[3]), text: 'if v' + m[1] + ' ' + m[2] + ' v' + m[3] + ' {' })],
   [/^jump([0-9]+)\(([0-9,]*)\)$/, m => ({ op: 'jump', next: Number(m[1]), uses: valuesIn(m[2]), text: 'jump ' + m[1] + '(' + valuesIn(m[2]).join(', ') + ')' })],
   [/^end(?:raised([0-9]+))?\(([0-9,]*)\)$/, m => ({ op: 'halt', exception: Number(m[1] || 0), uses: valuesIn(m[2]), text: 'end ' + (m[1] ? 'raised ' + m[1] + ' ' : '') + '(' + valuesIn(m[2]).join(', ') + ')' })],
   [/^(\w+)\(([0-9]+)\)<-([0-9,]+)$/, m => ({ op: 'write', memory: m[1], uses: valuesIn(m[2] + ',' + m[3]), text: m[1] + '(v' + m[2] + ') <- ' + valuesIn(m[3]).join(', ') })],
@@ -151,7 +151,15 @@ function followLabel(code, form, start, end, entry) {
         now.set(register, { value: row.defines[n] || null });
         note.writes.set(register, now.get(register));
       });
-      if (row.op === 'if') arms.set(it.target, new Map(now));
+      if (row.op === 'if' && it.condition === row.fails) arms.set(it.target, new Map(now));
+      if (row.op === 'if' && it.condition !== row.fails) {
+        // The branch is that of the arm, which is a jump alone; behind it stands the other arm.
+        while (at < rows.length && (rows[at].op === 'literal' || rows[at].op === 'un' || rows[at].op === 'alu')) at += 1;
+        if (at === rows.length || rows[at].op !== 'jump') return null;
+        note.arm = rows[at];
+        note.held = new Map(now);
+        at += 1;
+      }
       if (row.op === 'jump') note.held = new Map(now);
     }
     if (state.isWrong) return null;
@@ -174,7 +182,7 @@ function followCode(listing, forms) {
   });
   // A jump hands words on to the registers of the label's parameters.
   for (const note of notes) {
-    const row = note && note.row;
+    const row = note && (note.arm || note.row);
     if (!row || row.op !== 'jump' || !note.held || !entries.has(row.next)) continue;
     const from = forms.get(note.label), to = forms.get(row.next), state = { isWrong: false, literals: from.literals };
     for (const [register, word] of entries.get(row.next)) {

@@ -4,6 +4,7 @@ from oracle.machine.windows import reads, writes
 
 # A comparison is a difference and a branch where it fails.
 FAILING = {"==": "NZ", "!=": "Z", "<": "C", ">=": "NC"}
+OPPOSITE = {"NZ": "Z", "Z": "NZ", "C": "NC", "NC": "C"}
 COMPUTATIONS = ("immediate", "unary", "binary")
 
 
@@ -43,12 +44,18 @@ def instruction_operations(instruction):
 
 
 def operation_faults(form, code):
-    """The operations of the code are those of the form in order, but for computations that are left out."""
+    """The operations of the code are those of the form in order, but for computations that are left out and for branches that are turned."""
     wanted = form_operations(form)
     for instruction in code.instructions:
         for operation in instruction_operations(instruction):
             while wanted and wanted[0] != operation and wanted[0][0] in COMPUTATIONS:
                 wanted.pop(0)
+            if operation[0] == "branch" and wanted and wanted[0] == ("branch", OPPOSITE.get(operation[1])):
+                # This branch and the jump behind it stand as the one branch on the opposite condition.
+                wanted.pop(0)
+                while wanted and wanted[0][0] in COMPUTATIONS:
+                    wanted.pop(0)
+                operation = ("branch", "ALWAYS")
             if not wanted or wanted.pop(0) != operation:
                 return [f"{instruction} is no operation of the form that is left"]
     return [f"{wanted} aren't in the code"] * any(it[0] not in COMPUTATIONS for it in wanted)
