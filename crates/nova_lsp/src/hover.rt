@@ -291,10 +291,13 @@ fn push_type_of(alloc: Global, text: &mut Message, document: &Document, it: Occu
     let Some(typed) = &document.typed else {
         return;
     };
-    let span = Span {
-        first: document.names.first_of(first_token(document, it)) as u32,
-        after: document.names.after_of(it.token) as u32,
+    let Ok(first) = u32::try_from(document.names.first_of(first_token(document, it))) else {
+        return;
     };
+    let Ok(after) = u32::try_from(document.names.after_of(it.token)) else {
+        return;
+    };
+    let span = Span { first, after };
     let mut code = Message::new(alloc);
     code.bytes(document.names.spelling(it.token));
     code.put(": ");
