@@ -56,4 +56,4 @@ headline old new Printed (Some (Trace source object memory steps calls line)) h 
 headline old new Printed (Some (Peep object output)) h = tt
 headline old new Printed (Some (Counts source memory output jumps)) h = tt
 headline old new Printed (Some (Gen seed size)) h = tt
-headline old new Printed (Some (Compile source object report slots budget store weights)) h = promised old new source object report slots budget store weights h.0 h.1.0
+headline old new Printed (Some (Compile source object report slots budget store weights)) h = promised old new source object report slots budget store weights h.0 h.1
