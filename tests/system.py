@@ -422,7 +422,7 @@ def other_names(it):
 @row("temporary files that killed runs left are in nobody's way, and stay")
 def leftovers(it):
     # A run's names begin at a random number of 64 bits, so none of these is likely to be taken again: that a name which is taken
-    # fails no save is proved, and tried over a store that has it (test_machine).
+    # fails no save is proved, and tried over a store that has it (test_libraries).
     it.put("t", TEXT)
     left = [f".novac-{first}-{number}.tmp" for first in (0, 1, 2**63, 2**64 - 1) for number in range(250)]
     for name in left:

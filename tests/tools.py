@@ -499,7 +499,7 @@ def completion(top):
 def pages_as_made(top):
     """The pages of `nova explain` are those of docs/FAULTS.md."""
     made = pages.files(top).items()
-    return [f"{name} is to be written again by tests/pages.py" for name, text in made if read(top, f"crates/diag_pages/src/{name}") != text]
+    return [f"{name} is to be written again by tests/pages.py" for name, text in made if read(top, f"crates/diag_text/src/{name}") != text]
 
 
 def page_as_made(top):
@@ -689,7 +689,7 @@ VARIANTS = [
     ("A warning", "crates/diag_lint/src/warning.rt", "Cause"),
 ]
 # Crates of tests and worked examples, which show some variants and have no arm for each.
-SHOWN = re.compile(r"test_|laws_examples|laws_commands")
+SHOWN = re.compile(r"test_|laws_commands|laws_commands")
 
 
 def without_comments(text, path):

@@ -12,10 +12,10 @@ ghost use Rattle.bank_prog_form.specs.Program.{same_column, row_of};
 ghost use Rattle.bank_prog_form.specs.Rows.{lines};
 ghost use Rattle.bank_prog_form.specs.inner.Adds.{Adds};
 
+use crate::capacity::push_capacity;
+use crate::operands::push_operand_banks;
 use bank_prog_form::form::Form;
 use bank_prog_form::numbers::Numbers;
-use bank_prog_limits::capacity::push_capacity;
-use bank_prog_limits::operands::push_operand_banks;
 use bank_prog_rows::{push_adjacency, push_homes_cover, push_one_choice, push_owners, push_passes};
 use nv_base::NoMemory;
 use std::alloc::Global;

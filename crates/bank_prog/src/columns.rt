@@ -10,12 +10,12 @@ ghost use Rattle.bank_prog_form.specs.declared.column.Column.TheVariants as colu
 ghost use Rattle.bank_prog_form.specs.inner.Form as form;
 ghost use Rattle.bank_prog_form.specs.inner.Form.{summary_view, value_view, access_view};
 
+use crate::early::push_ears;
 use bank_prog_form::column::{Bank, Column, Priced, Service};
 use bank_prog_form::form::{Access, Form, Origin, PointSummary, Value};
 use bank_prog_form::names;
 use bank_prog_form::runs::{beginnings, origin_beginnings, role_beginnings};
 use bank_prog_form::services::services;
-use bank_prog_limits::early::push_ears;
 use nv_base::NoMemory;
 use place_plan::Use;
 use std::alloc::Global;

@@ -7,3 +7,12 @@ pub mod Whole
 pub mod Walk
 pub mod Counting
 pub mod Testing
+pub mod Keeping
+pub mod Same
+pub mod ParamsFormed
+pub mod ParamsNarrow
+pub mod ParamsWhole
+pub mod Asking
+pub mod Ranks
+pub mod Cutting
+pub mod Contracted

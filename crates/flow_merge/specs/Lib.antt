@@ -1,2 +1,3 @@
 pub mod Contracted
 pub mod inner
+pub mod Wanted

@@ -5,3 +5,7 @@ pub mod Sank
 pub mod Likeness
 pub mod Whole
 pub mod Spine
+pub mod Prims
+pub mod ValuesMeans
+pub mod Kept
+pub mod Along

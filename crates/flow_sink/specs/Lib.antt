@@ -1,2 +1,3 @@
 pub mod Sunk
 pub mod inner
+pub mod Values

@@ -1,1 +1,2 @@
 pub mod Sinking
+pub mod Above

@@ -21,7 +21,7 @@ use Rattle.uc_isa.specs.Code.{CodeView}
 use Rattle.uc_isa.specs.Engine.{engine}
 use Rattle.uc_isa.specs.declared.instruction.Cond.{Cond}
 use Rattle.uc_isa.specs.declared.instruction.Cond.TheVariants.{Always, C, NC, NZ, Z}
-use Rattle.uc_peep_branches.specs.Turned.{asks, opposite}
+use Rattle.uc_peep_facts.specs.Turned.{asks, opposite}
 use Rattle.nova_back.specs.LeftOut.{IsComputation, LeavesOut}
 use Rattle.nova_back.specs.LeftOut.LeavesOut.{Empty, InTurn, Kept, Needless, Turned}
 use Rattle.nova_compile.specs.Forms.{banks_bound, HasLargeBanks, HasSmallBanks, IsCodeFor, IsFormOf}

@@ -8,3 +8,10 @@ mod ReportsProved
 mod FormsProved
 mod RunsProved
 mod WeightsProved
+mod ShortCode
+mod ShortForms
+mod ShortStores
+mod ShortTexts
+mod ShortTrees
+mod ShortSaves
+mod ShortTraces

@@ -36,8 +36,8 @@ use Rattle.novac_words.specs.Status.{outcome_status}
 use Rattle.novac_words.specs.declared.status.Status.{Status}
 use Rattle.novac_words.specs.declared.status.Status.TheVariants.{Raised, StepsSpent}
 use Rattle.novac_machine.specs.Machine.{full_text, IsRun, printed_text, raised_name, run_text, shown_writes, spill_base}
-use Rattle.nova_front.specs.Sources.{IsTypedSource}
-use Rattle.nova_front.proofs.OneSource.{source-program}
+use Rattle.nova_compile.specs.Sources.{IsTypedSource}
+use Rattle.nova_compile.proofs.OneSource.{source-program}
 use Rattle.nv_generate.specs.Made.{made}
 use Rattle.novac_commands.specs.Executing.{IsExecuted}
 use Rattle.novac_commands.specs.Generating.{IsGenerated, MeansWord}

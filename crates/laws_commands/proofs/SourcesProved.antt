@@ -4,8 +4,8 @@ use Rattle.nv_ast.specs.Grammar.{no_decl}
 use Rattle.nv_ast.specs.Laws.{span}
 use Rattle.nv_ast.proofs.Worked.{empty_program}
 use Rattle.nv_text.specs.Tokens.{stop}
-use Rattle.nova_front.specs.Sources.{IsUntyped}
-use Rattle.nova_front.proofs.OneSource.{source-program, cause-none, cause-one}
+use Rattle.nova_compile.specs.Sources.{IsUntyped}
+use Rattle.nova_compile.proofs.OneSource.{source-program, cause-none, cause-one}
 use Rattle.novac_commands.proofs.OneSource.{source-good, source-one}
 use Rattle.laws_commands.specs.Sources.{NamesByLines, OneProgram}
 

@@ -4,8 +4,8 @@ use Rattle.std.specs.Fmt.{digits}
 use Rattle.std.proofs.lemmas.List.Elements.{All-nil, All-cons}
 use Rattle.nv_outside.specs.Holding.{Holding}
 use Rattle.place_weights.specs.Weighted.{AreWeights}
-use Rattle.place_weights_text.specs.WeightsText.{AreCounts}
-use Rattle.place_weights_text.proofs.Exact.{bad_answer, given_answer, weights-bounded}
+use Rattle.place_weights.specs.WeightsText.{AreCounts}
+use Rattle.place_weights.proofs.Exact.{bad_answer, given_answer, weights-bounded}
 use Rattle.novac_words.specs.declared.refusal.Refusal.{Refusal}
 use Rattle.novac_words.specs.declared.refusal.Refusal.TheVariants.{BadWeights}
 use Rattle.novac_commands.specs.Weighing.{AreWeighed, HasWeights, IsWeighedBy, WeightsRefuse}

@@ -8,3 +8,10 @@ pub mod Reports
 pub mod Forms
 pub mod Runs
 pub mod Weights
+pub mod ExamplesMachine
+pub mod ExamplesForms
+pub mod ExamplesReports
+pub mod Texts
+pub mod Stores
+pub mod Traces
+pub mod Saves

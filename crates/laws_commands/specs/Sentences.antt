@@ -5,7 +5,7 @@ use Rattle.nv_ast.specs.Sizes.{main_words}
 use Rattle.nv_ast.specs.Tree.{ProgramTree}
 use Rattle.nv_base.specs.Meanings.{KeepsOutcomes}
 use Rattle.nv_meaning.specs.Meaning.{source}
-use Rattle.nova_front.specs.Sources.{IsSource}
+use Rattle.nova_compile.specs.Sources.{IsSource}
 use Rattle.ssu_ir.specs.Entered.{entered}
 use Rattle.ssu_ir.specs.Meaning.{ssu_meaning, ssu_params}
 use Rattle.ssu_ir.specs.Tree.{Label}
@@ -16,8 +16,8 @@ use Rattle.uc_isa.specs.Agrees.{Agrees}
 use Rattle.uc_isa.specs.Code.{CodeView}
 use Rattle.uc_isa.specs.Lawful.{IsLawful}
 use Rattle.uc_isa.specs.Moves.{moves}
-use Rattle.uc_isa_executions.specs.Entries.{IsVisited}
-use Rattle.uc_isa_executions.specs.Starts.{AreStarts}
+use Rattle.uc_isa.specs.Entries.{IsVisited}
+use Rattle.uc_isa.specs.Starts.{AreStarts}
 use Rattle.uc_object.specs.Object.{IsTaggedObject}
 use Rattle.uc_object.specs.Tagged.{TaggedView}
 use Rattle.zo_cert.specs.Contents.{report_contents}

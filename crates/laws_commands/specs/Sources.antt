@@ -2,8 +2,8 @@
 use Rattle.std.specs.Prelude.{◌≡◌, ◌++◌, ℕ, List, [], ◌∷◌, codes, ⊤}
 use Rattle.nv_ast.specs.Laws.{span}
 use Rattle.nv_ast.specs.Tree.{ExceptionDecl, GroupDecl, LayoutDecl, ProgramTree, no_types, PartsLayout, no_fields}
-use Rattle.nova_front.specs.Sources.{IsCause, IsSource, IsTypedSource}
-use Rattle.nova_front.specs.declared.error.FrontError.{FrontError}
+use Rattle.nova_compile.specs.Sources.{IsCause, IsSource, IsTypedSource}
+use Rattle.nova_compile.specs.declared.error.FrontError.{FrontError}
 use Rattle.novac_words.specs.declared.refusal.Refusal.{Refusal}
 use Rattle.novac_words.specs.declared.refusal.Refusal.TheVariants.{SourceType}
 use Rattle.nova_compile.specs.Naming.{source_exceptions}

@@ -9,7 +9,7 @@ use nova_show::{
     Answer, Ending, MemoryText, Saving, Visits, load, load_memory, push_outside, push_profile,
     push_run_refusal, save_counts, visits_of,
 };
-use nova_trace::last_place;
+use nova_texts::last_place;
 use nova_words::Run;
 use novac_machine::run_bytes;
 use novac_words::limits::OBJECT_LIMIT;

@@ -8,11 +8,11 @@ use crate::compiled::{object_of_source, push_refused};
 use crate::folders::Folders;
 use crate::found::{Folder, case_of, folder_at, is_case, split_path};
 use crate::verdict::{Outcomes, push_verdict};
-use nova_front::{FrontError, typed};
+use nova_compile::{FrontError, typed};
 use nova_show::{
     Answer, Ending, MemoryText, Saving, add_saving, load, load_memory, push_run_refusal,
 };
-use nova_test_report::Report;
+use nova_texts::Report;
 use nova_words::Test;
 use novac_machine::{exec_job, job_of, run_bytes};
 use novac_words::limits::{MEMORY_LIMIT, OBJECT_LIMIT, SOURCE_LIMIT};

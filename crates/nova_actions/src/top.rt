@@ -11,12 +11,10 @@ use crate::page::make_page;
 use crate::simulation::simulate_program;
 use crate::testing::test;
 use diag_text::finding::Form;
-use nova_fmt_files::format_sources;
 use nova_show::{
     Answer, Ending, Saving, VERSION, print, push_help, push_page_on, push_word_fault, save_all,
 };
-use nova_texts::{assemble_file, show_memory};
-use nova_trace::print_trace;
+use nova_texts::{assemble_file, format_sources, print_trace, show_memory};
 use nova_words::{Command, command_of};
 use nv_base::NoMemory;
 use nv_lines::Message;

@@ -1,7 +1,7 @@
 //! What is said of the outcomes on one memory text.
 
 use crate::compare::push_difference;
-use nova_test_report::Report;
+use nova_texts::Report;
 use nv_lines::Message;
 use std::alloc::Global;
 

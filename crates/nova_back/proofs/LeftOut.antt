@@ -15,10 +15,10 @@ use Rattle.uc_isa.specs.declared.instruction.UnOp.TheVariants.{Copy, Not, Shl, S
 use Rattle.uc_peep.specs.Rewrites.{IsWithout, Compares}
 use Rattle.uc_peep.specs.Rewrites.IsWithout.{Nothing, Gone, Tested, Stays}
 use Rattle.uc_peep.proofs.Without.{compares-straight}
-use Rattle.uc_peep_branches.specs.Turned.{IsTurned, opposite}
-use Rattle.uc_peep_branches.specs.Turned.IsTurned.{Nothing as Flat, Turned as OneBranch, Stays as Unturned, InTurn as TwiceTurned}
-use Rattle.uc_isa_executions.specs.Relocated.{relocated}
-use Rattle.uc_isa_executions.specs.StraightCode.{IsStraight}
+use Rattle.uc_peep_facts.specs.Turned.{IsTurned, opposite}
+use Rattle.uc_peep_facts.specs.Turned.IsTurned.{Nothing as Flat, Turned as OneBranch, Stays as Unturned, InTurn as TwiceTurned}
+use Rattle.uc_isa.specs.Relocated.{relocated}
+use Rattle.uc_isa.specs.StraightCode.{IsStraight}
 use Rattle.ucode_emit.specs.Operations.{Operation, code_operations, instr_operation}
 use Rattle.ucode_emit.specs.SpillBase.{IsOtherSource, KeepsBase, SpillsByBase}
 use Rattle.nova_back.specs.LeftOut.{LeavesOut}

@@ -20,7 +20,7 @@ use Rattle.zo_cert.specs.declared.report.Verdict.TheVariants.{Optimal, Feasible,
 use Rattle.zo_solve.specs.Reported.{IsReportOf, verdict_of}
 use Rattle.zo_solve.specs.Solved as solved
 use Rattle.zo_solve.specs.Solved.{CostsAtMost, HadNoStart, IsDecided, OfVector, tree_of}
-use Rattle.zo_solve_state.specs.Vector.{IsVector, cost_at, start_cost}
+use Rattle.zo_solve_dive.specs.Vector.{IsVector, cost_at, start_cost}
 use Rattle.zo_solve.specs.declared.search.Solved.{Solved}
 use Rattle.zo_solve.specs.declared.search.Solved.TheVariants as answers
 use Rattle.bank_prog_form.specs.Columns.{columns}

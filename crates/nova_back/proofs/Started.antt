@@ -5,7 +5,7 @@ use Rattle.zo_model.specs.declared.program.ZeroOne.{ZeroOne}
 use Rattle.zo_solve.specs.Solved.{CostsAtMost, HadNoStart, OfVector}
 use Rattle.zo_solve.specs.declared.search.Solved.{Solved}
 use Rattle.zo_solve.specs.declared.search.Solved.TheVariants as answers
-use Rattle.zo_solve_state.specs.Vector.{IsVector, cost_at, start_cost}
+use Rattle.zo_solve_dive.specs.Vector.{IsVector, cost_at, start_cost}
 use Rattle.nova_back.specs.inner.Search.{Betters}
 
 -- it is a vector, if it is there

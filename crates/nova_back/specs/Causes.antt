@@ -10,10 +10,10 @@ use Rattle.uc_isa.specs.Code.{CodeView}
 use Rattle.uc_isa.specs.Lawful.{IsLawful}
 use Rattle.uc_isa.specs.Moves.{moves}
 use Rattle.place_weights.specs.Weighted.{weight_of}
-use Rattle.uc_isa_executions.specs.Entries.{IsVisited}
-use Rattle.uc_isa_executions.specs.Entry.{AssumesNoMore}
+use Rattle.uc_isa.specs.Entries.{IsVisited}
+use Rattle.uc_isa.specs.Entry.{AssumesNoMore}
 use Rattle.uc_peep.specs.Needless.{HasNoNeedless}
-use Rattle.uc_isa_executions.specs.Starts.{AreStarts}
+use Rattle.uc_isa.specs.Starts.{AreStarts}
 use Rattle.ucode_emit.specs.SpillBase.{SpillsByBase}
 use Rattle.ucode_emit.specs.Operations.{code_operations, form_operations}
 use Rattle.nova_back.specs.LeftOut.{LeavesOut}

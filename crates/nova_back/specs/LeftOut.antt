@@ -2,7 +2,7 @@
 use Rattle.std.specs.Prelude.{◌≡◌, ⊤, true, List, [], ◌∷◌}
 use Rattle.uc_isa.specs.declared.instruction.Cond.{Cond}
 use Rattle.uc_isa.specs.declared.instruction.Cond.TheVariants.{Always}
-use Rattle.uc_peep_branches.specs.Turned.{asks, opposite}
+use Rattle.uc_peep_facts.specs.Turned.{asks, opposite}
 use Rattle.ucode_emit.specs.Operations.{Operation}
 use Rattle.ucode_emit.specs.Operations.Operation.{Immediate, Unary, Binary, Branching}
 

@@ -6,7 +6,7 @@ use Rattle.place_plan.specs.Plan.{plan_view}
 use Rattle.reg_assign.specs.Assigned.{IsReadFrom}
 use Rattle.uc_isa.specs.declared.instruction.Instr.{Instr}
 use Rattle.uc_peep.specs.Rewrites.{IsWithout}
-use Rattle.uc_peep_branches.specs.Turned.{IsTurned}
+use Rattle.uc_peep_facts.specs.Turned.{IsTurned}
 use Rattle.ucode_emit.specs.Emits.{AreEmitted}
 
 -- for a placement that is read from the vector, the code comes of what the form emits under it. First, some straight instructions are left out, and tests

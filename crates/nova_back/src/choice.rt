@@ -10,8 +10,7 @@ ghost use Rattle.nova_back.specs.inner.Search.{IsChosen, IsSearchOn, IsTold, IsU
 use crate::error::BackError;
 use crate::search::searched;
 use crate::start::start_of;
-use bank_prog::{BankTables, program_of};
-use bank_prog_start::by_next_use;
+use bank_prog::{BankTables, by_next_use, program_of};
 use place_weights::Weights;
 use std::alloc::Global;
 use zo_cert::{Report, Verdict};

@@ -3,7 +3,7 @@
 ghost use Rattle.std.specs.Prelude.{◌≡◌, ◌≤◌, IfOk, IfSome, IsTrue, length};
 ghost use Rattle.zo_model.specs.Program.{IsValid, columns};
 ghost use Rattle.zo_solve.specs.Solved.{CostsAtMost};
-ghost use Rattle.zo_solve_state.specs.Vector.{IsVector, cost_at, start_cost};
+ghost use Rattle.zo_solve_dive.specs.Vector.{IsVector, cost_at, start_cost};
 ghost use Rattle.nova_back.specs.inner.Search.{Betters, IsFound};
 
 use std::alloc::Global;

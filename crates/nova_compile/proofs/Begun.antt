@@ -1,7 +1,7 @@
 -- The starts of labels rise inside the code, so there are no more of them than instructions.
 use Rattle.std.proofs.Common.{◌≡◌, ℕ, zero, suc, ◌<◌, ◌≤◌, List, length, slice_index, refl, arith}
 use Rattle.uc_isa.specs.declared.instruction.Instr.{Instr}
-use Rattle.uc_isa_executions.specs.Starts.{HasShape, AreInside}
+use Rattle.uc_isa.specs.Starts.{HasShape, AreInside}
 
 start-high : (code : List Instr) (starts : List ℕ) → HasShape code starts → (k : ℕ) → k < length starts → k ≤ slice_index starts k
 start-high code starts h zero l = omega arith

@@ -3,3 +3,5 @@ pub mod Formed
 pub mod Named
 pub mod Objects
 pub mod OneCause
+pub mod OneSource
+pub mod Programs

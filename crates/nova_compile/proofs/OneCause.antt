@@ -1,10 +1,10 @@
 -- A text decides whether it has a typed program, and why not: it has one cause, or one program.
 use Rattle.std.proofs.Common.{◌≡◌, ℕ, List, refl, ap, sym, ◌∙◌, subst, ◌⊎◌, inl, inr}
 use Rattle.nv_ast.specs.Tree.{ProgramTree}
-use Rattle.nova_front.specs.Sources.{IsTypedSource, IsCause}
-use Rattle.nova_front.specs.declared.error.FrontError.{FrontError}
-use Rattle.nova_front.specs.declared.error.FrontError.TheVariants as front
-use Rattle.nova_front.proofs.OneSource.{source-program, cause-one, cause-none}
+use Rattle.nova_compile.specs.Sources.{IsTypedSource, IsCause}
+use Rattle.nova_compile.specs.declared.error.FrontError.{FrontError}
+use Rattle.nova_compile.specs.declared.error.FrontError.TheVariants as front
+use Rattle.nova_compile.proofs.OneSource.{source-program, cause-one, cause-none}
 use Rattle.nova_compile.specs.Building.{IsTextCause, IsFormCause, IsCompileCause}
 use Rattle.nova_compile.specs.inner.Passing.{IsPassedAs}
 use Rattle.nova_compile.specs.declared.build.CompileError.{CompileError}

@@ -2,7 +2,7 @@
 use Rattle.std.specs.Prelude.{◌⊎◌, ℕ, List}
 use Rattle.nv_ast.specs.Tree.{ProgramTree}
 use Rattle.nv_text.specs.Program.{FaultOf}
-use Rattle.nova_front.specs.Sources.{IsUntyped, IsLarge}
+use Rattle.nova_compile.specs.Sources.{IsUntyped, IsLarge}
 use Rattle.zo_cert.specs.declared.report.Verdict.TheVariants as verdict
 use Rattle.nova_compile.specs.Forms.{HasLargeBanks, HasNoBanks, HasLongCode}
 use Rattle.nova_compile.specs.Programs.{HasTyped}

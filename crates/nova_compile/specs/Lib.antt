@@ -3,3 +3,4 @@ pub mod Forms
 pub mod Naming
 pub mod Programs
 pub mod inner
+pub mod Sources

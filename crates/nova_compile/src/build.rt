@@ -10,12 +10,12 @@ ghost use Rattle.zo_model.specs.Program.{vector};
 ghost use Rattle.nova_back.specs.Causes.{IsCodeOf, AreStartsOf, IsReportOn, HasVector, IsCheapFor, report_cost};
 ghost use Rattle.nova_back.specs.Memory.{IsWithinBound};
 ghost use Rattle.nova_back.specs.Placed.{IsPlacedBy};
-ghost use Rattle.nova_front.specs.Sources.{IsTypedSource};
+ghost use Rattle.nova_compile.specs.Sources.{IsTypedSource};
 ghost use Rattle.nova_compile.specs.Building.{IsCompileCause, IsFormCause, IsTextCause};
 ghost use Rattle.nova_compile.specs.Forms.{form_bound, IsCodeFor, IsBoundedFormOf, HasBanks};
 
+use crate::{FrontError, front};
 use nova_back::{BackError, Built, back_within};
-use nova_front::{FrontError, front};
 use nova_middle::middle;
 use nv_ast::{Span, Typed};
 use nv_base::NoMemory;

@@ -3,8 +3,8 @@ use Rattle.std.proofs.Common.{◌≡◌, ℕ, List, Option, Some, None, sym, sub
 use Rattle.std.proofs.lemmas.Option.{none-some}
 use Rattle.serde_json.specs.Data.{Data, null}
 use Rattle.serde_json.specs.Read.{read}
-use Rattle.nova_lsp_messages.specs.Replies.{IsReply, wanted_id}
-use Rattle.nova_lsp_messages.specs.declared.envelope.Reply.{Reply}
+use Rattle.nova_lsp.specs.Replies.{IsReply, wanted_id}
+use Rattle.nova_lsp.specs.declared.envelope.Reply.{Reply}
 
 pub same_wanted : (a b : Option Data) (r : Reply) → a ≡ b → IsReply a r → IsReply b r
 same_wanted a b r e h = subst (λ x. IsReply x r) e h

@@ -1,9 +1,9 @@
 -- One more reply that was written.
 use Rattle.std.proofs.Common.{◌≡◌, ℕ, List, [], ◌∷◌, ◌++◌, sym, ap, ◌∙◌, append-nil}
 use Rattle.std.proofs.lemmas.List.{flat_map_more}
-use Rattle.nova_lsp_messages.specs.Frames.{frame, AppendsFrames, AppendsReply}
-use Rattle.nova_lsp_messages.specs.declared.envelope.Reply.{Reply}
-use Rattle.nova_lsp_messages.specs.declared.envelope.Reply.TheVariants.{Nothing, Content, NoMemory}
+use Rattle.nova_lsp.specs.Frames.{frame, AppendsFrames, AppendsReply}
+use Rattle.nova_lsp.specs.declared.envelope.Reply.{Reply}
+use Rattle.nova_lsp.specs.declared.envelope.Reply.TheVariants.{Nothing, Content, NoMemory}
 
 pub none_yet : (old : List ℕ) → AppendsFrames old old
 none_yet old = ([], sym (append-nil old))

@@ -3,11 +3,11 @@
 use crate::edits::{push_actions, push_formatting};
 use crate::hover::push_hover;
 use crate::rename::{Refusal, push_rename, push_renamed_range};
+use crate::{Fault, NO_MEMORY, NO_METHOD};
 use nova_lsp_document::{
     Document, Encoding, position_of, push_completion, push_definition, push_folds, push_highlights,
     push_hints, push_references, push_signature, push_symbols, text_at,
 };
-use nova_lsp_messages::{Fault, NO_MEMORY, NO_METHOD};
 use nv_lines::Message;
 use serde_json::Value;
 use std::alloc::Global;

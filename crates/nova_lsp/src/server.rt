@@ -1,9 +1,9 @@
 //! The server, from its first message to its end.
 ghost use Rattle.std.specs.Prelude.{◌≡◌, true};
-ghost use Rattle.nova_lsp_messages.specs.Frames.{AppendsFrames};
+ghost use Rattle.nova_lsp.specs.Frames.{AppendsFrames};
 
 use crate::session::{Session, Stage};
-use nova_lsp_messages::{INVALID, Incoming, Reply, next_message, refused_null, send};
+use crate::{INVALID, Incoming, Reply, next_message, refused_null, send};
 use nv_outside::Sink;
 use std::alloc::Global;
 use std::io::Read;

@@ -3,16 +3,16 @@ ghost use Rattle.std.specs.Prelude.{◌≡◌, None, Some, IsUtf8};
 ghost use Rattle.serde_json.specs.Data.{Data, null};
 ghost use Rattle.serde_json.specs.Read.{read};
 ghost use Rattle.serde_json.specs.View.{view};
-ghost use Rattle.nova_lsp_messages.specs.Replies.{IsReply, wanted_id};
+ghost use Rattle.nova_lsp.specs.Replies.{IsReply, wanted_id};
 
 use crate::check::check;
 use crate::diagnostics::{push_diagnostics, push_no_diagnostics};
 use crate::requests::{is_method, push_result};
-use nova_lsp_document::{Document, Encoding, Position, list_at, number_at, text_at};
-use nova_lsp_messages::{
+use crate::{
     Fault, INVALID, NO_DOCUMENT, NO_JSON, NO_MEMORY, NO_METHOD, NOT_INITIALIZED, Reply, Wanted,
     answered, notice, refused, refused_null, wanted_answer,
 };
+use nova_lsp_document::{Document, Encoding, Position, list_at, number_at, text_at};
 use nv_lines::Message;
 use serde_json::Value;
 use std::alloc::{AllocError, Global};

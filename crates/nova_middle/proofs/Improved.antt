@@ -12,7 +12,7 @@ use Rattle.flow_ir.specs.Tree.{Label}
 use Rattle.flow_ir.specs.View.{label_view}
 use Rattle.flow_ir.specs.declared.flow.Flow.{Flow}
 use Rattle.flow_merge.specs.Contracted.{AreMerged}
-use Rattle.flow_params.specs.Wanted.{AllWanted}
+use Rattle.flow_merge.specs.Wanted.{AllWanted}
 use Rattle.ssu_make.specs.Bounds.{size_bound, length_bound}
 use Rattle.nova_middle.specs.Reduced.{AreReduced}
 use Rattle.nova_middle.specs.Rules.{IsAtRest}

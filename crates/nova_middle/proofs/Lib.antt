@@ -6,3 +6,6 @@ pub mod SourceBounds
 pub mod SimpleFlows
 pub mod CodeBound
 pub mod Improved
+pub mod Members
+pub mod Nodes
+pub mod Spines

@@ -11,7 +11,7 @@ use Rattle.flow_ir.specs.Tree.{Label}
 use Rattle.flow_ir.specs.Wide.{wide}
 use Rattle.flow_ir.specs.Reachable.{AreReachable}
 use Rattle.flow_merge.specs.Contracted.{AreMerged}
-use Rattle.flow_params.specs.Wanted.{AllWanted}
+use Rattle.flow_merge.specs.Wanted.{AllWanted}
 
 pub equal_kept : (a b : ℕ) (m n : List ℕ → Memories → Meaning) → b ≡ a → AreEqual a m n → KeepsOutcomes a b m n
 equal_kept a b m n e h = subst (λ k. KeepsOutcomes a k m n) (sym e) (keeps-equal a m n h)

@@ -4,7 +4,7 @@ use Rattle.flow_ir.specs.Tree.{Label}
 use Rattle.flow_ir.specs.Reachable.{AreReachable}
 use Rattle.cps_rules.specs.Simplified.{AreTidy}
 use Rattle.flow_merge.specs.Contracted.{AreMerged}
-use Rattle.flow_params.specs.Wanted.{AllWanted}
+use Rattle.flow_merge.specs.Wanted.{AllWanted}
 use Rattle.ssu_ir.specs.Tree as ssu
 use Rattle.ssu_make.specs.Made.{AllMade}
 use Rattle.nova_middle.specs.Rules.{IsAtRest}

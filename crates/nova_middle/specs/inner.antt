@@ -1,2 +1,3 @@
 pub mod Simple
 pub mod Lasts
+pub mod Parts

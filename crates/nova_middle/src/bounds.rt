@@ -79,7 +79,7 @@ pub fn bounds_of(alloc: Global, f: &Flow) -> Result<Bounds, NoMemory>
     ensures size { IfOk result (λ b. b.size ≡ size_bound (wide (map label_view f.now.labels.items)) (bulk (map label_view f.now.labels.items))) }
     ensures length { IfOk result (λ b. b.length ≡ length_bound (wide (map label_view f.now.labels.items)) (bulk (map label_view f.now.labels.items))) }
 {
-    let peak = flow_measures::wide(alloc, &f.labels)? as u64;
+    let peak = crate::wide(alloc, &f.labels)? as u64;
     let sizes = sizes_of(&f.labels)?;
     let size = size_of(peak, &sizes)?;
     let length = length_of(peak, &sizes)?;

@@ -14,7 +14,7 @@ ghost use Rattle.flow_ir.specs.Wide.{wide};
 ghost use Rattle.flow_ir.specs.Reachable.{AreReachable};
 ghost use Rattle.cps_rules.specs.Simplified.{AreTidy};
 ghost use Rattle.flow_merge.specs.Contracted.{AreMerged};
-ghost use Rattle.flow_params.specs.Wanted.{AllWanted};
+ghost use Rattle.flow_merge.specs.Wanted.{AllWanted};
 ghost use Rattle.nova_middle.specs.Rules.{IsAtRest};
 
 use crate::rules::simplified;
@@ -24,8 +24,7 @@ use cps_inline::inline;
 use cps_lower::lower;
 use flat_ir::FlatProgram;
 use flow_ir::{Flow, Tree};
-use flow_merge::merge_labels;
-use flow_params::prune;
+use flow_merge::{merge_labels, prune};
 use nv_base::NoMemory;
 use std::alloc::Global;
 

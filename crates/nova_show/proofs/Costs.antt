@@ -4,8 +4,8 @@ use Rattle.std.specs.Prelude.{nat_le}
 use Rattle.std.proofs.lemmas.List.{at_drop_more, drop_all}
 use Rattle.uc_isa.specs.declared.instruction.Instr.{Instr}
 use Rattle.uc_isa.specs.Moves.{weight, label_weight, moves}
-use Rattle.uc_isa_executions.specs.StraightCode.{weights}
-use Rattle.uc_isa_executions.proofs.Costs.{moves-level}
+use Rattle.uc_isa.specs.StraightCode.{weights}
+use Rattle.uc_isa.proofs.Costs.{moves-level}
 
 -- an instruction further
 pub cost-turn : (list : List Instr) (i : ℕ) (x : Instr) (now new one : ℕ) → i < length list → x ≡ get_or list i x → weight x ≡ one → new ≡ now + one

@@ -2,7 +2,7 @@
 
 use crate::answer::{Answer, Ending};
 use crate::words::push_nearest;
-use diag_pages::page_of;
+use diag_text::page_of;
 use nova_words::nearest_among;
 use nv_lines::Message;
 use std::alloc::{AllocError, Global};

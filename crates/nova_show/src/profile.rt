@@ -7,7 +7,7 @@ use crate::saving::{Saving, add_saving};
 use crate::visits::Visits;
 use nv_base::NoMemory;
 use nv_lines::Message;
-use place_weights_text::print_counts;
+use place_weights::print_counts;
 use std::alloc::Global;
 use std::cmp::Reverse;
 use uc_object::{Object, Tagged};

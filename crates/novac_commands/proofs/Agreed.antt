@@ -4,8 +4,8 @@ use Rattle.nv_outside.specs.Holding.{Holding}
 use Rattle.nv_ast.specs.Sizes.{main_words}
 use Rattle.nv_ast.specs.Tree.{ProgramTree}
 use Rattle.nv_meaning.specs.Meaning.{source}
-use Rattle.nova_front.specs.Sources.{IsTypedSource}
-use Rattle.nova_front.proofs.OneSource.{source-program}
+use Rattle.nova_compile.specs.Sources.{IsTypedSource}
+use Rattle.nova_compile.proofs.OneSource.{source-program}
 use Rattle.uc_isa.specs.Agrees.{Agrees}
 use Rattle.uc_isa.specs.Code.{CodeView}
 use Rattle.uc_object.specs.Object.{IsObject, code_of}

@@ -6,7 +6,7 @@ use Rattle.nv_outside.specs.Holding.{Holding}
 use Rattle.ssu_ir.specs.Tree.{Label}
 use Rattle.bank_prog_form.specs.Columns.{columns}
 use Rattle.bank_prog_form.specs.Program.{rows, IsTooLarge}
-use Rattle.nova_front.proofs.OneSource.{source-program}
+use Rattle.nova_compile.proofs.OneSource.{source-program}
 use Rattle.nv_generate.specs.Made.{made}
 use Rattle.novac_words.specs.Command.{Compile}
 use Rattle.novac_words.specs.Limits.{slots_limit, budget_default, store_limit}

@@ -7,7 +7,7 @@ use Rattle.nv_memtext.specs.MemoryText.{Gives}
 use Rattle.ssu_ir.specs.Meaning.{ssu_meaning}
 use Rattle.ssu_ir.specs.Tree.{Label}
 use Rattle.novac_commands.specs.Counting.{AreCounted}
-use Rattle.nova_front.specs.Sources.{IsTypedSource}
+use Rattle.nova_compile.specs.Sources.{IsTypedSource}
 use Rattle.novac_words.specs.Status.{outcome_status}
 use Rattle.novac_machine.specs.Machine.{full_text}
 use Rattle.novac_machine.specs.Saving.{file}

@@ -18,7 +18,7 @@ use Rattle.nv_base.specs.declared.outcome.Outcome.TheVariants.{Going}
 use Rattle.ssu_ir.specs.Entered.{Exit, JumpsTo, EndsWith, label_exit, is_entered, entered_behind, entered, AreEntries}
 use Rattle.ssu_ir.specs.Meaning.{ssu_meaning}
 use Rattle.ssu_ir.specs.Tree.{Label}
-use Rattle.place_weights_text.specs.WeightsText.{count_limit, weights_text}
+use Rattle.place_weights.specs.WeightsText.{count_limit, weights_text}
 use Rattle.novac_commands.specs.Counting.{AreCounted}
 
 -- ---- a label is entered at most once for each jump, and at the start

@@ -17,8 +17,8 @@ use Rattle.uc_isa.specs.Engine.{engine, run, start}
 use Rattle.uc_isa.specs.declared.engine.Engine.{Engine}
 use Rattle.zo_cert.specs.declared.report.Report.{Report}
 use Rattle.zo_cert.specs.declared.report.Verdict.{Verdict}
-use Rattle.nova_front.specs.Sources.{IsTypedSource}
-use Rattle.nova_front.proofs.OneSource.{source-program}
+use Rattle.nova_compile.specs.Sources.{IsTypedSource}
+use Rattle.nova_compile.proofs.OneSource.{source-program}
 use Rattle.nv_generate.specs.Laws.{HasProgram}
 use Rattle.nv_generate.specs.Made.{made}
 use Rattle.nv_generate.proofs.Programs.{each_has_program}

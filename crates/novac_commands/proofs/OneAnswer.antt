@@ -21,8 +21,8 @@ use Rattle.uc_asm.specs.Starts.{object_listing}
 use Rattle.uc_asm.specs.declared.error.AsmError.{AsmError}
 use Rattle.uc_asm.specs.declared.error.AsmError.TheVariants as asm
 use Rattle.uc_asm.proofs.Exact.{given-answer, syntax-answer, label-answer, unlawful-answer}
-use Rattle.nova_front.specs.Sources.{IsTypedSource}
-use Rattle.nova_front.proofs.OneSource.{source-program}
+use Rattle.nova_compile.specs.Sources.{IsTypedSource}
+use Rattle.nova_compile.proofs.OneSource.{source-program}
 use Rattle.nv_ast.specs.Sizes.{main_words}
 use Rattle.nv_ast.specs.Tree.{ProgramTree}
 use Rattle.nv_meaning.specs.Meaning.{source as meaning}
@@ -35,8 +35,8 @@ use Rattle.novac_commands.specs.Executing.{ExecRefuses, IsExecuted}
 use Rattle.nova_compile.specs.Forms.{form_bound}
 use Rattle.novac_commands.specs.Compiling.{CompileMakes, IsUnfit, IsEndOf}
 use Rattle.novac_commands.specs.Weighing.{AreWeighed, WeightsRefuse, TextsRefuse}
-use Rattle.place_weights_text.proofs.Exact.{bad_answer}
-use Rattle.place_weights_text.specs.declared.read.WeightsError.TheVariants.{Bad}
+use Rattle.place_weights.proofs.Exact.{bad_answer}
+use Rattle.place_weights.specs.declared.read.WeightsError.TheVariants.{Bad}
 use Rattle.novac_words.specs.Lines.{counted, refusal_status}
 use Rattle.novac_machine.specs.Machine.{IsBadObjectFor, IsUnlawfulFor, IsMemoryRefusedFor, LintRefuses, RunRefuses, IsLinted, IsRun, spill_base, full_text, run_text}
 use Rattle.novac_machine.specs.Scheduled.{ContextsRefuse, HaveTakenTurns, IsScheduleRefusedFor, IsScheduled}

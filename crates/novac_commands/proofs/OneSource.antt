@@ -5,10 +5,10 @@ use Rattle.nv_ast.specs.Tree.{ProgramTree}
 use Rattle.nv_text.specs.Program.{FaultOf}
 use Rattle.nv_text.specs.declared.error.TextError.{TextError}
 use Rattle.nv_text.specs.declared.error.TextError.TheVariants as text
-use Rattle.nova_front.specs.Sources.{IsTypedSource, IsCause}
-use Rattle.nova_front.specs.declared.error.FrontError.{FrontError}
-use Rattle.nova_front.specs.declared.error.FrontError.TheVariants as front
-use Rattle.nova_front.proofs.OneSource.{cause-one, cause-none}
+use Rattle.nova_compile.specs.Sources.{IsTypedSource, IsCause}
+use Rattle.nova_compile.specs.declared.error.FrontError.{FrontError}
+use Rattle.nova_compile.specs.declared.error.FrontError.TheVariants as front
+use Rattle.nova_compile.proofs.OneSource.{cause-one, cause-none}
 use Rattle.zo_cert.specs.declared.report.Report.{Report}
 use Rattle.zo_cert.specs.declared.report.Verdict.TheVariants as verdict
 use Rattle.novac_commands.specs.Compiling.{CompileRefuses}

@@ -16,7 +16,7 @@ use Rattle.uc_isa.specs.Code.{CodeView}
 use Rattle.uc_isa.specs.Lawful.{IsLawful}
 use Rattle.uc_object.specs.Object.{IsObject, code_of}
 use Rattle.uc_object.specs.declared.object.Object.{Object}
-use Rattle.nova_front.specs.Sources.{IsTypedSource}
+use Rattle.nova_compile.specs.Sources.{IsTypedSource}
 use Rattle.novac_words.specs.Lines.{IsUncaused}
 use Rattle.novac_words.specs.declared.refusal.Refusal.{Refusal}
 use Rattle.novac_words.specs.declared.reply.Reply.{Reply}

@@ -12,7 +12,7 @@ use Rattle.zo_cert.specs.declared.report.Report.{Report}
 use Rattle.zo_cert.specs.declared.report.Verdict.{Verdict}
 use Rattle.zo_cert.specs.declared.report.Verdict.TheVariants as verdict
 use Rattle.nova_back.specs.Causes.{report_cost}
-use Rattle.nova_front.specs.Sources.{IsTypedSource}
+use Rattle.nova_compile.specs.Sources.{IsTypedSource}
 use Rattle.novac_commands.specs.Checking.{IsReportOf}
 use Rattle.nova_compile.specs.Naming.{source_exceptions}
 use Rattle.nova_compile.specs.Forms.{form_bound, HasBanks, HasSmallBanks, HasLargeBanks, HasNoBanks, HasLongCode}

@@ -5,7 +5,7 @@ use Rattle.nv_base.specs.declared.outcome.Outcome.TheVariants.{Going}
 use Rattle.ssu_ir.specs.Entered.{AreEntries}
 use Rattle.ssu_ir.specs.Meaning.{ssu_meaning}
 use Rattle.ssu_ir.specs.Tree.{Label}
-use Rattle.place_weights_text.specs.WeightsText.{count_limit, weights_text}
+use Rattle.place_weights.specs.WeightsText.{count_limit, weights_text}
 
 -- The text has the entries of the first labels, as many as a text has at most, in the run with n jumps. Where the run goes on, all
 -- jumps were taken: the entries of all labels sum up to one for each jump, and one for the start.

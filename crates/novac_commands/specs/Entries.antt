@@ -9,7 +9,7 @@ use Rattle.nv_meaning.specs.Meaning.{source}
 use Rattle.ssu_ir.specs.Meaning.{ssu_meaning}
 use Rattle.ssu_ir.specs.Tree.{Label}
 use Rattle.novac_commands.specs.Counting.{AreCounted}
-use Rattle.nova_front.specs.Sources.{IsTypedSource}
+use Rattle.nova_compile.specs.Sources.{IsTypedSource}
 use Rattle.nova_compile.specs.Forms.{IsBoundedFormOf}
 use Rattle.novac_machine.specs.Machine.{full_text}
 use Rattle.novac_machine.specs.Saving.{File, file}

@@ -6,7 +6,7 @@ use Rattle.nv_ast.specs.Tree.{ProgramTree}
 use Rattle.nv_memtext.specs.MemoryText.{Gives}
 use Rattle.nv_meaning.specs.Meaning.{source}
 use Rattle.novac_machine.specs.Machine.{IsMemoryRefusedFor, full_text}
-use Rattle.nova_front.specs.Sources.{IsTypedSource}
+use Rattle.nova_compile.specs.Sources.{IsTypedSource}
 use Rattle.nova_compile.specs.Programs.{HasTyped}
 use Rattle.novac_commands.specs.Reading.{SourceRefuses}
 use Rattle.novac_words.specs.Status.{outcome_status}

@@ -4,7 +4,7 @@ use Rattle.nv_outside.specs.Holding.{Holding}
 use Rattle.nv_ast.specs.Sizes.{main_words}
 use Rattle.nv_ast.specs.Tree.{ProgramTree}
 use Rattle.nv_meaning.specs.Meaning.{source}
-use Rattle.nova_front.specs.Sources.{IsSource}
+use Rattle.nova_compile.specs.Sources.{IsSource}
 use Rattle.ssu_ir.specs.Tree.{Label}
 use Rattle.bank_prog.specs.Weighted.{weighted_program}
 use Rattle.uc_isa.specs.Agrees.{Agrees}

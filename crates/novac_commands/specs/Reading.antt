@@ -2,7 +2,7 @@
 use Rattle.std.specs.Prelude.{ℕ, List}
 use Rattle.nv_text.specs.Program.{FaultOf}
 use Rattle.nv_text.specs.declared.error.TextError.TheVariants.{Char, Number, Name, Syntax, Deep}
-use Rattle.nova_front.specs.Sources.{IsUntyped, IsLarge}
+use Rattle.nova_compile.specs.Sources.{IsUntyped, IsLarge}
 use Rattle.novac_words.specs.declared.refusal.Refusal.{Refusal}
 use Rattle.novac_words.specs.declared.refusal.Refusal.TheVariants.{SourceChar, SourceNumber, SourceName, SourceSyntax, SourceDeep, SourceType, SourceLarge}
 

@@ -18,7 +18,7 @@ use Rattle.uc_isa.specs.Lawful.{IsLawful}
 use Rattle.uc_object.specs.Object.{IsObject, code_of}
 use Rattle.uc_object.specs.declared.object.Object.{Object}
 use Rattle.nv_outside.specs.Holding.{Holding}
-use Rattle.nova_front.specs.Sources.{IsTypedSource}
+use Rattle.nova_compile.specs.Sources.{IsTypedSource}
 use Rattle.novac_machine.specs.Machine.{HasCode, IsMemoryRefusedFor, LintRefuses, spill_base}
 use Rattle.nova_compile.specs.Programs.{HasTyped}
 use Rattle.novac_commands.specs.Reading.{SourceRefuses}

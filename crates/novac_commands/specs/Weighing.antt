@@ -1,7 +1,7 @@
 -- The weights of the labels of a compilation's form, and why their text is refused.
 use Rattle.std.specs.Prelude.{◌≡◌, ◌≤◌, ◌⊎◌, ℕ, List, [], ◌∷◌, Option, Some, None, length, map}
 use Rattle.nv_outside.specs.Holding.{Holding}
-use Rattle.place_weights_text.specs.WeightsText.{Gives, IsBad, clamped}
+use Rattle.place_weights.specs.WeightsText.{Gives, IsBad, clamped}
 use Rattle.novac_words.specs.Limits.{weights_limit}
 use Rattle.novac_words.specs.declared.refusal.Refusal.{Refusal}
 use Rattle.novac_words.specs.declared.refusal.Refusal.TheVariants.{BadWeights}

@@ -1,7 +1,7 @@
 //! The command `counts`.
 ghost use Rattle.std.specs.Prelude.{◌≡◌, ◌≤◌, ◌⊎◌, ◌∷◌, [], length, IfOk, IfErr};
 ghost use Rattle.nv_ast.specs.TypedView.{typed_program};
-ghost use Rattle.nova_front.specs.Sources.{IsTypedSource};
+ghost use Rattle.nova_compile.specs.Sources.{IsTypedSource};
 ghost use Rattle.novac_commands.specs.Entries.{CountsMake};
 ghost use Rattle.novac_commands.specs.Executing.{ExecRefuses};
 ghost use Rattle.nova_compile.specs.Forms.{IsBoundedFormOf};
@@ -15,7 +15,7 @@ ghost use Rattle.ssu_ir.specs.View.{labels_view};
 
 use crate::source::refusal_of;
 use crate::{Counted, count_entries};
-use nova_front::front;
+use nova_compile::front;
 use nova_middle::middle;
 use novac_machine::{Made, Output, Outputs, job_of};
 use novac_words::Refusal;

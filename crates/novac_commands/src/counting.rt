@@ -13,7 +13,7 @@ use novac_machine::{SHOWN_WRITES, status_of};
 use novac_words::Reply;
 use nv_base::{NoMemory, WriteLog};
 use nv_memtext::{Job, print_outcome};
-use place_weights_text::print_counts;
+use place_weights::print_counts;
 use ssu_ir::{Ssu, enter};
 use std::alloc::Global;
 

@@ -21,7 +21,6 @@ pub use execute::exec_bytes;
 pub use load::load_inputs;
 pub use nova_compile::{CompileError, Compiled, compile_text, object_of};
 pub use perform::work;
-pub use place_weights::Weights;
-pub use place_weights_text::{WeightsError, print_counts, read_weights};
+pub use place_weights::{Weights, WeightsError, print_counts, read_weights};
 pub use program::exit_code;
 pub use top::run;

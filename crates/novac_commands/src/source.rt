@@ -1,13 +1,13 @@
 //! Sources, as the commands read them.
 ghost use Rattle.std.specs.Prelude.{◌≤◌, ◌⊎◌, length, IfOk, IfErr};
 ghost use Rattle.nv_ast.specs.TypedView.{typed_program};
-ghost use Rattle.nova_front.specs.Sources.{IsTypedSource};
+ghost use Rattle.nova_compile.specs.Sources.{IsTypedSource};
 ghost use Rattle.novac_words.specs.Limits.{source_limit};
 ghost use Rattle.novac_words.specs.Lines.{IsUncaused};
 ghost use Rattle.novac_commands.specs.Reading.{SourceRefuses};
 ghost use Rattle.novac_commands.specs.inner.Telling.{IsSpelledAs, IsToldAs};
 
-use nova_front::{FrontError, typed};
+use nova_compile::{FrontError, typed};
 use novac_words::Refusal;
 use nv_ast::Typed;
 use nv_text::TextError;

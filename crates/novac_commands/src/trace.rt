@@ -4,7 +4,7 @@ ghost use Rattle.nv_meaning_values.specs.Chains.{trail_of};
 ghost use Rattle.nv_ast.specs.TypedView.{typed_program};
 ghost use Rattle.nv_trace.specs.TraceText.{shown, trace_text as text_of_writes};
 ghost use Rattle.nv_trace.specs.Unlike.{AgreeAsFar, IsFirstUnlike};
-ghost use Rattle.nova_front.specs.Sources.{IsTypedSource};
+ghost use Rattle.nova_compile.specs.Sources.{IsTypedSource};
 ghost use Rattle.uc_isa.specs.Lawful.{IsLawful};
 ghost use Rattle.novac_words.specs.Limits.{source_limit, object_limit, memory_limit};
 ghost use Rattle.novac_words.specs.Lines.{IsUncaused};

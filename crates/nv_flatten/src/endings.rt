@@ -10,7 +10,7 @@ ghost use Rattle.nv_flatten_values.specs.inner.Code.{comparison_of, is_given, is
 ghost use Rattle.nv_flatten.specs.inner.Flat.{IsFlatTest, IsFlatEnd};
 ghost use Rattle.nv_flatten_values.specs.inner.Simulation.{Extends};
 ghost use Rattle.nv_flatten_values.specs.inner.View.{view, scope_of};
-ghost use Rattle.nv_flatten_declarations.specs.inner.WholeView.{whole_in};
+ghost use Rattle.nv_flatten_values.specs.inner.WholeView.{whole_in};
 
 use crate::made_code::{
     Tail, both_code, calling, caught, chosen_code, compared, decided_code, either_code, ended,
@@ -20,11 +20,11 @@ use crate::values::{each, statements, value};
 use crate::want::made;
 use nv_ast::{Expr, Name, Op, Pat, Stmt};
 use nv_base::{Atom, Cmp, NoMemory};
-use nv_flatten_declarations::branches::Test;
-use nv_flatten_declarations::source::Source;
 use nv_flatten_values::arms::{EndArm, TestArm, end_arm, test_arm};
+use nv_flatten_values::branches::Test;
 use nv_flatten_values::names::Names;
 use nv_flatten_values::scope::Scope;
+use nv_flatten_values::source::Source;
 use nv_flatten_values::symbol::truth_in;
 use std::alloc::Global;
 

@@ -15,7 +15,7 @@ ghost use Rattle.nv_flatten_values.specs.inner.Simulation.{Extends};
 ghost use Rattle.nv_flatten_values.specs.inner.Symbols.{SymbolScope, numbers_from, all_fresh, all_bound};
 ghost use Rattle.nv_flatten_values.specs.inner.View.{view, list_symbols, scope_of};
 ghost use Rattle.nv_flatten_values.specs.inner.Whole.{Whole, raised_or_none};
-ghost use Rattle.nv_flatten_declarations.specs.inner.WholeView.{whole_in};
+ghost use Rattle.nv_flatten_values.specs.inner.WholeView.{whole_in};
 ghost use Rattle.nv_flatten.specs.inner.Flat.{IsFlatValue, AreFlatValues, IsFlatTest, IsFlatEnd};
 ghost use Rattle.nv_flatten.specs.inner.Handled.{IsHandled};
 
@@ -24,11 +24,11 @@ use crate::want::{boxed, made};
 use flat_ir::{Flat, Step, join};
 use nv_ast::{Name, Pat};
 use nv_base::{Atom, Cmp, NoMemory};
-use nv_flatten_declarations::branches::{Test, branch, give_truth};
-use nv_flatten_declarations::source::Source;
+use nv_flatten_values::branches::{Test, branch, give_truth};
 use nv_flatten_values::names::Names;
 use nv_flatten_values::parts::{short, short_vars};
 use nv_flatten_values::scope::{Scope, bind_all};
+use nv_flatten_values::source::Source;
 use nv_flatten_values::symbol::{Symbol, Valued, all_operands_in, operands_in};
 use std::alloc::Global;
 

@@ -10,7 +10,7 @@ ghost use Rattle.nv_flatten_values.specs.inner.Simulation.{Extends};
 ghost use Rattle.nv_flatten_values.specs.inner.Symbols.{SymbolScope, fresh, numbers_from, word_operand};
 ghost use Rattle.nv_flatten_values.specs.inner.View.{view};
 ghost use Rattle.nv_flatten_values.specs.inner.Whole.{Whole};
-ghost use Rattle.nv_flatten_declarations.specs.inner.WholeView.{whole_in};
+ghost use Rattle.nv_flatten_values.specs.inner.WholeView.{whole_in};
 ghost use Rattle.nv_ast.specs.Types.{words};
 ghost use Rattle.nv_flatten.specs.inner.Flat.{IsFlatValue, IsFlatStatement, IsFlatEnd};
 
@@ -19,9 +19,9 @@ use crate::want::{made, put};
 use flat_ir::Step;
 use nv_ast::{Name, ShiftOp};
 use nv_base::{Atom, Bin, Mem, NoMemory, Prim, Una};
-use nv_flatten_declarations::layouts::{packed, unpacked};
-use nv_flatten_declarations::source::Source;
+use nv_flatten_values::layouts::{packed, unpacked};
 use nv_flatten_values::parts::{add_steps, define, new_variables, shifted, short};
+use nv_flatten_values::source::Source;
 use nv_flatten_values::symbol::{
     Field, Symbol, Valued, operands_in, renewed, symbol_of_words, truth_in, word_in,
 };

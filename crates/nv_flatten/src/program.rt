@@ -23,7 +23,7 @@ ghost use Rattle.nv_flatten_values.specs.inner.Symbols.{named_fresh, numbers_fro
 ghost use Rattle.nv_flatten_values.specs.inner.View.{scope_of};
 ghost use Rattle.nv_flatten_values.specs.inner.Well.{AreCalled};
 ghost use Rattle.nv_flatten_values.specs.inner.Whole.{group_of};
-ghost use Rattle.nv_flatten_declarations.specs.inner.WholeView.{whole_in};
+ghost use Rattle.nv_flatten_values.specs.inner.WholeView.{whole_in};
 ghost use Rattle.nv_flatten.specs.Functions.{AreFunctionsOf, AreCalledBefore};
 
 use crate::endings::ending;
@@ -31,10 +31,10 @@ use crate::want::{made, put};
 use flat_ir::{Flat, FlatFun, FlatProgram};
 use nv_ast::{Fun, Name, TyText, Typed};
 use nv_base::NoMemory;
-use nv_flatten_declarations::source::Source;
 use nv_flatten_values::forms::of_type;
 use nv_flatten_values::names::Names;
 use nv_flatten_values::scope::Scope;
+use nv_flatten_values::source::Source;
 use std::alloc::Global;
 
 /// The flat program of a typed one, which has its outcomes, within each number of calls. Each function

@@ -11,7 +11,7 @@ ghost use Rattle.nv_flatten.specs.inner.Flat.{IsFlatValue, AreFlatValues, IsFlat
 ghost use Rattle.nv_flatten_values.specs.inner.Simulation.{Extends};
 ghost use Rattle.nv_flatten_values.specs.inner.Symbols.{Word, Truth};
 ghost use Rattle.nv_flatten_values.specs.inner.View.{view, list_symbols, scope_of};
-ghost use Rattle.nv_flatten_declarations.specs.inner.WholeView.{whole_in};
+ghost use Rattle.nv_flatten_values.specs.inner.WholeView.{whole_in};
 
 use crate::endings::ending;
 use crate::made_values::{
@@ -22,11 +22,11 @@ use crate::want::made;
 use flat_ir::Step;
 use nv_ast::{Expr, Name, Op, ShiftOp, Stmt};
 use nv_base::{Atom, Bin, Mem, NoMemory};
-use nv_flatten_declarations::source::Source;
 use nv_flatten_values::arms::{ValueArm, value_arm};
 use nv_flatten_values::names::Names;
 use nv_flatten_values::parts::add_steps;
 use nv_flatten_values::scope::{Scope, bind, variable};
+use nv_flatten_values::source::Source;
 use nv_flatten_values::symbol::{Symbol, Valued, field_in};
 use std::alloc::Global;
 

@@ -39,3 +39,4 @@ pub mod FewFields
 pub mod PackedFields
 pub mod PackedSteps
 pub mod NamedOnce
+mod Sources

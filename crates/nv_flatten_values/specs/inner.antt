@@ -16,3 +16,4 @@ pub mod Small
 pub mod Bounded
 pub mod Arms
 pub mod Written
+pub mod WholeView

@@ -1,1 +1,4 @@
 pub mod Weighted
+pub mod WeightsText
+pub mod Answer
+pub mod inner

@@ -1,11 +1,11 @@
 //! What the values of a bank want: numbers by which no move is needed. A wish weighs as much as its move would run.
 
 use crate::hinted::{FixedWish, Hints, PairWish};
+use crate::{Frequencies, ONCE, frequencies_of};
 use bank_prog::services::services;
 use bank_prog::{Bank, Column, Origin, Role, Use};
 use nv_base::NoMemory;
 use reg_assign_reading::reading::Reading;
-use ssu_frequency::{Frequencies, ONCE, frequencies_of};
 use std::alloc::Global;
 
 /// Whether a use takes its word from a bank to the same bank.

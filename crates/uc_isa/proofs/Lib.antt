@@ -14,3 +14,11 @@ pub mod RegisterLemmas
 pub mod Through
 pub mod Worked
 pub mod Comparisons
+pub mod Effects
+pub mod Lockstep
+pub mod Programs
+pub mod Counting
+pub mod Relocation
+pub mod Costs
+pub mod Following
+pub mod EntryLemmas

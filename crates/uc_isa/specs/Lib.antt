@@ -8,3 +8,12 @@ pub mod Moves
 pub mod Registers
 pub mod Pieces
 pub mod Worked
+pub mod Resources
+pub mod Program
+pub mod Visits
+pub mod Alike
+pub mod Starts
+pub mod Entries
+pub mod Entry
+pub mod Relocated
+pub mod StraightCode

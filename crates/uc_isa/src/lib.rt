@@ -1,8 +1,11 @@
 //! The microengine: its instructions, which code is lawful, and what the engine does.
+//!
+//! Laws of its runs stand here too: what instructions read and write, liveness, runs in step, starts and relocation.
 #![tactic(auto)]
 
 mod code;
 mod engine;
+pub mod executions_laws;
 mod instruction;
 pub mod laws;
 pub mod pieces;

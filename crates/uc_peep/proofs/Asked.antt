@@ -8,8 +8,8 @@ use Rattle.uc_isa.specs.declared.instruction.Instr.{Instr}
 use Rattle.uc_peep.proofs.Replaced.{length-text, same-some, text-at}
 use Rattle.uc_peep.specs.Draft.{AreOpen, IsEndClear, IsOpen, IsFallThrough, MayReplace}
 use Rattle.uc_peep.specs.Window.{IsText}
-use Rattle.uc_isa_executions.specs.Program.{IsProgram}
-use Rattle.uc_isa_executions.specs.StraightCode.{IsStraight}
+use Rattle.uc_isa.specs.Program.{IsProgram}
+use Rattle.uc_isa.specs.StraightCode.{IsStraight}
 
 pub is-text : (code : List Instr) (gone entered started : List Bool) (p k : ℕ) → IsProgram code → 1 ≤ k → k ≤ 4 → MayReplace code gone entered started p k → IsText (take k (drop p code))
 is-text code gone entered started p k lawful some few may =

@@ -9,8 +9,8 @@ use Rattle.std.proofs.lemmas.Nat.Bits.{bit_at_or, bit_at_and, bit_at_not, bit_at
 use Rattle.uc_isa.specs.Registers.{IsRegister, Register}
 use Rattle.uc_isa.specs.Registers.Register.{InA, InB, InL, InLD, InS, InSD}
 use Rattle.uc_peep.specs.Sets.{has}
-use Rattle.uc_isa_executions.specs.Resources.{IsResource, Resource, is_carry, is_flag, is_register, is_run_of_a, is_run_of_l, is_run_of_ld, is_run_of_s, is_run_of_sd, is_within, is_zero, number}
-use Rattle.uc_isa_executions.specs.Resources.Resource.{Carry, In, Zero}
+use Rattle.uc_isa.specs.Resources.{IsResource, Resource, is_carry, is_flag, is_register, is_run_of_a, is_run_of_l, is_run_of_ld, is_run_of_s, is_run_of_sd, is_within, is_zero, number}
+use Rattle.uc_isa.specs.Resources.Resource.{Carry, In, Zero}
 
 below-two : (x : ℕ) → x < 2 → (x ≡ 0) ⊎ (x ≡ 1)
 below-two zero h = inl refl

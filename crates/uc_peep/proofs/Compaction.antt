@@ -17,14 +17,14 @@ use Rattle.uc_peep.proofs.Counts.{gone-next, kept-at, kept-between, kept-next, k
 use Rattle.uc_peep.proofs.Replaced.{gone-cases}
 use Rattle.uc_peep.specs.Kept.{compacted, is_gone, kept_before}
 use Rattle.uc_peep.specs.Window.{filler}
-use Rattle.uc_isa_executions.proofs.Counting.{here-at, here-not, stood-more}
-use Rattle.uc_isa_executions.proofs.Effects.{goes-on}
-use Rattle.uc_isa_executions.proofs.Programs.{next-inside}
-use Rattle.uc_isa_executions.proofs.Relocation.{does-moved}
-use Rattle.uc_isa_executions.specs.Program.{IsProgram}
-use Rattle.uc_isa_executions.specs.Relocated.{DoesMoved, at_place, moved, relocated}
-use Rattle.uc_isa_executions.specs.Resources.{IsNext}
-use Rattle.uc_isa_executions.specs.Visits.{access, access_at, continue_count, here, stood}
+use Rattle.uc_isa.proofs.Counting.{here-at, here-not, stood-more}
+use Rattle.uc_isa.proofs.Effects.{goes-on}
+use Rattle.uc_isa.proofs.Programs.{next-inside}
+use Rattle.uc_isa.proofs.Relocation.{does-moved}
+use Rattle.uc_isa.specs.Program.{IsProgram}
+use Rattle.uc_isa.specs.Relocated.{DoesMoved, at_place, moved, relocated}
+use Rattle.uc_isa.specs.Resources.{IsNext}
+use Rattle.uc_isa.specs.Visits.{access, access_at, continue_count, here, stood}
 
 -- ---- stands that come late, and stands that are still to come
 

@@ -4,7 +4,7 @@ use Rattle.std.specs.Prelude.{slice_get}
 use Rattle.std.proofs.lemmas.Bool.{false≢true}
 use Rattle.uc_isa.specs.declared.instruction.Instr.{Instr}
 use Rattle.uc_peep.specs.Kept.{compacted, is_gone, kept_before}
-use Rattle.uc_isa_executions.specs.Relocated.{relocated}
+use Rattle.uc_isa.specs.Relocated.{relocated}
 
 pub gone-next : (gone : List Bool) (x : ℕ) → is_gone gone x ≡ true → kept_before gone (suc x) ≡ kept_before gone x
 gone-next [] x h = absurd (false≢true h)

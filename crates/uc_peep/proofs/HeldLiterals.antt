@@ -12,11 +12,11 @@ use Rattle.uc_isa.specs.declared.instruction.Dst.{Dst}
 use Rattle.uc_isa.specs.declared.instruction.Instr.{Instr}
 use Rattle.uc_isa.specs.declared.instruction.Instr.TheVariants.{Alu, Un, Immed, Br, Read, Write, Halt}
 use Rattle.uc_isa.proofs.RegisterLemmas.{puts-word}
-use Rattle.uc_isa_executions.proofs.Effects.{keeps-value, keeps-engine, named-some, same-true, true-same}
-use Rattle.uc_isa_executions.specs.Program.{IsFormed}
-use Rattle.uc_isa_executions.specs.Resources.{Resource, IsResource, value, reads, writes, is_target, is_some_register}
-use Rattle.uc_isa_executions.specs.Resources.Resource.{In, Zero, Carry}
-use Rattle.uc_isa_executions.specs.StraightCode.{IsStraight}
+use Rattle.uc_isa.proofs.Effects.{keeps-value, keeps-engine, named-some, same-true, true-same}
+use Rattle.uc_isa.specs.Program.{IsFormed}
+use Rattle.uc_isa.specs.Resources.{Resource, IsResource, value, reads, writes, is_target, is_some_register}
+use Rattle.uc_isa.specs.Resources.Resource.{In, Zero, Carry}
+use Rattle.uc_isa.specs.StraightCode.{IsStraight}
 use Rattle.uc_peep.specs.Window.{IsText, IsShorter}
 use Rattle.uc_peep.specs.Needless.{is_same_name, is_same_target, leaves, puts_again, held_rule}
 use Rattle.uc_peep.proofs.Sound.{both, down, flagless, given}

@@ -8,9 +8,9 @@ use Rattle.uc_isa.specs.declared.instruction.Instr.{Instr}
 use Rattle.uc_peep.proofs.Counts.{gone-next, kept-next}
 use Rattle.uc_peep.specs.Draft.{AreMarked}
 use Rattle.uc_peep.specs.Kept.{compacted, is_gone, kept_before}
-use Rattle.uc_isa_executions.specs.Relocated.{relocated}
-use Rattle.uc_isa_executions.specs.StraightCode.{GoesTo, IsEntered}
-use Rattle.uc_isa_executions.specs.Visits.{here}
+use Rattle.uc_isa.specs.Relocated.{relocated}
+use Rattle.uc_isa.specs.StraightCode.{GoesTo, IsEntered}
+use Rattle.uc_isa.specs.Visits.{here}
 
 -- ---- where branches go
 

@@ -14,10 +14,10 @@ use Rattle.uc_peep.specs.Kept.{is_gone, kept_of}
 use Rattle.uc_peep.specs.Liveness.{Covers, IsLiveBefore, IsClosed}
 use Rattle.uc_peep.specs.Sets.{IsWithin, has}
 use Rattle.uc_peep.specs.Window.{IsShorter, filler}
-use Rattle.uc_isa_executions.proofs.Lockstep.{alike-refl}
-use Rattle.uc_isa_executions.specs.Program.{IsFormed, IsLawfulWithin, IsProgram}
-use Rattle.uc_isa_executions.specs.Resources.{IsNext, IsResource, Resource}
-use Rattle.uc_isa_executions.specs.StraightCode.{GoesTo, IsStraight}
+use Rattle.uc_isa.proofs.Lockstep.{alike-refl}
+use Rattle.uc_isa.specs.Program.{IsFormed, IsLawfulWithin, IsProgram}
+use Rattle.uc_isa.specs.Resources.{IsNext, IsResource, Resource}
+use Rattle.uc_isa.specs.StraightCode.{GoesTo, IsStraight}
 
 -- ---- sets after a replacement
 

@@ -22,17 +22,17 @@ use Rattle.uc_peep.specs.Kept.{compacted, is_gone, kept_before, kept_of}
 use Rattle.uc_peep.specs.Liveness.{IsLiveAt}
 use Rattle.uc_peep.specs.Becomes.{IsKept, IsSettled}
 use Rattle.uc_peep.specs.Window.{IsPinned, IsWindow, filler}
-use Rattle.uc_isa_executions.proofs.Costs.{label-moved}
-use Rattle.uc_isa_executions.proofs.Following.{agrees-back, agrees-there, follows-refl, follows-trans}
+use Rattle.uc_isa.proofs.Costs.{label-moved}
+use Rattle.uc_isa.proofs.Following.{agrees-back, agrees-there, follows-refl, follows-trans}
 use Rattle.uc_isa.specs.Agrees.{Agrees, SourceMeaning}
 use Rattle.uc_isa.specs.Code.{CodeView}
-use Rattle.uc_isa_executions.proofs.Relocation.{relocated-formed, relocated-last, relocated-target, relocated-weight}
-use Rattle.uc_isa_executions.specs.Alike.{Begins, Follows}
-use Rattle.uc_isa_executions.specs.Program.{IsLawfulWithin, IsProgram}
-use Rattle.uc_isa_executions.specs.Relocated.{at_place, moved, relocated}
-use Rattle.uc_isa_executions.specs.Starts.{AreInside, HasShape, IsLabelStart}
-use Rattle.uc_isa_executions.specs.StraightCode.{GoesTo, IsEntered, IsStraight}
-use Rattle.uc_isa_executions.specs.Visits.{access_at, stood}
+use Rattle.uc_isa.proofs.Relocation.{relocated-formed, relocated-last, relocated-target, relocated-weight}
+use Rattle.uc_isa.specs.Alike.{Begins, Follows}
+use Rattle.uc_isa.specs.Program.{IsLawfulWithin, IsProgram}
+use Rattle.uc_isa.specs.Relocated.{at_place, moved, relocated}
+use Rattle.uc_isa.specs.Starts.{AreInside, HasShape, IsLabelStart}
+use Rattle.uc_isa.specs.StraightCode.{GoesTo, IsEntered, IsStraight}
+use Rattle.uc_isa.specs.Visits.{access_at, stood}
 
 -- ---- branches go inside
 

@@ -16,10 +16,10 @@ use Rattle.uc_isa.specs.declared.instruction.UnOp.TheVariants.{Copy, Not, Shl, S
 use Rattle.uc_isa.specs.declared.instruction.Instr.{Instr}
 use Rattle.uc_isa.specs.declared.instruction.Instr.TheVariants.{Alu, Un, Immed, Br, Read, Write, Halt}
 use Rattle.uc_isa.proofs.RegisterLemmas.{operand-register, puts-flags}
-use Rattle.uc_isa_executions.proofs.Effects.{keeps-value, keeps-engine}
-use Rattle.uc_isa_executions.specs.Program.{IsFormed}
-use Rattle.uc_isa_executions.specs.Resources.{Resource, IsResource, value, flag_word}
-use Rattle.uc_isa_executions.specs.Resources.Resource.{In, Zero, Carry}
+use Rattle.uc_isa.proofs.Effects.{keeps-value, keeps-engine}
+use Rattle.uc_isa.specs.Program.{IsFormed}
+use Rattle.uc_isa.specs.Resources.{Resource, IsResource, value, flag_word}
+use Rattle.uc_isa.specs.Resources.Resource.{In, Zero, Carry}
 use Rattle.uc_peep.specs.Sets.{has}
 use Rattle.uc_peep.specs.Window.{IsText, IsShorter}
 use Rattle.uc_peep.specs.Needless.{is_same, is_same_source, has_tested, tests_again, repeated_rule}

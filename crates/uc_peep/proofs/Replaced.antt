@@ -19,14 +19,14 @@ use Rattle.uc_peep.specs.Kept.{is_gone}
 use Rattle.uc_peep.specs.Liveness.{IsClosed}
 use Rattle.uc_peep.specs.Sets.{AgreeOn}
 use Rattle.uc_peep.specs.Window.{IsPinned, IsShorter, filler, fillers, padded}
-use Rattle.uc_isa_executions.proofs.Costs.{label-same, moves-append, moves-level}
-use Rattle.uc_isa_executions.proofs.Effects.{value-at}
-use Rattle.uc_isa_executions.proofs.Lockstep.{alike-trans}
-use Rattle.uc_isa_executions.specs.Program.{IsFormed, IsLawfulWithin, IsProgram}
-use Rattle.uc_isa_executions.specs.Relocated.{at_place}
-use Rattle.uc_isa_executions.specs.Resources.{IsNext, Resource, value}
-use Rattle.uc_isa_executions.specs.Starts.{IsLabelStart}
-use Rattle.uc_isa_executions.specs.StraightCode.{GoesTo, IsEntered, IsStraight, along, weights}
+use Rattle.uc_isa.proofs.Costs.{label-same, moves-append, moves-level}
+use Rattle.uc_isa.proofs.Effects.{value-at}
+use Rattle.uc_isa.proofs.Lockstep.{alike-trans}
+use Rattle.uc_isa.specs.Program.{IsFormed, IsLawfulWithin, IsProgram}
+use Rattle.uc_isa.specs.Relocated.{at_place}
+use Rattle.uc_isa.specs.Resources.{IsNext, Resource, value}
+use Rattle.uc_isa.specs.Starts.{IsLabelStart}
+use Rattle.uc_isa.specs.StraightCode.{GoesTo, IsEntered, IsStraight, along, weights}
 
 -- ---- texts
 

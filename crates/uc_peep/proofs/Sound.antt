@@ -16,11 +16,11 @@ use Rattle.uc_isa.specs.declared.instruction.UnOp.TheVariants.{Copy, Not, Shl, S
 use Rattle.uc_isa.specs.declared.instruction.Instr.{Instr}
 use Rattle.uc_isa.specs.declared.instruction.Instr.TheVariants.{Alu, Un, Immed, Br, Read, Write, Halt}
 use Rattle.uc_isa.proofs.RegisterLemmas.{operand-register, puts-flags}
-use Rattle.uc_isa_executions.proofs.Effects.{keeps-value, keeps-engine, named-none, named-some, same-true}
-use Rattle.uc_isa_executions.specs.Program.{IsFormed}
-use Rattle.uc_isa_executions.specs.Resources.{is_flag, Resource, IsResource, value, flag_word, reads, writes, is_target, is_some_register, same_register}
-use Rattle.uc_isa_executions.specs.Resources.Resource.{In, Zero, Carry}
-use Rattle.uc_isa_executions.specs.StraightCode.{IsStraight}
+use Rattle.uc_isa.proofs.Effects.{keeps-value, keeps-engine, named-none, named-some, same-true}
+use Rattle.uc_isa.specs.Program.{IsFormed}
+use Rattle.uc_isa.specs.Resources.{is_flag, Resource, IsResource, value, flag_word, reads, writes, is_target, is_some_register, same_register}
+use Rattle.uc_isa.specs.Resources.Resource.{In, Zero, Carry}
+use Rattle.uc_isa.specs.StraightCode.{IsStraight}
 use Rattle.uc_peep.specs.Sets.{has, AgreeOn}
 use Rattle.uc_peep.specs.Window.{IsText, IsShorter}
 use Rattle.uc_peep.specs.Needless.{has_register, is_wanted, has_flag, is_dead, is_same, is_idle, copies_back, dead_rule, idle_rule, back_rule}

@@ -9,9 +9,9 @@ use Rattle.std.proofs.lemmas.Nat.Bits.{bit_at-zero}
 use Rattle.uc_isa.specs.declared.instruction.Instr.{Instr}
 use Rattle.uc_peep.specs.Liveness.{AreSmall, Covers, IsLiveBefore, IsClosed, IsGrown, IsLiveAt, IsNeeded, IsSound, IsUpdated}
 use Rattle.uc_peep.specs.Sets.{has}
-use Rattle.uc_isa_executions.specs.Program.{IsLawfulWithin, IsProgram}
-use Rattle.uc_isa_executions.specs.Resources.{IsResource, Live, Resource, number}
-use Rattle.uc_isa_executions.specs.Resources.Live.{Needs, Passes}
+use Rattle.uc_isa.specs.Program.{IsLawfulWithin, IsProgram}
+use Rattle.uc_isa.specs.Resources.{IsResource, Live, Resource, number}
+use Rattle.uc_isa.specs.Resources.Live.{Needs, Passes}
 
 pub lawful-here : (code : List Instr) (len x : ℕ) (d : Instr) → IsProgram code → len ≡ length code → x < len → IsLawfulWithin len x (get_or code x d)
 lawful-here code len x d h same inside =

@@ -12,13 +12,13 @@ use Rattle.uc_isa.specs.declared.instruction.Instr.TheVariants.{Alu, Br, Halt, I
 use Rattle.uc_peep.specs.Liveness.{IsClosed}
 use Rattle.uc_peep.specs.Sets.{AgreeOn, has}
 use Rattle.uc_peep.specs.Window.{filler}
-use Rattle.uc_isa_executions.proofs.Effects.{does-alike, goes-on, keeps-engine, keeps-sizes, keeps-value}
-use Rattle.uc_isa_executions.proofs.Lockstep.{lockstep}
-use Rattle.uc_isa_executions.specs.Alike.{GoesOn, ReadAlike, RunsAlike, StepsAlike}
-use Rattle.uc_isa_executions.specs.Program.{IsFormed}
-use Rattle.uc_isa_executions.specs.Resources.{IsNext, IsResource, Resource, value, writes}
-use Rattle.uc_isa_executions.specs.StraightCode.{IsStraight, along}
-use Rattle.uc_isa_executions.specs.Visits.{access}
+use Rattle.uc_isa.proofs.Effects.{does-alike, goes-on, keeps-engine, keeps-sizes, keeps-value}
+use Rattle.uc_isa.proofs.Lockstep.{lockstep}
+use Rattle.uc_isa.specs.Alike.{GoesOn, ReadAlike, RunsAlike, StepsAlike}
+use Rattle.uc_isa.specs.Program.{IsFormed}
+use Rattle.uc_isa.specs.Resources.{IsNext, IsResource, Resource, value, writes}
+use Rattle.uc_isa.specs.StraightCode.{IsStraight, along}
+use Rattle.uc_isa.specs.Visits.{access}
 
 -- ---- straight instructions and fillers
 

@@ -14,8 +14,8 @@ use Rattle.uc_peep.specs.Rewrites.Rewrites.{Same, Replaced, Relocated, InTurn}
 use Rattle.uc_peep.specs.Rewrites.IsWithout.{Nothing, Gone, Tested, Stays}
 use Rattle.uc_peep.specs.Rules.{IsSomeOf}
 use Rattle.uc_peep.proofs.Sound.{both, given}
-use Rattle.uc_isa_executions.specs.Relocated.{relocated}
-use Rattle.uc_isa_executions.specs.StraightCode.{IsStraight}
+use Rattle.uc_isa.specs.Relocated.{relocated}
+use Rattle.uc_isa.specs.StraightCode.{IsStraight}
 
 pub compacted-kept_of : (f : ℕ → ℕ) (gone : List Bool) (code : List Instr) → compacted f gone code ≡ map (relocated f) (kept_of gone code)
 compacted-kept_of f [] code = refl

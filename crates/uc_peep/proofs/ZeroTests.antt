@@ -18,11 +18,11 @@ use Rattle.uc_isa.specs.declared.instruction.Instr.{Instr}
 use Rattle.uc_isa.specs.declared.instruction.Instr.TheVariants.{Alu, Un, Immed, Br, Read, Write, Halt}
 use Rattle.uc_isa.proofs.RegisterLemmas.{operand-register, puts-word}
 use Rattle.uc_isa.proofs.States.{operand-fits}
-use Rattle.uc_isa_executions.proofs.Effects.{keeps-value, keeps-engine}
-use Rattle.uc_isa_executions.specs.Program.{IsFormed}
-use Rattle.uc_isa_executions.specs.Resources.{Resource, IsResource, value, flag_word, is_flag, is_source, is_target}
-use Rattle.uc_isa_executions.specs.Resources.Resource.{In, Zero, Carry}
-use Rattle.uc_isa_executions.specs.StraightCode.{IsStraight}
+use Rattle.uc_isa.proofs.Effects.{keeps-value, keeps-engine}
+use Rattle.uc_isa.specs.Program.{IsFormed}
+use Rattle.uc_isa.specs.Resources.{Resource, IsResource, value, flag_word, is_flag, is_source, is_target}
+use Rattle.uc_isa.specs.Resources.Resource.{In, Zero, Carry}
+use Rattle.uc_isa.specs.StraightCode.{IsStraight}
 use Rattle.uc_peep.specs.Sets.{has}
 use Rattle.uc_peep.specs.Window.{IsText, IsShorter}
 use Rattle.uc_peep.specs.Needless.{is_same, is_wanted, compares_zero, tested, zero_rule}

@@ -6,9 +6,9 @@ use Rattle.uc_peep.specs.Liveness.{IsLiveAt}
 use Rattle.uc_peep.specs.declared.peephole.Listing.{Listing}
 use Rattle.uc_peep.specs.Rewrites.{Answers, Rewrites}
 use Rattle.uc_peep.specs.Window.{IsWindow}
-use Rattle.uc_isa_executions.specs.Alike.{Follows}
-use Rattle.uc_isa_executions.specs.Program.{IsProgram}
-use Rattle.uc_isa_executions.specs.Starts.{AreInside, HasShape}
+use Rattle.uc_isa.specs.Alike.{Follows}
+use Rattle.uc_isa.specs.Program.{IsProgram}
+use Rattle.uc_isa.specs.Starts.{AreInside, HasShape}
 
 -- the second code with its starts does what the first with its does, and its moves cost no more
 pub record IsKept (code : List Instr) (starts : List ℕ) (code' : List Instr) (starts' : List ℕ) : Type 0 where

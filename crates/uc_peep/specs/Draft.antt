@@ -10,10 +10,10 @@ use Rattle.uc_peep.specs.Kept.{is_gone, kept_of}
 use Rattle.uc_peep.specs.Liveness.{Covers, IsClosed}
 use Rattle.uc_peep.specs.Rewrites.{Answers, Rewrites}
 use Rattle.uc_peep.specs.Window.{IsPinned, filler}
-use Rattle.uc_isa_executions.specs.Alike.{Begins, RunsAlike}
-use Rattle.uc_isa_executions.specs.Program.{IsProgram}
-use Rattle.uc_isa_executions.specs.Starts.{IsLabelStart}
-use Rattle.uc_isa_executions.specs.StraightCode.{IsEntered, IsStraight}
+use Rattle.uc_isa.specs.Alike.{Begins, RunsAlike}
+use Rattle.uc_isa.specs.Program.{IsProgram}
+use Rattle.uc_isa.specs.Starts.{IsLabelStart}
+use Rattle.uc_isa.specs.StraightCode.{IsEntered, IsStraight}
 
 -- exactly the places that are as P says are marked
 abbrev pub AreMarked : List Bool → (ℕ → Type 0) → Type 0

@@ -1,7 +1,7 @@
 -- Code from which places are taken out.
 use Rattle.std.specs.Prelude.{ℕ, zero, suc, Bool, true, false, List, [], ◌∷◌, slice_index_or}
 use Rattle.uc_isa.specs.declared.instruction.Instr.{Instr}
-use Rattle.uc_isa_executions.specs.Relocated.{relocated}
+use Rattle.uc_isa.specs.Relocated.{relocated}
 
 -- the place is to be taken out
 abbrev pub is_gone : List Bool → ℕ → Bool

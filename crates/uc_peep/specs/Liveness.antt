@@ -2,7 +2,7 @@
 use Rattle.std.specs.Prelude.{◌≡◌, ℕ, ◌<◌, ◌^◌, ◌⊎◌, Bool, true, false, List, length, sum, Some, slice_get, slice_index}
 use Rattle.uc_isa.specs.declared.instruction.Instr.{Instr}
 use Rattle.uc_peep.specs.Sets.{has}
-use Rattle.uc_isa_executions.specs.Resources.{IsNext, IsResource, Live, Resource, reads, writes}
+use Rattle.uc_isa.specs.Resources.{IsNext, IsResource, Live, Resource, reads, writes}
 
 -- exactly what is live at a place is in the set
 abbrev pub IsLiveAt : List Instr → ℕ → ℕ → Type 0

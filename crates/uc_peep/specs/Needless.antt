@@ -9,8 +9,8 @@ use Rattle.uc_isa.specs.declared.instruction.Instr.TheVariants.{Alu, Un, Immed}
 use Rattle.uc_isa.specs.declared.instruction.UnOp.TheVariants.{Copy}
 use Rattle.nv_base.specs.declared.term.Bin.TheVariants.{Sub}
 use Rattle.uc_isa.specs.Registers.{Register, target_register}
-use Rattle.uc_isa_executions.specs.Resources.{same_register}
-use Rattle.uc_isa_executions.specs.Resources.Resource.{In, Zero, Carry}
+use Rattle.uc_isa.specs.Resources.{same_register}
+use Rattle.uc_isa.specs.Resources.Resource.{In, Zero, Carry}
 use Rattle.uc_peep.specs.Sets.{has}
 use Rattle.uc_peep.specs.Liveness.{IsLiveAt}
 use Rattle.uc_peep.specs.Window.{IsWindow}

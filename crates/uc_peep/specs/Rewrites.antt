@@ -6,8 +6,8 @@ use Rattle.uc_isa.specs.declared.instruction.Dst.TheVariants.{Nowhere}
 use Rattle.uc_isa.specs.declared.instruction.UnOp.TheVariants.{Copy}
 use Rattle.uc_isa.specs.declared.instruction.Instr.{Instr}
 use Rattle.uc_isa.specs.declared.instruction.Instr.TheVariants.{Alu, Un}
-use Rattle.uc_isa_executions.specs.Relocated.{relocated}
-use Rattle.uc_isa_executions.specs.StraightCode.{IsStraight}
+use Rattle.uc_isa.specs.Relocated.{relocated}
+use Rattle.uc_isa.specs.StraightCode.{IsStraight}
 
 -- the answers of a rule
 abbrev pub Answers : Type 1

@@ -2,7 +2,7 @@
 use Rattle.std.specs.Prelude.{◌≡◌, ℕ, Bool, true, nat_eq}
 use Rattle.std.specs.Int.{bit_at}
 use Rattle.uc_isa.specs.declared.engine.Engine.{Engine}
-use Rattle.uc_isa_executions.specs.Resources.{Resource, IsResource, number, value}
+use Rattle.uc_isa.specs.Resources.{Resource, IsResource, number, value}
 
 -- it is in the set
 abbrev pub has : ℕ → Resource → Bool

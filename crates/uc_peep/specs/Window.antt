@@ -8,10 +8,10 @@ use Rattle.uc_isa.specs.declared.instruction.Cond.TheVariants.{Always}
 use Rattle.uc_isa.specs.declared.instruction.Instr.{Instr}
 use Rattle.uc_isa.specs.declared.instruction.Instr.TheVariants.{Br}
 use Rattle.uc_peep.specs.Sets.{AgreeOn}
-use Rattle.uc_isa_executions.specs.Program.{IsFormed}
-use Rattle.uc_isa_executions.specs.Resources.{Resource, reads, writes}
-use Rattle.uc_isa_executions.specs.Starts.{IsLabelStart}
-use Rattle.uc_isa_executions.specs.StraightCode.{IsEntered, IsStraight, along, weights}
+use Rattle.uc_isa.specs.Program.{IsFormed}
+use Rattle.uc_isa.specs.Resources.{Resource, reads, writes}
+use Rattle.uc_isa.specs.Starts.{IsLabelStart}
+use Rattle.uc_isa.specs.StraightCode.{IsEntered, IsStraight, along, weights}
 
 -- one to four lawful straight instructions
 pub record IsText (ws : List Instr) : Type 0 where

@@ -4,9 +4,9 @@ ghost use Rattle.std.specs.Prelude.{◌≡◌, ◌+◌, ◌<◌, ◌≤◌, ℕ,
 ghost use Rattle.uc_isa.specs.Lawful.{Rule5};
 ghost use Rattle.uc_peep.specs.Draft.{AreMarked};
 ghost use Rattle.uc_peep.specs.Kept.{compacted, is_gone, kept_before};
-ghost use Rattle.uc_isa_executions.specs.Relocated.{relocated};
-ghost use Rattle.uc_isa_executions.specs.StraightCode.{IsEntered};
-ghost use Rattle.uc_isa_executions.specs.Starts.{IsLabelStart};
+ghost use Rattle.uc_isa.specs.Relocated.{relocated};
+ghost use Rattle.uc_isa.specs.StraightCode.{IsEntered};
+ghost use Rattle.uc_isa.specs.Starts.{IsLabelStart};
 
 use std::alloc::{AllocError, Global};
 use uc_isa::Instr;

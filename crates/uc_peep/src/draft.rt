@@ -2,12 +2,12 @@
 
 ghost use Rattle.std.specs.Prelude.{◌≡◌, suc, ◌+◌, ◌<◌, ◌≤◌, ℕ, List, true, false, None, IfOk, Bool, Some, length, slice_get, slice_index};
 ghost use Rattle.uc_isa.specs.declared.instruction.Instr.{Instr};
-ghost use Rattle.uc_isa_executions.specs.Program.{IsProgram};
+ghost use Rattle.uc_isa.specs.Program.{IsProgram};
 ghost use Rattle.uc_peep.specs.Draft.{AfterTurn, IsDraft, IsMarks, IsPassed, IsPassing, IsRefreshed};
 ghost use Rattle.uc_peep.specs.Kept.{is_gone};
 ghost use Rattle.uc_peep.specs.Liveness.{IsClosed};
 ghost use Rattle.uc_peep.specs.Sets.{IsWithin};
-ghost use Rattle.uc_isa_executions.specs.Resources.{IsNext};
+ghost use Rattle.uc_isa.specs.Resources.{IsNext};
 
 use crate::LiveSet;
 use crate::liveness::live_before;

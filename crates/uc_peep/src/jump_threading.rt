@@ -1,7 +1,7 @@
 // Sets that are nearly what they are to be, found by a list of work: whether all is found, sweeps show afterwards.
 
 ghost use Rattle.std.specs.Prelude.{◌≡◌, ◌<◌, ◌≤◌, OnOk, length};
-ghost use Rattle.uc_isa_executions.specs.Program.{IsProgram};
+ghost use Rattle.uc_isa.specs.Program.{IsProgram};
 ghost use Rattle.uc_peep.specs.Liveness.{IsGrown};
 
 use crate::LiveSet;

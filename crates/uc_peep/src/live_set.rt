@@ -2,8 +2,8 @@
 ghost use Rattle.std.specs.Prelude.{◌≡◌, ◌+◌, ◌<◌, ◌≤◌, ◌==◌, ◌||◌, ◌&&◌, ◌↔◌, ◌^◌, not, nat_eq, false, IsTrue};
 ghost use Rattle.std.specs.Int.{bit_at};
 ghost use Rattle.uc_isa.specs.Registers.{IsRegister, source_register, target_register, address_register};
-ghost use Rattle.uc_isa_executions.specs.Resources.{Resource, IsResource, number, is_address, is_carry, is_flag, is_source, is_target, is_within, is_zero};
-ghost use Rattle.uc_isa_executions.specs.Resources.Resource.{In, Zero, Carry};
+ghost use Rattle.uc_isa.specs.Resources.{Resource, IsResource, number, is_address, is_carry, is_flag, is_source, is_target, is_within, is_zero};
+ghost use Rattle.uc_isa.specs.Resources.Resource.{In, Zero, Carry};
 ghost use Rattle.uc_peep.specs.Sets.{has, IsWithin};
 ghost use Rattle.uc_peep.specs.Needless.{is_wanted};
 

@@ -2,8 +2,8 @@
 ghost use Rattle.std.specs.Prelude.{◌≡◌, ◌<◌, ◌≤◌, ◌+◌, ◌*◌, ◌^◌, ◌||◌, ◌&&◌, ℕ, true, false, length, sum, slice_index, slice_get, Some, IfOk, OnOk};
 ghost use Rattle.uc_isa.specs.Lawful.{IsLawful, IsRun};
 ghost use Rattle.uc_isa.specs.declared.instruction.Instr.{Instr};
-ghost use Rattle.uc_isa_executions.specs.Program.{IsFormed, IsLawfulWithin, IsProgram};
-ghost use Rattle.uc_isa_executions.specs.Resources.{Resource, IsResource, is_read_run, is_write_run, reads, tests, writes};
+ghost use Rattle.uc_isa.specs.Program.{IsFormed, IsLawfulWithin, IsProgram};
+ghost use Rattle.uc_isa.specs.Resources.{Resource, IsResource, is_read_run, is_write_run, reads, tests, writes};
 ghost use Rattle.uc_peep.specs.Sets.{has};
 ghost use Rattle.uc_peep.specs.Liveness.{AreSmall, Covers, IsLiveBefore, IsLiveAfter, IsClosed, IsLiveAt, IsSound, IsUpdated};
 

@@ -3,7 +3,7 @@
 ghost use Rattle.std.specs.Prelude.{◌≡◌, ◌&&◌, ◌||◌, ◌↔◌, not, ℕ, true, false, List, Option, Some, None, IfOk};
 ghost use Rattle.uc_isa.specs.Agrees.{Agrees, SourceMeaning};
 ghost use Rattle.uc_isa.specs.Lawful.{IsLawful};
-ghost use Rattle.uc_isa_executions.specs.Starts.{AreInside};
+ghost use Rattle.uc_isa.specs.Starts.{AreInside};
 ghost use Rattle.uc_peep.specs.Becomes.{IsKept};
 ghost use Rattle.uc_peep.specs.Rewrites.{IsWithout};
 ghost use Rattle.uc_peep.specs.Needless as spec;

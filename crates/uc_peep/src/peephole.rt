@@ -3,8 +3,8 @@
 ghost use Rattle.std.specs.Prelude.{◌≡◌, ◌+◌, ◌<◌, ◌≤◌, ◌^◌, ◌↔◌, ℕ, List, false, IfOk, length, map, slice_index};
 ghost use Rattle.uc_isa.specs.Agrees.{Agrees, SourceMeaning};
 ghost use Rattle.uc_isa.specs.Lawful.{IsLawful};
-ghost use Rattle.uc_isa_executions.specs.Program.{IsProgram};
-ghost use Rattle.uc_isa_executions.specs.Starts.{AreInside};
+ghost use Rattle.uc_isa.specs.Program.{IsProgram};
+ghost use Rattle.uc_isa.specs.Starts.{AreInside};
 ghost use Rattle.uc_peep.specs.Draft.{IsDraft};
 ghost use Rattle.uc_peep.specs.Kept.{compacted, is_gone, kept_before};
 ghost use Rattle.uc_peep.specs.Liveness.{IsClosed, IsLiveAt};

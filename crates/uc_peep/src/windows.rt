@@ -2,11 +2,11 @@
 
 ghost use Rattle.std.specs.Prelude.{◌≡◌, ◌+◌, ◌<◌, ◌≤◌, ◌↔◌, ℕ, List, true, false, Some, None, IfSome, IfNone, OnSome, IsTrue, length, take, drop, slice_get, slice_index, slice_index_or};
 ghost use Rattle.uc_isa.specs.declared.instruction.Instr.{Instr};
-ghost use Rattle.uc_isa_executions.specs.Program.{IsFormed, IsProgram};
+ghost use Rattle.uc_isa.specs.Program.{IsFormed, IsProgram};
 ghost use Rattle.uc_peep.specs.Draft.{AreOpen, IsEndClear, IsOpen, IsPut, IsFallThrough, MayReplace};
 ghost use Rattle.uc_peep.specs.Kept.{is_gone};
 ghost use Rattle.uc_peep.specs.Window.{IsShorter, IsText};
-ghost use Rattle.uc_isa_executions.specs.StraightCode.{IsStraight};
+ghost use Rattle.uc_isa.specs.StraightCode.{IsStraight};
 
 use crate::window::Window;
 use crate::{LiveSet, Shorter};

@@ -3,10 +3,10 @@ use Rattle.std.proofs.Common.{◌≡◌, ℕ, suc, ◌-◌, ◌*◌, ◌≤◌, 
 use Rattle.std.specs.Prelude.{slice_get}
 use Rattle.uc_isa.specs.Moves.{label_weight, moves_from, weight}
 use Rattle.uc_isa.specs.declared.instruction.Instr.{Instr}
-use Rattle.uc_isa_executions.specs.Program.{IsLawfulWithin, IsProgram}
-use Rattle.uc_isa_executions.specs.Relocated.{relocated}
-use Rattle.uc_isa_executions.specs.Starts.{IsLabelStart}
-use Rattle.uc_isa_executions.specs.StraightCode.{IsEntered, IsStraight}
+use Rattle.uc_isa.specs.Program.{IsLawfulWithin, IsProgram}
+use Rattle.uc_isa.specs.Relocated.{relocated}
+use Rattle.uc_isa.specs.Starts.{IsLabelStart}
+use Rattle.uc_isa.specs.StraightCode.{IsEntered, IsStraight}
 use Rattle.uc_peep.proofs.Replaced.{filler-lawful, gone-cases}
 use Rattle.uc_peep.specs.Draft.{IsDraft}
 use Rattle.uc_peep.specs.Kept.{compacted, is_gone}
@@ -14,7 +14,7 @@ use Rattle.uc_peep.specs.Liveness.{IsClosed, IsLiveAt}
 use Rattle.uc_peep.specs.Rewrites.{IsWithout}
 use Rattle.uc_peep.specs.Rewrites.IsWithout.{Nothing, Gone, Stays}
 use Rattle.uc_peep.specs.Window.{filler}
-use Rattle.uc_isa_executions.specs.Resources.Live.{Needs, Passes}
+use Rattle.uc_isa.specs.Resources.Live.{Needs, Passes}
 use Rattle.uc_peep_facts.specs.Facts.{IsFilled, MayGo}
 use Rattle.uc_peep_facts.specs.declared.fact.Facts.{Facts}
 use Rattle.uc_peep_facts.proofs.InStep.{runs-in-step}

@@ -13,11 +13,11 @@ use Rattle.uc_isa.specs.declared.instruction.Src.{Src}
 use Rattle.uc_isa.specs.declared.instruction.UnOp.{UnOp}
 use Rattle.uc_isa.specs.declared.instruction.Instr.{Instr}
 use Rattle.uc_isa.specs.declared.instruction.Instr.TheVariants.{Alu, Un, Immed}
-use Rattle.uc_isa_executions.proofs.Effects.{keeps-value}
-use Rattle.uc_isa_executions.specs.Program.{IsFormed}
-use Rattle.uc_isa_executions.specs.Resources.{IsResource, Resource, is_flag, is_target, value, writes}
-use Rattle.uc_isa_executions.specs.Resources.Resource.{In, Zero, Carry}
-use Rattle.uc_isa_executions.specs.StraightCode.{IsStraight}
+use Rattle.uc_isa.proofs.Effects.{keeps-value}
+use Rattle.uc_isa.specs.Program.{IsFormed}
+use Rattle.uc_isa.specs.Resources.{IsResource, Resource, is_flag, is_target, value, writes}
+use Rattle.uc_isa.specs.Resources.Resource.{In, Zero, Carry}
+use Rattle.uc_isa.specs.StraightCode.{IsStraight}
 use Rattle.uc_peep.proofs.Sound.{flagless, free}
 use Rattle.uc_peep.specs.Sets.{has}
 use Rattle.uc_peep_facts.specs.Facts.{AllStand, FlagsStand, IsIdle, TargetStands, is_part, with_target}

@@ -6,11 +6,11 @@ use Rattle.uc_isa.specs.Engine.{IsEngine}
 use Rattle.uc_isa.specs.Step.{EndsRun, effect, step, step_at}
 use Rattle.uc_isa.specs.declared.engine.Engine.{Engine}
 use Rattle.uc_isa.specs.declared.instruction.Instr.{Instr}
-use Rattle.uc_isa_executions.proofs.Effects.{does-alike, goes-on, keeps-engine, keeps-sizes}
-use Rattle.uc_isa_executions.proofs.Lockstep.{lockstep}
-use Rattle.uc_isa_executions.specs.Alike.{Begins, DoesAlike, GoesOn, ReadAlike, RunsAlike, StepsAlike}
-use Rattle.uc_isa_executions.specs.Program.{IsFormed}
-use Rattle.uc_isa_executions.specs.Visits.{access}
+use Rattle.uc_isa.proofs.Effects.{does-alike, goes-on, keeps-engine, keeps-sizes}
+use Rattle.uc_isa.proofs.Lockstep.{lockstep}
+use Rattle.uc_isa.specs.Alike.{Begins, DoesAlike, GoesOn, ReadAlike, RunsAlike, StepsAlike}
+use Rattle.uc_isa.specs.Program.{IsFormed}
+use Rattle.uc_isa.specs.Visits.{access}
 use Rattle.uc_peep.proofs.WindowRuns.{agree-step}
 use Rattle.uc_peep.specs.Liveness.{IsClosed}
 use Rattle.uc_peep.specs.Sets.{AgreeOn}

@@ -5,3 +5,7 @@ pub mod Idleness
 pub mod InStep
 pub mod Thinned
 pub mod Drafted
+pub mod Lighter
+pub mod Exchanged
+pub mod Turning
+pub mod Level

@@ -14,14 +14,14 @@ use Rattle.uc_isa.specs.declared.instruction.UnOp.TheVariants.{Copy}
 use Rattle.uc_isa.specs.declared.instruction.Instr.{Instr}
 use Rattle.uc_isa.specs.declared.instruction.Instr.TheVariants.{Alu, Un, Immed, Br, Read, Write, Halt}
 use Rattle.uc_isa.proofs.RegisterLemmas.{operand-register, puts-flags, puts-word}
-use Rattle.uc_isa_executions.proofs.Effects.{does-alike, keeps-engine, keeps-value, named-some, true-same, value-at}
-use Rattle.uc_isa_executions.proofs.Relocation.{does-moved}
-use Rattle.uc_isa_executions.specs.Alike.{ReadAlike}
-use Rattle.uc_isa_executions.specs.Program.{IsFormed}
-use Rattle.uc_isa_executions.specs.Relocated.{at_place, moved, relocated}
-use Rattle.uc_isa_executions.specs.Resources.{IsResource, Resource, flag_word, is_flag, is_target, is_some_register, is_zero, reads, value, writes}
-use Rattle.uc_isa_executions.specs.Resources.Resource.{In, Zero, Carry}
-use Rattle.uc_isa_executions.specs.StraightCode.{IsStraight}
+use Rattle.uc_isa.proofs.Effects.{does-alike, keeps-engine, keeps-value, named-some, true-same, value-at}
+use Rattle.uc_isa.proofs.Relocation.{does-moved}
+use Rattle.uc_isa.specs.Alike.{ReadAlike}
+use Rattle.uc_isa.specs.Program.{IsFormed}
+use Rattle.uc_isa.specs.Relocated.{at_place, moved, relocated}
+use Rattle.uc_isa.specs.Resources.{IsResource, Resource, flag_word, is_flag, is_target, is_some_register, is_zero, reads, value, writes}
+use Rattle.uc_isa.specs.Resources.Resource.{In, Zero, Carry}
+use Rattle.uc_isa.specs.StraightCode.{IsStraight}
 use Rattle.uc_peep.specs.Sets.{has}
 use Rattle.uc_peep_facts.specs.Facts.{AllStand, AreWith, Gives, HasTarget, IsApart, IsNamed, IsOneOf, IsResult, SetsFlags, Stands, is_part, with_target}
 use Rattle.uc_peep_facts.specs.declared.fact.Fact.{Fact}

@@ -6,8 +6,8 @@ use Rattle.std.proofs.lemmas.Option.{slice_get_past, slice_get-get_or}
 use Rattle.uc_isa.specs.Step.{Next, effect}
 use Rattle.uc_isa.specs.declared.instruction.Instr.{Instr}
 use Rattle.uc_isa.specs.declared.instruction.Instr.TheVariants.{Halt}
-use Rattle.uc_isa_executions.proofs.Effects.{value-at}
-use Rattle.uc_isa_executions.specs.Program.{IsFormed, IsProgram}
+use Rattle.uc_isa.proofs.Effects.{value-at}
+use Rattle.uc_isa.specs.Program.{IsFormed, IsProgram}
 use Rattle.uc_peep.proofs.Replaced.{gone-cases}
 use Rattle.uc_peep.proofs.WindowRuns.{IsOnward, onward}
 use Rattle.uc_peep.specs.Kept.{is_gone}

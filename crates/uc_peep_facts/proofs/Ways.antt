@@ -5,9 +5,9 @@ use Rattle.std.proofs.lemmas.Bool.{cases_lt, false≢true}
 use Rattle.std.proofs.lemmas.Bool.Decides.{eqb_tells}
 use Rattle.std.proofs.lemmas.Option.{slice_get_within}
 use Rattle.uc_isa.specs.declared.instruction.Instr.{Instr}
-use Rattle.uc_isa_executions.specs.Resources.{IsNext}
-use Rattle.uc_isa_executions.specs.Starts.{IsLabelStart}
-use Rattle.uc_isa_executions.specs.StraightCode.{IsEntered}
+use Rattle.uc_isa.specs.Resources.{IsNext}
+use Rattle.uc_isa.specs.Starts.{IsLabelStart}
+use Rattle.uc_isa.specs.StraightCode.{IsEntered}
 use Rattle.uc_peep.specs.Draft.{AreMarked}
 use Rattle.uc_peep.specs.Kept.{is_gone}
 use Rattle.uc_peep_facts.specs.Facts.{AreKept, AreOf, Gives, IsIdle, IsOneOf, MayGo, known, known_at, known_of}

@@ -10,12 +10,12 @@ use Rattle.uc_isa.specs.declared.instruction.Dst.TheVariants.{Nowhere}
 use Rattle.uc_isa.specs.declared.instruction.Src.{Src}
 use Rattle.uc_isa.specs.declared.instruction.Instr.{Instr}
 use Rattle.uc_isa.specs.declared.instruction.Instr.TheVariants.{Alu, Un, Immed}
-use Rattle.uc_isa_executions.specs.Program.{IsFormed}
-use Rattle.uc_isa_executions.specs.Resources.{IsNext, IsResource, Resource, is_flag, is_zero, reads, value, writes}
-use Rattle.uc_isa_executions.specs.Resources.Resource.{Zero as ZeroFlag, Carry as CarryFlag}
-use Rattle.uc_isa_executions.specs.Starts.{IsLabelStart}
-use Rattle.uc_isa_executions.specs.StraightCode.{IsEntered, IsStraight}
-use Rattle.uc_isa_executions.specs.Visits.{access}
+use Rattle.uc_isa.specs.Program.{IsFormed}
+use Rattle.uc_isa.specs.Resources.{IsNext, IsResource, Resource, is_flag, is_zero, reads, value, writes}
+use Rattle.uc_isa.specs.Resources.Resource.{Zero as ZeroFlag, Carry as CarryFlag}
+use Rattle.uc_isa.specs.Starts.{IsLabelStart}
+use Rattle.uc_isa.specs.StraightCode.{IsEntered, IsStraight}
+use Rattle.uc_isa.specs.Visits.{access}
 use Rattle.uc_peep.specs.Kept.{is_gone}
 use Rattle.uc_peep.specs.Needless.{is_wanted}
 use Rattle.uc_peep.specs.Sets.{AgreeOn, has}

@@ -1,8 +1,8 @@
 //! Whether each way keeps the facts of a table.
 
 ghost use Rattle.std.specs.Prelude.{◌≡◌, ◌<◌, ℕ, true, length};
-ghost use Rattle.uc_isa_executions.specs.Program.{IsLawfulWithin, IsProgram};
-ghost use Rattle.uc_isa_executions.specs.Resources.{IsNext};
+ghost use Rattle.uc_isa.specs.Program.{IsLawfulWithin, IsProgram};
+ghost use Rattle.uc_isa.specs.Resources.{IsNext};
 ghost use Rattle.uc_peep_facts.specs.Facts.{AreKept, AreOf, known, known_at};
 
 use crate::fact::Facts;

@@ -3,9 +3,9 @@
 ghost use Rattle.std.specs.Prelude.{◌≡◌, true, false, IfSome};
 ghost use Rattle.uc_isa.specs.declared.instruction.Instr.TheVariants.{Un};
 ghost use Rattle.uc_isa.specs.declared.instruction.UnOp.TheVariants.{Copy};
-ghost use Rattle.uc_isa_executions.specs.Program.{IsFormed};
-ghost use Rattle.uc_isa_executions.specs.Resources.{IsResource, Resource, is_flag, reads, writes};
-ghost use Rattle.uc_isa_executions.specs.StraightCode.{IsStraight};
+ghost use Rattle.uc_isa.specs.Program.{IsFormed};
+ghost use Rattle.uc_isa.specs.Resources.{IsResource, Resource, is_flag, reads, writes};
+ghost use Rattle.uc_isa.specs.StraightCode.{IsStraight};
 ghost use Rattle.uc_peep.specs.Sets.{has};
 ghost use Rattle.uc_peep_facts.specs.Facts.{Gives, IsApart, IsNamed, IsOneOf, IsResult, SetsFlags, is_part, known, with_target};
 

@@ -2,7 +2,7 @@
 
 ghost use Rattle.std.specs.Prelude.{◌≡◌, true};
 ghost use Rattle.uc_isa.specs.declared.instruction.Dst.TheVariants.{Nowhere};
-ghost use Rattle.uc_isa_executions.specs.Program.{IsFormed};
+ghost use Rattle.uc_isa.specs.Program.{IsFormed};
 ghost use Rattle.uc_peep_facts.specs.Facts.{FlagsStand, IsIdle, IsOneOf, TargetStands, known, with_target};
 
 use crate::equal::is_same_fact;

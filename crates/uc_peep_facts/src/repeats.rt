@@ -3,9 +3,9 @@
 ghost use Rattle.std.specs.Prelude.{◌≡◌, ◌<◌, ◌^◌, ◌↔◌, ℕ, List, true, false, IfOk, length};
 ghost use Rattle.uc_isa.specs.Agrees.{Agrees, SourceMeaning};
 ghost use Rattle.uc_isa.specs.Lawful.{IsLawful};
-ghost use Rattle.uc_isa_executions.specs.Program.{IsProgram};
-ghost use Rattle.uc_isa_executions.specs.Starts.{AreInside, IsLabelStart};
-ghost use Rattle.uc_isa_executions.specs.StraightCode.{IsEntered};
+ghost use Rattle.uc_isa.specs.Program.{IsProgram};
+ghost use Rattle.uc_isa.specs.Starts.{AreInside, IsLabelStart};
+ghost use Rattle.uc_isa.specs.StraightCode.{IsEntered};
 ghost use Rattle.uc_peep.specs.Becomes.{IsKept};
 ghost use Rattle.uc_peep.specs.Draft.{AreMarked, IsDraft};
 ghost use Rattle.uc_peep.specs.Kept.{is_gone};

@@ -1,7 +1,7 @@
 // Facts that are likely to stand at each place. Whether each way keeps them is tested afterwards.
 
 ghost use Rattle.std.specs.Prelude.{◌≡◌, ◌<◌, length};
-ghost use Rattle.uc_isa_executions.specs.Program.{IsProgram};
+ghost use Rattle.uc_isa.specs.Program.{IsProgram};
 
 use crate::equal::is_same_fact;
 use crate::fact::Facts;

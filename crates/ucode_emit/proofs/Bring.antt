@@ -13,8 +13,8 @@ use Rattle.place_plan.specs.Places.{same_place}
 use Rattle.place_plan.specs.Plan.{Plan, serve, pass}
 use Rattle.place_plan.specs.Fits.{is_slot}
 use Rattle.place_plan.proofs.Places.{same_place-true, same_place-from}
-use Rattle.par_move.specs.Moves.{Move, Words, put, one_by_one, all_at_once}
-use Rattle.par_move.proofs.Steps.{put-other}
+use Rattle.ucode_emit.specs.Moves.{Move, Words, put, one_by_one, all_at_once}
+use Rattle.ucode_emit.proofs.MoveSteps.{put-other}
 use Rattle.ucode_emit.specs.Pieces.{named, bring, single_move, single_moves, served_moves}
 use Rattle.ucode_emit.specs.Emits.{IsSequence}
 use Rattle.ucode_emit.specs.inner.Ready.{Ready}

@@ -11,7 +11,7 @@ use Rattle.ssu_ir.specs.Single.{takes_as_many, is_narrow, IsNarrow}
 use Rattle.ssu_ir.proofs.Narrow.{narrow_is}
 use Rattle.place_plan.specs.declared.place.Serve.{Serve}
 use Rattle.place_plan.specs.Plan.{Plan, serve, first, pass}
-use Rattle.par_move.specs.Moves.{Move}
+use Rattle.ucode_emit.specs.Moves.{Move}
 use Rattle.ucode_emit.specs.Pieces.{operands, words, result_place, to_slot, copies, all_copies, single_moves, shift_of, entry_point, Sequences, sequence_at, served_moves, last_moves, entry_moves, label_moves, tree_moves, parallel_moves}
 use Rattle.ucode_emit.specs.Emits.{IsSequence, AreSequences}
 use Rattle.ucode_emit.specs.inner.Machine.{IsWritable, AreDirect}

@@ -11,8 +11,8 @@ use Rattle.place_plan.specs.Plan.{Plan, home, pass}
 use Rattle.place_plan.specs.Fits.{is_slot, has_place}
 use Rattle.place_plan.proofs.Places.{same_place-true, same_place-itself, same_place-from}
 use Rattle.ssu_liveness.proofs.Scoped.{in-itself}
-use Rattle.par_move.specs.Moves.{Move, Words, put, one_by_one}
-use Rattle.par_move.proofs.Steps.{put-other}
+use Rattle.ucode_emit.specs.Moves.{Move, Words, put, one_by_one}
+use Rattle.ucode_emit.proofs.MoveSteps.{put-other}
 use Rattle.ucode_emit.specs.Pieces.{named, copied, all_copied, copies, all_copies}
 
 -- ---- one word

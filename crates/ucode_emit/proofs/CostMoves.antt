@@ -8,7 +8,7 @@ use Rattle.place_plan.specs.Places.{same_place}
 use Rattle.place_plan.specs.Plan.{Plan, serve, pass}
 use Rattle.place_plan.specs.Fits.{is_slot, is_read_register}
 use Rattle.place_plan.specs.Costs.{served_cost, copied_cost, all_copied_cost}
-use Rattle.par_move.specs.Moves.{Move, temporary, StandFor, none, once, around, at_rest}
+use Rattle.ucode_emit.specs.Moves.{Move, temporary, StandFor, none, once, around, at_rest}
 use Rattle.ucode_emit.specs.Pieces.{move_instr, named, bring, brought, to_temporary, to_read_register, each_operand, operands, words, copied, all_copied, single_move, single_moves, served_moves}
 
 -- ---- the weight of one move

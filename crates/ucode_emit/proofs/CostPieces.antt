@@ -26,7 +26,7 @@ use Rattle.place_plan.specs.Plan.{Plan, home, first, pass}
 use Rattle.place_plan.specs.Uses.{ValueOrigin, Parameter, Fetched, numbered, place_values, Address, is_used}
 use Rattle.place_plan.specs.Fits.{is_slot, IsAddressAt}
 use Rattle.place_plan.specs.Costs.{served_cost, entry_cost, result_cost, all_copied_cost, values_cost}
-use Rattle.par_move.specs.Moves.{Move}
+use Rattle.ucode_emit.specs.Moves.{Move}
 use Rattle.ucode_emit.specs.Pieces.{Item, Moved, Plain, Branch, move_instr, moved, named, operands, operand_at, words, result_place, to_slot, copies, all_copies, single_moves, un_op, source, target, address_of, shift_of, defines, step_items, entry_point, entry_moves, last_moves}
 use Rattle.ucode_emit.specs.Emits.{IsSequence}
 use Rattle.ucode_emit.specs.inner.Layers.{Placed, PointsAt, root_point}

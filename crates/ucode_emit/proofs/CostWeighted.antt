@@ -4,8 +4,8 @@ use Rattle.std.specs.Prelude.{nat_lt, ⊤}
 use Rattle.std.proofs.lemmas.Bool.{le-leb, lt-ltb, false_from_ne_true, leb-true, ltb-true}
 use Rattle.std.proofs.lemmas.List.{map-append, length-map, length-append}
 use Rattle.uc_isa.specs.Moves.{label_weight, moves_from, moves}
-use Rattle.uc_isa_executions.specs.StraightCode.{weights}
-use Rattle.uc_isa_executions.proofs.Costs.{moves-append, moves-level}
+use Rattle.uc_isa.specs.StraightCode.{weights}
+use Rattle.uc_isa.proofs.Costs.{moves-append, moves-level}
 use Rattle.ssu_ir.specs.Tree.{Label}
 use Rattle.ssu_ir.specs.Points.{own, Entry, nodes, label_points}
 use Rattle.ssu_ir.proofs.PointLemmas.{length-tree_points}

@@ -16,7 +16,7 @@ use Rattle.place_plan.specs.Plan.{Plan, home, first, pass}
 use Rattle.place_plan.specs.Uses.{Access, place_accesses, accesses_from, accesses, Role, Operand, Address, Written, Argument, Ending, roles, place_roles, Use, uses, is_used}
 use Rattle.place_plan.specs.Fits.{write_place, IsGeneral, IsFirst, IsEighth, is_slot, is_write_register, role_register, word_register, is_early, has_place}
 use Rattle.place_plan.proofs.Places.{same_place-itself}
-use Rattle.par_move.specs.Moves.{Move}
+use Rattle.ucode_emit.specs.Moves.{Move}
 use Rattle.ucode_emit.specs.Pieces.{named, copied, all_copied, copies, all_copies}
 use Rattle.ucode_emit.specs.inner.Machine.{IsReadable, IsWritable, IsDirect, write_slot, copied as in_one, AreDirect}
 use Rattle.ucode_emit.specs.inner.Layers.{Placed}

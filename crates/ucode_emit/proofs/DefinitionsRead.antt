@@ -17,8 +17,8 @@ use Rattle.place_plan.specs.Plan.{Plan, home, first}
 use Rattle.place_plan.specs.Uses.{Fetched, numbered, place_values as values_at, is_used, Access}
 use Rattle.place_plan.specs.Fits.{read_place, is_read_register, word_register, IsHoused, KeepsRead, run_of, read_places, has_place, none_shared}
 use Rattle.place_plan.proofs.Places.{same_place-from, same_place-true}
-use Rattle.par_move.specs.Moves.{Words, put}
-use Rattle.par_move.proofs.Steps.{put-other}
+use Rattle.ucode_emit.specs.Moves.{Words, put}
+use Rattle.ucode_emit.proofs.MoveSteps.{put-other}
 use Rattle.ucode_emit.specs.Pieces.{all_copies}
 use Rattle.ucode_emit.specs.inner.Ready.{Ready}
 use Rattle.ucode_emit.specs.inner.Machine.{IsReadable, filled}

@@ -17,7 +17,7 @@ use Rattle.place_plan.specs.Uses.{Value, place_values as values_at, Use, uses, u
 use Rattle.place_plan.specs.Fits.{Waits, same_use, point_values, comes_to_slot, is_result, maybe, is_general, is_slot, is_write_register, is_read_register, word_register, is_early, IsPutEarly, general_places, has_place, none_shared}
 use Rattle.place_plan.proofs.Places.{same_place-from}
 use Rattle.place_plan.proofs.Fitting.{vars-of-place}
-use Rattle.par_move.specs.Moves.{Words, one_by_one}
+use Rattle.ucode_emit.specs.Moves.{Words, one_by_one}
 use Rattle.ucode_emit.specs.Pieces.{named, all_copies}
 use Rattle.ucode_emit.specs.inner.Ready.{Ready, WaitsAt, lasting}
 use Rattle.ucode_emit.specs.inner.Layers.{Placed}

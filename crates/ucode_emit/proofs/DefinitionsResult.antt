@@ -16,8 +16,8 @@ use Rattle.place_plan.specs.Plan.{Plan, home, pass}
 use Rattle.place_plan.specs.Uses.{result, place_values as values_at, Use, is_used}
 use Rattle.place_plan.specs.Fits.{IsGeneral, is_general, is_slot, is_write_register, is_read_register, word_register, AreCopies, IsPutEarly, IsHoused, general_places, has_place, comes_to_slot, Waits}
 use Rattle.ssu_liveness.proofs.Scoped.{in-either}
-use Rattle.par_move.specs.Moves.{Move, Words, put, one_by_one}
-use Rattle.par_move.proofs.Steps.{put-other}
+use Rattle.ucode_emit.specs.Moves.{Move, Words, put, one_by_one}
+use Rattle.ucode_emit.proofs.MoveSteps.{put-other}
 use Rattle.ucode_emit.specs.Pieces.{named, result_place, to_slot, copies}
 use Rattle.ucode_emit.specs.inner.Ready.{Ready, WaitsAt}
 use Rattle.ucode_emit.specs.inner.Machine.{IsWritable, AreDirect}

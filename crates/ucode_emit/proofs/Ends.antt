@@ -12,7 +12,7 @@ use Rattle.ssu_ir.proofs.Lists.{some-there}
 use Rattle.place_plan.specs.declared.place.Place.TheVariants.{A}
 use Rattle.place_plan.specs.Plan.{Plan, home, serve, pass}
 use Rattle.place_plan.specs.Uses.{Role, Argument, Ending, roles, place_roles, uses_at}
-use Rattle.par_move.specs.Moves.{Move, Words, one_by_one}
+use Rattle.ucode_emit.specs.Moves.{Move, Words, one_by_one}
 use Rattle.ucode_emit.specs.Pieces.{single_moves, served_moves}
 use Rattle.ucode_emit.specs.Emits.{IsSequence}
 use Rattle.ucode_emit.specs.inner.Ready.{Ready, Entered}

@@ -17,7 +17,7 @@ use Rattle.uc_isa.specs.declared.instruction.Instr.{Instr}
 use Rattle.uc_isa.specs.declared.instruction.Instr.TheVariants.{Alu, Un, Immed, Br, Read, Write, Halt}
 use Rattle.uc_isa.proofs.Leading.{covered-keeps}
 use Rattle.uc_isa.proofs.Steps.{run-grows}
-use Rattle.uc_isa_executions.specs.Entry.{AssumesNoMore, KeepsWithin}
+use Rattle.uc_isa.specs.Entry.{AssumesNoMore, KeepsWithin}
 use Rattle.ssu_ir.specs.Tree.{Label}
 use Rattle.ssu_ir.specs.Meaning.{ssu_meaning, ssu_params}
 use Rattle.place_plan.specs.Plan.{Plan}

@@ -16,8 +16,8 @@ use Rattle.place_plan.specs.Plan.{Plan, home}
 use Rattle.place_plan.specs.Uses.{Parameter, numbered, place_values as values_at}
 use Rattle.place_plan.specs.Fits.{IsGeneral, is_general, AreCopies, IsHoused, general_places, has_place}
 use Rattle.place_plan.proofs.Places.{same_place-from}
-use Rattle.par_move.specs.Moves.{Move, Words, put, one_by_one, all_at_once, temporary, StandFor, none, once, around, at_rest}
-use Rattle.par_move.proofs.Steps.{put-other}
+use Rattle.ucode_emit.specs.Moves.{Move, Words, put, one_by_one, all_at_once, temporary, StandFor, none, once, around, at_rest}
+use Rattle.ucode_emit.proofs.MoveSteps.{put-other}
 use Rattle.ucode_emit.specs.Pieces.{entry_point, all_copies, entry_moves, single_move, single_moves}
 use Rattle.ucode_emit.specs.Emits.{IsSequence}
 use Rattle.ucode_emit.specs.inner.Ready.{Ready, Entered, Begun}

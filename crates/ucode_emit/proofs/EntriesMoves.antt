@@ -18,7 +18,7 @@ use Rattle.place_plan.specs.Plan.{Plan, home, serve}
 use Rattle.place_plan.specs.Uses.{Role, Argument, Ending, roles, place_roles, Use, uses_at, uses_from, uses}
 use Rattle.place_plan.specs.Fits.{read_place, is_write_register, word_register, is_home, label_param, param_at, parameter, IsServed}
 use Rattle.place_plan.proofs.Places.{same_place-true, same_place-from}
-use Rattle.par_move.specs.Moves.{Move, temporary, HaveOwnTargets, SpareTemporary}
+use Rattle.ucode_emit.specs.Moves.{Move, temporary, HaveOwnTargets, SpareTemporary}
 use Rattle.ucode_emit.specs.Pieces.{served_moves, entry_moves, last_moves, tree_moves, moves_from, parallel_moves}
 use Rattle.ucode_emit.specs.inner.Layers.{Placed}
 use Rattle.ucode_emit.proofs.PointsEach.{EachFrom, each_here, each_left, each_right, all_left, all_right, all_both}

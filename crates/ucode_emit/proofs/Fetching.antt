@@ -2,7 +2,7 @@
 use Rattle.std.proofs.Common.{◌≡◌, ℕ, suc, ◌+◌, List, [], ◌∷◌, ◌++◌, length, Some, refl, ap, ◌∙◌, slice_get, arith}
 use Rattle.place_plan.specs.declared.place.Serve.{Serve}
 use Rattle.place_plan.specs.Plan.{Plan, serve, pass}
-use Rattle.par_move.specs.Moves.{Move}
+use Rattle.ucode_emit.specs.Moves.{Move}
 use Rattle.ucode_emit.specs.Pieces.{to_read_register, each_operand, operands, words}
 use Rattle.ucode_emit.specs.inner.DraftItems.{own_fetch, slot_fetch, word_fetch, each_fetch, fetches}
 

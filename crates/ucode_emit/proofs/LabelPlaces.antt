@@ -8,7 +8,7 @@ use Rattle.std.proofs.lemmas.Option.{none-some, same_Some, get_or_from_slice_get
 use Rattle.uc_isa.specs.declared.instruction.Instr.{Instr}
 use Rattle.uc_isa.specs.declared.instruction.Instr.TheVariants as instr
 use Rattle.uc_isa.specs.Lawful.{IsLast}
-use Rattle.uc_isa_executions.specs.Starts.{HasShape, AreInside, AreStarts}
+use Rattle.uc_isa.specs.Starts.{HasShape, AreInside, AreStarts}
 use Rattle.ssu_ir.specs.Tree.{Label}
 use Rattle.ssu_ir.specs.Points.{nodes}
 use Rattle.ssu_ir.proofs.Lists.{get-left, some-there}
@@ -21,7 +21,7 @@ use Rattle.ucode_emit.proofs.LawfulCode.{label_ends, ends_long, ends_there, code
 use Rattle.ucode_emit.proofs.MachineOperations.{got_some}
 use Rattle.ucode_emit.proofs.Placing.{Part, part_whole, part_head, part_left, part_right, starts_many, code_of}
 use Rattle.ucode_emit.proofs.PointsEach.{get_append}
-use Rattle.par_move.specs.Moves.{temporary}
+use Rattle.ucode_emit.specs.Moves.{temporary}
 
 -- ---- by how long the code of each label is
 

@@ -15,7 +15,7 @@ use Rattle.ssu_ir.specs.Tree.{Last, Jump, Halt, Tree, Do, If, End, Label, step_v
 use Rattle.ssu_ir.specs.Points.{Names, own, names_after, nodes}
 use Rattle.ssu_ir.specs.Single.{all_defined, is_entry, is_single}
 use Rattle.place_plan.specs.Plan.{Plan, pass}
-use Rattle.par_move.specs.Moves.{Move, temporary}
+use Rattle.ucode_emit.specs.Moves.{Move, temporary}
 use Rattle.ucode_emit.specs.Pieces.{Item, Moved, Plain, Branch, instr_of, single_moves, all_copies, moved, step_items, fork_items, last_items, last_moves, entry_point, Sequences, sequence_at, tree_items, label_items, items_from, items, tree_starts, starts_from, starts, parallel_moves}
 use Rattle.ucode_emit.specs.Emits.{AreSequences}
 use Rattle.ucode_emit.specs.inner.Layers.{Placed, ReadyLayer}

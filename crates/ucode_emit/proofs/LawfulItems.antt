@@ -23,7 +23,7 @@ use Rattle.uc_isa.specs.Lawful.{AreApart, Rule1, Rule2, Rule3, Rule4, Rule5, Rul
 use Rattle.place_plan.specs.declared.place.Place.{Place}
 use Rattle.place_plan.specs.declared.place.Place.TheVariants.{A, B, L, LD, S, SD, Slot}
 use Rattle.place_plan.specs.Fits.{IsFirst, different_groups}
-use Rattle.par_move.specs.Moves.{Move}
+use Rattle.ucode_emit.specs.Moves.{Move}
 use Rattle.ucode_emit.specs.SpillBase.{IsOtherSource, IsOtherTarget, KeepsToSlots, KeepsBase, SpillsByBase}
 use Rattle.ucode_emit.specs.Pieces.{Item, Moved, Plain, Branch, move_instr, instr_of, moved, source, target, address_of, un_op, shift_of}
 use Rattle.ucode_emit.specs.inner.Machine.{IsReadable, IsWritable, IsDirect, read_slot, write_slot, copied, AreDirect}

@@ -24,7 +24,7 @@ use Rattle.place_plan.specs.Places.{same_place}
 use Rattle.place_plan.specs.Plan.{Plan, home, first, serve, pass}
 use Rattle.place_plan.specs.Uses.{uses}
 use Rattle.place_plan.specs.Fits.{is_slot, is_read_register}
-use Rattle.par_move.specs.Moves.{Move, temporary, StandFor, none, once, around, at_rest}
+use Rattle.ucode_emit.specs.Moves.{Move, temporary, StandFor, none, once, around, at_rest}
 use Rattle.ucode_emit.specs.Pieces.{Item, Plain, Branch, instr_of, named, bring, brought, to_temporary, to_read_register, each_operand, operands, operand_at, words, to_slot, copied, all_copied, copies, all_copies, single_move, single_moves, un_op, source, address_of, shift_of, defines, moved, step_items, fork_items, last_items, entry_point, Sequences, sequence_at, tree_items, label_items, items_from, items, starts, served_moves, entry_moves, last_moves, tree_moves, label_moves, moves_from, parallel_moves}
 use Rattle.ucode_emit.specs.Emits.{AreSequences}
 use Rattle.ucode_emit.specs.inner.Layers.{Placed}

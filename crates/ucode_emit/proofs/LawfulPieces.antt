@@ -17,7 +17,7 @@ use Rattle.ssu_ir.specs.Points.{Names, own, Point}
 use Rattle.ssu_ir.specs.Single.{takes_as_many}
 use Rattle.place_plan.specs.declared.place.Place.TheVariants.{A}
 use Rattle.place_plan.specs.Plan.{Plan, first, pass}
-use Rattle.par_move.specs.Moves.{Move, Words, StandFor, none}
+use Rattle.ucode_emit.specs.Moves.{Move, Words, StandFor, none}
 use Rattle.ucode_emit.specs.Operations.{Reading, Writing}
 use Rattle.ucode_emit.specs.Pieces.{Plain, Branch, operands, operand_at, words, result_place, to_slot, copies, all_copies, single_moves, un_op, source, target, address_of, shift_of, defines, moved, step_items, fork_items, last_items, entry_point, Sequences, sequence_at, label_moves, tree_moves, parallel_moves, last_moves, entry_moves}
 use Rattle.ucode_emit.specs.Emits.{IsSequence, AreSequences}

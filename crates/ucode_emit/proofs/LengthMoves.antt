@@ -12,7 +12,7 @@ use Rattle.place_plan.specs.Places.{same_place}
 use Rattle.place_plan.specs.Plan.{Plan, home, serve, pass}
 use Rattle.place_plan.specs.Uses.{Use, uses, is_used}
 use Rattle.place_plan.specs.Fits.{is_slot, is_read_register, is_write_register, same_bank, maybe, IsGeneral, AreFills, AreCopies, IsPutEarly, word_register, is_early, early_uses}
-use Rattle.par_move.specs.Moves.{Move, temporary, StandFor, none, once, around, at_rest}
+use Rattle.ucode_emit.specs.Moves.{Move, temporary, StandFor, none, once, around, at_rest}
 use Rattle.ucode_emit.specs.Pieces.{named, bring, brought, to_temporary, to_read_register, each_operand, operands, words, to_slot, copied, copies, all_copied, single_move, single_moves, served_moves, entry_moves}
 use Rattle.ucode_emit.specs.inner.Layers.{Placed}
 use Rattle.ucode_emit.proofs.DefinitionsHomes.{ThereIn, early_register, early_each, unused_bare}

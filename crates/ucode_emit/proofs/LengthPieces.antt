@@ -16,7 +16,7 @@ use Rattle.ssu_ir.specs.Measures.{step_code, last_code}
 use Rattle.place_plan.specs.Plan.{Plan, home, first, pass}
 use Rattle.place_plan.specs.Uses.{Parameter, Fetched, Ending, numbered, place_values, uses_at, roles}
 use Rattle.place_plan.specs.Fits.{is_slot, IsHoused, IsGeneral, AreCopies, IsPutEarly}
-use Rattle.par_move.specs.Moves.{Move}
+use Rattle.ucode_emit.specs.Moves.{Move}
 use Rattle.ucode_emit.specs.Pieces.{Item, Plain, Branch, moved, operands, operand_at, words, to_slot, copies, all_copies, single_moves, un_op, source, address_of, shift_of, defines, step_items, entry_point, entry_moves, served_moves, last_moves}
 use Rattle.ucode_emit.specs.Emits.{IsSequence}
 use Rattle.ucode_emit.specs.inner.Layers.{Placed, PointsAt, root_point}

@@ -66,3 +66,10 @@ pub mod CostWeighted
 pub mod LengthMoves
 pub mod LengthPieces
 pub mod LengthWhole
+pub mod Numbers
+pub mod Counts
+pub mod MoveSteps
+pub mod Keeping
+pub mod Runs
+pub mod Starts
+pub mod Loops

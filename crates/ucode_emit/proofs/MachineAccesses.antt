@@ -28,7 +28,7 @@ use Rattle.uc_isa.proofs.States.{other-state, written-fits}
 use Rattle.place_plan.specs.declared.place.Place.{Place}
 use Rattle.place_plan.specs.declared.place.Place.TheVariants.{A, B, L, LD, S, SD, Slot}
 use Rattle.place_plan.specs.Fits.{write_place}
-use Rattle.par_move.specs.Moves.{Words}
+use Rattle.ucode_emit.specs.Moves.{Words}
 use Rattle.ucode_emit.specs.Pieces.{address_of}
 use Rattle.ucode_emit.specs.inner.Machine.{Stands, Led, Over, filled}
 use Rattle.ucode_emit.specs.inner.Layers.{IsAddress}

@@ -25,7 +25,7 @@ use Rattle.uc_isa.proofs.PieceSteps.{leads-un, leads-read, leads-write}
 use Rattle.uc_isa.proofs.States.{operand-fits, other-state}
 use Rattle.place_plan.specs.declared.place.Place.{Place}
 use Rattle.place_plan.specs.declared.place.Place.TheVariants.{A, B, L, LD, S, SD, Slot}
-use Rattle.par_move.specs.Moves.{Move, Words, put, one_by_one}
+use Rattle.ucode_emit.specs.Moves.{Move, Words, put, one_by_one}
 use Rattle.ucode_emit.specs.Pieces.{source, target, move_instr}
 use Rattle.ucode_emit.specs.inner.Machine.{IsReadable, IsWritable, IsDirect, read_slot, write_slot, copied, AreDirect, Stands, move_instrs, Led}
 use Rattle.ucode_emit.proofs.MachineResults.{HasWords, operand_word, resulted, put_stands}

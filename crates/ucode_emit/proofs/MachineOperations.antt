@@ -25,7 +25,7 @@ use Rattle.uc_isa.specs.Agrees.{IsStart}
 use Rattle.uc_isa.specs.Pieces.{Moment, Leads}
 use Rattle.uc_isa.specs.Step.{operand, un_word, bin_carry, with_result, with_flags, onward, holds}
 use Rattle.uc_isa.specs.Straight.{Stands as InCode}
-use Rattle.uc_isa_executions.specs.Entry.{IsEntry}
+use Rattle.uc_isa.specs.Entry.{IsEntry}
 use Rattle.uc_isa.proofs.Comparisons.{failing-holds}
 use Rattle.uc_isa.proofs.Leading.{leads-then}
 use Rattle.uc_isa.proofs.Listing.{stands-right, stands-fetched}
@@ -34,7 +34,7 @@ use Rattle.uc_isa.proofs.RegisterLemmas.{halted-run, started-args}
 use Rattle.uc_isa.proofs.States.{operand-fits, start-state}
 use Rattle.place_plan.specs.declared.place.Place.{Place}
 use Rattle.place_plan.specs.declared.place.Place.TheVariants.{A}
-use Rattle.par_move.specs.Moves.{Words, put}
+use Rattle.ucode_emit.specs.Moves.{Words, put}
 use Rattle.ucode_emit.specs.Pieces.{source, target, un_op}
 use Rattle.ucode_emit.specs.inner.Ready.{Begun}
 use Rattle.ucode_emit.specs.inner.Machine.{IsReadable, IsWritable, word_at, Stands, Led, Over}

@@ -19,7 +19,7 @@ use Rattle.place_plan.specs.declared.place.Place.{Place}
 use Rattle.place_plan.specs.declared.place.Place.TheVariants.{A, B, L, LD, S, SD, Slot}
 use Rattle.place_plan.specs.Places.{same_place}
 use Rattle.place_plan.specs.Fits.{read_place}
-use Rattle.par_move.specs.Moves.{Words}
+use Rattle.ucode_emit.specs.Moves.{Words}
 use Rattle.ucode_emit.specs.inner.Machine.{word_at, Stands, filled}
 use Rattle.ucode_emit.proofs.MachineResults.{HasWords}
 

@@ -12,7 +12,7 @@ use Rattle.uc_isa.proofs.Places.{place-with_result}
 use Rattle.uc_isa.proofs.States.{bank-set, other-state}
 use Rattle.place_plan.specs.declared.place.Place.{Place}
 use Rattle.place_plan.specs.declared.place.Place.TheVariants.{A, B, L, LD, S, SD, Slot}
-use Rattle.par_move.specs.Moves.{Words, put}
+use Rattle.ucode_emit.specs.Moves.{Words, put}
 use Rattle.ucode_emit.specs.Pieces.{source, target, address_of}
 use Rattle.ucode_emit.specs.inner.Machine.{word_at, IsPlace, IsReadable, IsWritable, Stands}
 use Rattle.ucode_emit.specs.inner.Layers.{IsAddress}

@@ -11,7 +11,7 @@ use Rattle.ssu_ir.specs.Tree.{Una, Bin, Read, Tree, Do, If, Label}
 use Rattle.ssu_ir.specs.Points.{Names}
 use Rattle.ssu_ir.proofs.Lists.{in-itself}
 use Rattle.place_plan.specs.Plan.{Plan, first}
-use Rattle.par_move.specs.Moves.{Words}
+use Rattle.ucode_emit.specs.Moves.{Words}
 use Rattle.ucode_emit.specs.Pieces.{operands, operand_at}
 use Rattle.ucode_emit.specs.inner.Ready.{Ready}
 use Rattle.ucode_emit.specs.inner.Machine.{IsReadable}

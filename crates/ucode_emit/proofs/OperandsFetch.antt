@@ -15,8 +15,8 @@ use Rattle.place_plan.specs.Plan.{Plan, home, serve, pass}
 use Rattle.place_plan.specs.Uses.{Operand, Address}
 use Rattle.place_plan.specs.Fits.{is_general, is_slot, is_write_register, is_read_register, word_register, is_home, IsOperandAt, IsAddressAt, read_places, has_place, maybe, different_groups}
 use Rattle.place_plan.proofs.Places.{same_place-from, same_place-false}
-use Rattle.par_move.specs.Moves.{Move, Words, put, one_by_one, temporary}
-use Rattle.par_move.proofs.Steps.{put-other}
+use Rattle.ucode_emit.specs.Moves.{Move, Words, put, one_by_one, temporary}
+use Rattle.ucode_emit.proofs.MoveSteps.{put-other}
 use Rattle.ucode_emit.specs.Pieces.{named, brought, operands, operand_at}
 use Rattle.ucode_emit.specs.inner.Ready.{Ready, lasting}
 use Rattle.ucode_emit.specs.inner.Machine.{IsReadable, IsDirect, copied as in_one}

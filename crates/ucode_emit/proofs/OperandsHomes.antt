@@ -21,7 +21,7 @@ use Rattle.place_plan.specs.Uses.{place_accesses, Value, ValueOrigin, Parameter,
 use Rattle.place_plan.specs.Fits.{read_place, IsGeneral, is_general, is_slot, is_write_register, is_read_register, served, AreCopies, IsPutEarly, IsHome, IsHoused, is_home, IsServed, stays, general_places, kept_register, read_places, has_place}
 use Rattle.place_plan.proofs.Places.{same_place-true, same_place-from}
 use Rattle.place_plan.proofs.Fitting.{vars-of-place}
-use Rattle.par_move.specs.Moves.{Words, temporary}
+use Rattle.ucode_emit.specs.Moves.{Words, temporary}
 use Rattle.ucode_emit.specs.inner.Ready.{Ready, lasting}
 use Rattle.ucode_emit.specs.inner.Layers.{Placed, PointsAt, root_point}
 use Rattle.ucode_emit.proofs.PointsEach.{EachFrom, each_map, each_both, each_here, all_of}

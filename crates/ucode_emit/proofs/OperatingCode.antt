@@ -9,7 +9,7 @@ use Rattle.ssu_ir.specs.Points.{nodes}
 use Rattle.place_plan.specs.declared.place.Place.{Place}
 use Rattle.place_plan.specs.declared.place.Place.TheVariants.{A, B, L, LD, S, SD, Slot}
 use Rattle.place_plan.specs.Plan.{Plan, pass}
-use Rattle.par_move.specs.Moves.{Move}
+use Rattle.ucode_emit.specs.Moves.{Move}
 use Rattle.ucode_emit.specs.Operations.{Operation, Immediate, Unary, Binary, Reading, Branching, instr_operation, code_operations, step_operations, last_operations, tree_operations, form_operations}
 use Rattle.ucode_emit.specs.inner.Machine.{IsReadable, IsDirect, read_slot, write_slot, copied}
 use Rattle.ucode_emit.specs.Pieces.{Item, Moved, Plain, Branch, move_instr, instr_of, moved, operands, words, to_slot, copies, all_copies, single_moves, step_items, fork_items, last_items, Sequences, sequence_at, tree_items, label_items, items_from, items}

@@ -16,7 +16,7 @@ use Rattle.ssu_ir.specs.Points.{Names, own, names_after, points, points_from, tr
 use Rattle.ssu_ir.proofs.PointLemmas.{length-tree_points}
 use Rattle.ssu_ir.proofs.Lists.{get-left}
 use Rattle.place_plan.specs.Plan.{Plan}
-use Rattle.par_move.specs.Moves.{Move}
+use Rattle.ucode_emit.specs.Moves.{Move}
 use Rattle.ucode_emit.specs.Pieces.{Item, Plain, Branch, operands, operand_at, source, moved, move_instr, instr_of, Sequences, sequence_at, step_items, fork_items, single_moves, all_copies, entry_point, tree_items, label_items, items_from, items, tree_starts, starts_from, starts, tree_moves, label_moves, moves_from, parallel_moves}
 use Rattle.ucode_emit.specs.inner.Machine.{move_instrs}
 use Rattle.ucode_emit.specs.inner.Layers.{PointsAt}

@@ -19,7 +19,7 @@ use Rattle.ssu_ir.specs.Points.{Names}
 use Rattle.ssu_ir.specs.Meaning.{blank}
 use Rattle.ssu_ir.specs.Entered.{Exit, JumpsTo, EndsWith}
 use Rattle.place_plan.specs.Plan.{Plan}
-use Rattle.par_move.specs.Moves.{Move, Words, one_by_one}
+use Rattle.ucode_emit.specs.Moves.{Move, Words, one_by_one}
 use Rattle.ucode_emit.specs.Pieces.{Item, moved, move_instr, instr_of, tree_items, entry_point, Sequences, starts, parallel_moves}
 use Rattle.ucode_emit.specs.Emits.{label_starts, AreSequences}
 use Rattle.ucode_emit.specs.inner.Ready.{Entered}

@@ -28,7 +28,7 @@ use Rattle.ssu_ir.proofs.Lists.{in-itself}
 use Rattle.place_plan.specs.Plan.{Plan, first}
 use Rattle.place_plan.specs.Fits.{write_place}
 use Rattle.ssu_liveness.proofs.Scoped.{all-in, in-either}
-use Rattle.par_move.specs.Moves.{Move, Words, put, one_by_one}
+use Rattle.ucode_emit.specs.Moves.{Move, Words, put, one_by_one}
 use Rattle.ucode_emit.specs.Pieces.{Plain, moved, operands, operand_at, words, result_place, to_slot, copies, all_copies, un_op, source, target, address_of, shift_of, step_items, tree_items}
 use Rattle.ucode_emit.specs.inner.Ready.{Ready}
 use Rattle.ucode_emit.specs.inner.Machine.{IsDirect, AreDirect, Stands, Led, Over, filled}

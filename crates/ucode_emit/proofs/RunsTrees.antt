@@ -28,7 +28,7 @@ use Rattle.place_plan.specs.declared.place.Place.{Place}
 use Rattle.place_plan.specs.declared.place.Place.TheVariants.{A}
 use Rattle.place_plan.specs.Plan.{Plan, pass}
 use Rattle.ssu_liveness.proofs.Scoped.{all-in}
-use Rattle.par_move.specs.Moves.{Words, one_by_one}
+use Rattle.ucode_emit.specs.Moves.{Words, one_by_one}
 use Rattle.ucode_emit.specs.Pieces.{Plain, Branch, moved, operands, operand_at, source, single_moves, last_moves, step_items, fork_items, tree_items, entry_point, sequence_at, parallel_moves}
 use Rattle.ucode_emit.specs.Emits.{IsSequence}
 use Rattle.ucode_emit.specs.inner.Ready.{Ready}

@@ -8,9 +8,9 @@ use Rattle.nv_base.specs.World.{World, begun}
 use Rattle.uc_isa.specs.Agrees.{IsStart}
 use Rattle.uc_isa.specs.Engine.{start}
 use Rattle.uc_isa.specs.Pieces.{Moment}
-use Rattle.uc_isa_executions.specs.Entries.{VisitedAsEntered, IsVisited}
-use Rattle.uc_isa_executions.specs.Visits.{here, stood}
-use Rattle.uc_isa_executions.proofs.Counting.{here-at, here-not}
+use Rattle.uc_isa.specs.Entries.{VisitedAsEntered, IsVisited}
+use Rattle.uc_isa.specs.Visits.{here, stood}
+use Rattle.uc_isa.proofs.Counting.{here-at, here-not}
 use Rattle.ssu_ir.specs.Tree.{Label}
 use Rattle.ssu_ir.specs.Meaning.{ssu_params}
 use Rattle.ssu_ir.specs.Entered.{Exit, JumpsTo, EndsWith, label_exit, is_entered, entered_behind, entered}

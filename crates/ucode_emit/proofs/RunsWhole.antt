@@ -26,7 +26,7 @@ use Rattle.uc_isa.specs.Straight.{going}
 use Rattle.uc_isa.proofs.Agreement.{agrees-where_same}
 use Rattle.uc_isa.proofs.Leading.{leads-then, leads-end, leads-reached, covered-keeps}
 use Rattle.uc_isa.proofs.Steps.{engine-grows}
-use Rattle.uc_isa_executions.specs.Entry.{IsEntry}
+use Rattle.uc_isa.specs.Entry.{IsEntry}
 use Rattle.ssu_ir.specs.Tree.{Label}
 use Rattle.ssu_ir.specs.Points.{own}
 use Rattle.ssu_ir.specs.Meaning.{run, blank, ssu_meaning, params_of, ssu_params}
@@ -36,7 +36,7 @@ use Rattle.ssu_ir.proofs.Exits.{enter_by_exit, meaning_by_exit}
 use Rattle.ssu_ir.proofs.Growth.{meaning-follows}
 use Rattle.ssu_ir.proofs.Rules.{single_label_parts}
 use Rattle.place_plan.specs.Plan.{Plan}
-use Rattle.par_move.specs.Moves.{Move, Words, one_by_one, StandFor, none, once, around, at_rest}
+use Rattle.ucode_emit.specs.Moves.{Move, Words, one_by_one, StandFor, none, once, around, at_rest}
 use Rattle.ucode_emit.specs.Pieces.{Sequences, moved, instr_of, items, starts, starts_from, single_moves, all_copies, entry_point, entry_moves, sequence_at, tree_items, label_items, tree_moves, label_moves, moves_from, parallel_moves}
 use Rattle.ucode_emit.specs.Emits.{IsSequence, AreSequences}
 use Rattle.ucode_emit.specs.inner.Ready.{Ready, Entered}

@@ -10,7 +10,7 @@ use Rattle.ssu_ir.specs.Points.{PointKind, Entry, At}
 use Rattle.ssu_ir.specs.View.{labels_view}
 use Rattle.place_plan.specs.declared.place.Serve.{Serve}
 use Rattle.place_plan.specs.Plan.{Plan, serve}
-use Rattle.par_move.specs.Moves.{Move, HaveOwnTargets, SpareTemporary, none}
+use Rattle.ucode_emit.specs.Moves.{Move, HaveOwnTargets, SpareTemporary, none}
 use Rattle.ucode_emit.specs.declared.point_ids.EmittedPoint.{EmittedPoint}
 use Rattle.ucode_emit.specs.declared.point_ids.EmittedPoint.TheVariants.{Entry as EntrySpot}
 use Rattle.ucode_emit.specs.Pieces.{Sequences, parallel_moves, last_moves}

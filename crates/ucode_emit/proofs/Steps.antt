@@ -10,7 +10,7 @@ use Rattle.ssu_ir.specs.Tree.{Clone, Write, Tree, Do, If, Label}
 use Rattle.ssu_ir.specs.Points.{Names, names_after, used, Point, nodes}
 use Rattle.ssu_ir.proofs.Liveness.{filter_from, filter_in}
 use Rattle.place_plan.specs.Plan.{Plan}
-use Rattle.par_move.specs.Moves.{Words}
+use Rattle.ucode_emit.specs.Moves.{Words}
 use Rattle.ucode_emit.specs.inner.Ready.{Ready}
 use Rattle.ucode_emit.specs.inner.Layers.{Placed, PointsAt, root_point}
 use Rattle.ucode_emit.proofs.PointsUsed.{EmittedPoint, spot_step, root_above, root_before, root_below}

@@ -15,8 +15,8 @@ use Rattle.uc_isa.specs.Step.{Next, EndsRun, step}
 use Rattle.uc_isa.specs.Engine.{run, continue_run, halted, after}
 use Rattle.uc_isa.specs.Pieces.{Moment, Leads}
 use Rattle.uc_isa.proofs.Leading.{leads-reached}
-use Rattle.uc_isa_executions.specs.Visits.{here, continue_count, stood}
-use Rattle.uc_isa_executions.proofs.Counting.{here-not}
+use Rattle.uc_isa.specs.Visits.{here, continue_count, stood}
+use Rattle.uc_isa.proofs.Counting.{here-not}
 use Rattle.ucode_emit.specs.inner.Machine.{Over}
 
 -- ---- one run of steps after another

@@ -16,7 +16,7 @@ use Rattle.place_plan.specs.declared.place.First.{First}
 use Rattle.place_plan.specs.declared.place.Serve.{Serve}
 use Rattle.place_plan.specs.declared.place.Pass.{Pass}
 use Rattle.place_plan.specs.Plan.{Plan, serve, first_in, pass_in}
-use Rattle.par_move.specs.Moves.{Move}
+use Rattle.ucode_emit.specs.Moves.{Move}
 use Rattle.ucode_emit.specs.declared.point_ids.EmittedPoint.{EmittedPoint}
 use Rattle.ucode_emit.specs.declared.point_ids.EmittedPoint.TheVariants.{Entry as EntrySpot, Node as NodeSpot}
 use Rattle.ucode_emit.specs.Pieces.{single_moves, all_copies, entry_point, Sequences, sequence_at, parallel_moves}

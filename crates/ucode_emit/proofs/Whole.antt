@@ -5,9 +5,9 @@ use Rattle.uc_isa.specs.Agrees.{Agrees}
 use Rattle.uc_isa.specs.Code.{CodeView}
 use Rattle.uc_isa.specs.Lawful.{IsLawful}
 use Rattle.uc_isa.specs.Moves.{moves}
-use Rattle.uc_isa_executions.specs.Entries.{IsVisited}
-use Rattle.uc_isa_executions.specs.Entry.{AssumesNoMore}
-use Rattle.uc_isa_executions.specs.Starts.{AreStarts}
+use Rattle.uc_isa.specs.Entries.{IsVisited}
+use Rattle.uc_isa.specs.Entry.{AssumesNoMore}
+use Rattle.uc_isa.specs.Starts.{AreStarts}
 use Rattle.ssu_ir.specs.Tree.{Label}
 use Rattle.ssu_ir.specs.Entered.{entered}
 use Rattle.ssu_ir.specs.Measures.{size, code_bound}

@@ -20,7 +20,7 @@ use Rattle.place_plan.specs.Plan.{Plan, first, serve, pass}
 use Rattle.place_plan.specs.Uses.{Access, Role, Address, Written, roles, place_roles, Use, uses_at}
 use Rattle.place_plan.specs.Fits.{write_place, is_slot, is_write_register, role_register, word_register, run_of, has_place, is_home, point_values}
 use Rattle.place_plan.proofs.Places.{same_place-true, same_place-from}
-use Rattle.par_move.specs.Moves.{Move, Words, one_by_one}
+use Rattle.ucode_emit.specs.Moves.{Move, Words, one_by_one}
 use Rattle.ucode_emit.specs.Pieces.{named, bring, brought, operands, operand_at, words}
 use Rattle.ucode_emit.specs.inner.Ready.{Ready, WaitsAt, lasting}
 use Rattle.ucode_emit.specs.inner.Machine.{IsWritable}

@@ -5,7 +5,7 @@ use Rattle.ssu_ir.specs.Tree.{Label}
 use Rattle.ssu_ir.specs.Points.{nodes}
 use Rattle.place_plan.specs.declared.place.Place.{Place}
 use Rattle.place_plan.specs.Plan.{Plan}
-use Rattle.par_move.specs.Moves.{Move, Words, all_at_once, one_by_one, temporary, StandFor}
+use Rattle.ucode_emit.specs.Moves.{Move, Words, all_at_once, one_by_one, temporary, StandFor}
 use Rattle.ucode_emit.specs.Pieces.{Sequences, instr_of, items, starts, parallel_moves}
 
 -- single moves that do what a parallel move does: each of its moves whose ends are two places, some by way of the compiler's own

@@ -3,3 +3,4 @@ pub mod Operations
 pub mod Pieces
 pub mod Emits
 pub mod inner
+pub mod Moves

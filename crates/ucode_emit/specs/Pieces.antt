@@ -25,7 +25,7 @@ use Rattle.place_plan.specs.declared.place.Place.TheVariants.{A, B, L, LD, S, SD
 use Rattle.place_plan.specs.Places.{same_place}
 use Rattle.place_plan.specs.Plan.{Plan, home, first, serve, pass}
 use Rattle.place_plan.specs.Fits.{is_slot, is_read_register}
-use Rattle.par_move.specs.Moves.{Move, temporary}
+use Rattle.ucode_emit.specs.Moves.{Move, temporary}
 
 -- ---- instructions of places
 

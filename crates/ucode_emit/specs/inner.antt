@@ -9,3 +9,4 @@ pub mod Cursors
 pub mod Given
 pub mod Drafted
 pub mod Walk
+pub mod Pending

@@ -3,9 +3,9 @@ ghost use Rattle.std.specs.Prelude.{◌≡◌, ◌≤◌, ◌^◌, ℕ, List, []
 ghost use Rattle.uc_isa.specs.Agrees.{Agrees};
 ghost use Rattle.uc_isa.specs.Lawful.{IsLawful};
 ghost use Rattle.uc_isa.specs.Moves.{moves};
-ghost use Rattle.uc_isa_executions.specs.Entries.{IsVisited};
-ghost use Rattle.uc_isa_executions.specs.Entry.{AssumesNoMore};
-ghost use Rattle.uc_isa_executions.specs.Starts.{AreStarts};
+ghost use Rattle.uc_isa.specs.Entries.{IsVisited};
+ghost use Rattle.uc_isa.specs.Entry.{AssumesNoMore};
+ghost use Rattle.uc_isa.specs.Starts.{AreStarts};
 ghost use Rattle.ssu_ir.specs.Entered.{entered};
 ghost use Rattle.ssu_ir.specs.Measures as measures;
 ghost use Rattle.ssu_ir.specs.Meaning.{ssu_meaning, ssu_params};

@@ -8,7 +8,7 @@ ghost use Rattle.ssu_ir.specs.View.{labels_view};
 ghost use Rattle.place_plan.specs.Fits.{Rises};
 ghost use Rattle.place_plan.specs.Plan.{plan_view};
 ghost use Rattle.ssu_liveness.specs.inner.PointIds.{params_of};
-ghost use Rattle.par_move.specs.Moves.{HaveOwnTargets, SpareTemporary};
+ghost use Rattle.ucode_emit.specs.Moves.{HaveOwnTargets, SpareTemporary};
 ghost use Rattle.ucode_emit.specs.inner.Cursors.{place_operands};
 ghost use Rattle.ucode_emit.specs.inner.Layers.{Placed};
 ghost use Rattle.ucode_emit.specs.inner.Marks.{marks};

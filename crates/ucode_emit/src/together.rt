@@ -3,14 +3,14 @@
 ghost use Rattle.std.specs.Prelude.{◌≡◌, ◌≤◌, map, length, IfOk};
 ghost use Rattle.place_plan.specs.Fits.{Rises};
 ghost use Rattle.place_plan.specs.Plan.{plan_view};
-ghost use Rattle.par_move.specs.Moves.{HaveOwnTargets, SpareTemporary};
+ghost use Rattle.ucode_emit.specs.Moves.{HaveOwnTargets, SpareTemporary};
 ghost use Rattle.ucode_emit.specs.inner.EmitContext.{ends};
 ghost use Rattle.ucode_emit.specs.Pieces as pieces;
 ghost use Rattle.ucode_emit.specs.Emits.{IsSequence};
 
 use crate::moves::Move;
+use crate::sequence;
 use nv_base::NoMemory;
-use par_move::sequence;
 use place_plan::{Place, Placement, Serve};
 use std::alloc::{AllocError, Global};
 

@@ -14,12 +14,12 @@ use Rattle.zo_cert_tree.specs.declared.cert.Claim.{Claim}
 use Rattle.zo_cert_tree.specs.declared.cert.Claim.TheVariants as claims
 use Rattle.zo_cert_tree.proofs.Walk.{each_weaker}
 use Rattle.zo_solve_branch.specs.Nodes.{IsBelow, IsPicked}
-use Rattle.zo_solve_state.specs.inner.Better.{IsAtMostStart, IsClaimOf}
+use Rattle.zo_solve_dive.specs.inner.Better.{IsAtMostStart, IsClaimOf}
 use Rattle.zo_solve_branch.specs.inner.Node.{IsGood}
 use Rattle.zo_solve.specs.inner.Search.{IsAnswerOf, IsFound, LeftsLast}
 use Rattle.zo_solve.specs.Solved.{CostsAtMost, EachIn, HadNoStart, IsCutOff, IsDecided, IsProved, OfVector, claim_of, tree_of}
-use Rattle.zo_solve_state.specs.Vector.{IsVector, cost_at, start_cost}
-use Rattle.zo_solve_state.specs.declared.best.Best.{Best}
+use Rattle.zo_solve_dive.specs.Vector.{IsVector, cost_at, start_cost}
+use Rattle.zo_solve_dive.specs.declared.best.Best.{Best}
 use Rattle.zo_solve.specs.declared.search.Solved.{Solved}
 use Rattle.zo_solve.specs.declared.search.Solved.TheVariants as answers
 use Rattle.zo_solve.proofs.FewBranches.{below_budget}

@@ -15,7 +15,7 @@ use Rattle.zo_cert.specs.declared.report.Verdict.{Verdict}
 use Rattle.zo_cert.specs.declared.report.Verdict.TheVariants as verdicts
 use Rattle.zo_solve.specs.Reported.{IsReportOf}
 use Rattle.zo_solve.specs.Solved.{IsCutOff, IsProved, OfVector, tree_of}
-use Rattle.zo_solve_state.specs.Vector.{IsVector}
+use Rattle.zo_solve_dive.specs.Vector.{IsVector}
 use Rattle.zo_solve.specs.declared.search.Solved.{Solved}
 use Rattle.zo_solve.specs.declared.search.Solved.TheVariants as answers
 

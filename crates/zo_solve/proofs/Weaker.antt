@@ -10,8 +10,8 @@ use Rattle.zo_cert_tree.specs.declared.cert.CertNode.{CertNode}
 use Rattle.zo_cert_tree.specs.declared.cert.CertNode.TheVariants.{Branch, Bound, Clash, Left}
 use Rattle.zo_cert_tree.specs.declared.cert.Claim.{Claim}
 use Rattle.zo_cert_tree.specs.declared.cert.Claim.TheVariants.{Least, Nothing}
-use Rattle.zo_solve_state.specs.declared.best.Best.{Best}
-use Rattle.zo_solve_state.specs.inner.Better.{IsBest, IsWeaker}
+use Rattle.zo_solve_dive.specs.declared.best.Best.{Best}
+use Rattle.zo_solve_dive.specs.inner.Better.{IsBest, IsWeaker}
 use Rattle.zo_solve_branch.specs.inner.Node.{IsGood, Steps}
 use Rattle.zo_solve.specs.inner.Search.{IsFound, LeftsLast}
 use Rattle.zo_solve.proofs.Grow.{Begun, begun_done, begun_more, may_weaker}

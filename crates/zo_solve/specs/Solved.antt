@@ -7,7 +7,7 @@ use Rattle.zo_cert_tree.specs.Spent.{IsSpent}
 use Rattle.zo_cert_tree.specs.declared.cert.Cert.{Cert}
 use Rattle.zo_cert_tree.specs.declared.cert.Claim.{Claim}
 use Rattle.zo_cert_tree.specs.declared.cert.Claim.TheVariants as claims
-use Rattle.zo_solve_state.specs.Vector.{cost_at}
+use Rattle.zo_solve_dive.specs.Vector.{cost_at}
 use Rattle.zo_solve.specs.declared.search.Solved.{Solved}
 use Rattle.zo_solve.specs.declared.search.Solved.TheVariants as answers
 

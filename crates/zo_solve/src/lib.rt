@@ -10,4 +10,4 @@ pub use reported::report_of;
 pub use search::{Solved, solve, solve_by};
 pub use zo_cert_tree::Fixed;
 pub use zo_solve_branch::Order;
-pub use zo_solve_state::{Pick, Sums, first_choice};
+pub use zo_solve_dive::{Pick, Sums, first_choice};

@@ -7,7 +7,7 @@ ghost use Rattle.zo_cert_tree.specs.Node.{IsNode};
 ghost use Rattle.zo_cert.specs.Report.{IsTrueReport, IsValidReport};
 ghost use Rattle.zo_solve.specs.Reported.{IsReportOf};
 ghost use Rattle.zo_solve.specs.Solved.{IsCutOff, IsProved, OfVector, tree_of};
-ghost use Rattle.zo_solve_state.specs.Vector.{IsVector};
+ghost use Rattle.zo_solve_dive.specs.Vector.{IsVector};
 
 use crate::search::Solved;
 use std::alloc::{AllocError, Global};

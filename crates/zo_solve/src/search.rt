@@ -7,12 +7,12 @@ ghost use Rattle.zo_cert_tree.specs.Node.{IsNode};
 ghost use Rattle.zo_cert_tree.specs.inner.Leaf.{IsClear};
 ghost use Rattle.zo_cert_tree.specs.inner.Path.{begun};
 ghost use Rattle.zo_cert_tree.specs.Searched.{IsSearched};
-ghost use Rattle.zo_solve_state.specs.Pick.{Answers, CanPick};
+ghost use Rattle.zo_solve_dive.specs.Pick.{Answers, CanPick};
 ghost use Rattle.zo_solve_branch.specs.Nodes.{IsBelow, IsPicked};
-ghost use Rattle.zo_solve_state.specs.inner.Better.{IsBest};
+ghost use Rattle.zo_solve_dive.specs.inner.Better.{IsBest};
 ghost use Rattle.zo_solve.specs.inner.Search.{IsAnswerOf, IsFound};
 ghost use Rattle.zo_solve.specs.Solved.{CostsAtMost, EachIn, HadNoStart, IsCutOff, IsDecided, IsProved, OfVector, claim_of, tree_of};
-ghost use Rattle.zo_solve_state.specs.Vector.{IsVector, cost_at, start_cost};
+ghost use Rattle.zo_solve_dive.specs.Vector.{IsVector, cost_at, start_cost};
 
 use std::alloc::{AllocError, Global};
 use zo_cert_tree::path::Path;
@@ -20,7 +20,7 @@ use zo_cert_tree::{Cert, CertNode, Fixed, has_left};
 use zo_model::{Assignment, NoMemory, ZeroOne};
 use zo_solve_branch::Order;
 use zo_solve_branch::node::step;
-use zo_solve_state::{Best, Pick, Sums};
+use zo_solve_dive::{Best, Pick, Sums};
 
 /// What a search found, with its tree.
 #[derive(Drop)]

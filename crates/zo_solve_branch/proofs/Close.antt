@@ -23,8 +23,8 @@ use Rattle.zo_cert_tree.proofs.Duality.{sum_zero}
 use Rattle.std.proofs.lemmas.Option.{get_or_from_slice_get}
 use Rattle.std.proofs.lemmas.Bool.{eq-eqb, ne_eqb}
 use Rattle.zo_cert_tree.proofs.Leaves.{weight-none, least_sum-none}
-use Rattle.zo_solve_state.specs.Pick.{HasFree}
-use Rattle.zo_solve_state.specs.inner.Better.{CostsAsMuch}
+use Rattle.zo_solve_dive.specs.Pick.{HasFree}
+use Rattle.zo_solve_dive.specs.inner.Better.{CostsAsMuch}
 use Rattle.zo_solve_branch.specs.inner.Node.{IsPlainBound, IsClashOf}
 
 -- ---- a bound of no row is the cost of the columns fixed at 1

@@ -14,8 +14,8 @@ use Rattle.zo_cert_tree.specs.declared.cert.CertNode.TheVariants.{Branch, Bound,
 use Rattle.zo_cert_tree.specs.declared.cert.Claim.{Claim}
 use Rattle.zo_cert_tree.specs.declared.cert.Claim.TheVariants.{Least, Nothing}
 use Rattle.zo_cert_tree.specs.declared.path.Fixed.{Fixed}
-use Rattle.zo_solve_state.specs.Pick.{Answers}
-use Rattle.zo_solve_state.specs.inner.Better.{CostsAsMuch, IsAtMostStart}
+use Rattle.zo_solve_dive.specs.Pick.{Answers}
+use Rattle.zo_solve_dive.specs.inner.Better.{CostsAsMuch, IsAtMostStart}
 use Rattle.zo_solve_branch.specs.Nodes.{CostsLess}
 use Rattle.zo_solve_branch.specs.inner.Node.{IsGood, Leaves, Puts, Steps}
 

@@ -7,8 +7,8 @@ ghost use Rattle.zo_cert_tree.specs.inner.Leaf.{IsClear};
 ghost use Rattle.zo_cert_tree.specs.inner.Path.{current};
 ghost use Rattle.zo_cert_tree.specs.Searched.{IsOpen};
 ghost use Rattle.zo_cert_tree.specs.declared.cert.CertNode.TheVariants as certs;
-ghost use Rattle.zo_solve_state.specs.Pick.{Answers, CanPick};
-ghost use Rattle.zo_solve_state.specs.inner.Better.{IsBest, IsWeaker};
+ghost use Rattle.zo_solve_dive.specs.Pick.{Answers, CanPick};
+ghost use Rattle.zo_solve_dive.specs.inner.Better.{IsBest, IsWeaker};
 ghost use Rattle.zo_solve_branch.specs.inner.Node.{IsClashOf, IsGood, IsPlainBound, Puts, Steps};
 
 use crate::leaf::leaf_of;
@@ -17,7 +17,7 @@ use std::alloc::{AllocError, Global};
 use zo_cert_tree::path::Path;
 use zo_cert_tree::{CertNode, Fixed};
 use zo_model::ZeroOne;
-use zo_solve_state::{Best, Pick, Sums, costs_as_much};
+use zo_solve_dive::{Best, Pick, Sums, costs_as_much};
 
 /// Puts a leaf after the other nodes, and leaves its place.
 fn put(node: CertNode, path: &mut Path, nodes: &mut Vec<CertNode>) -> Result<(), AllocError>

@@ -2,18 +2,17 @@
 
 ghost use Rattle.std.specs.Prelude.{◌≡◌, ◌≤◌, ◌^◌, IfOk, IfSome, length, slice_get, Some, None};
 ghost use Rattle.zo_model.specs.Program.{IsValid, columns};
-ghost use Rattle.zo_solve_state.specs.inner.Better.{IsBest, IsWeaker};
-ghost use Rattle.zo_solve_state.specs.Pick.{HasFree};
-ghost use Rattle.zo_solve_state.specs.Vector.{IsVector, start_cost};
+ghost use Rattle.zo_solve_dive.specs.inner.Better.{IsBest, IsWeaker};
+ghost use Rattle.zo_solve_dive.specs.Pick.{HasFree};
+ghost use Rattle.zo_solve_dive.specs.Vector.{IsVector, start_cost};
 
 use crate::tree::Tree;
 use std::alloc::{AllocError, Global};
 use std::cell::RefCell;
 use zo_cert_tree::{CertNode, Claim, Fixed};
 use zo_model::{Assignment, NoMemory, ZeroOne};
-use zo_solve_dive::begin;
-use zo_solve_state::Best;
-use zo_solve_state::pick::least_free;
+use zo_solve_dive::pick::least_free;
+use zo_solve_dive::{Best, begin};
 
 /// The rounds of a search, in a cell, so that the closure that names the columns to branch on may share them with the search.
 #[derive(Drop)]

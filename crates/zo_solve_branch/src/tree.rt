@@ -2,15 +2,14 @@
 
 ghost use Rattle.std.specs.Prelude.{◌≡◌, IfOk};
 ghost use Rattle.zo_model.specs.Program.{IsValid};
-ghost use Rattle.zo_solve_state.specs.inner.Better.{IsBest, IsWeaker};
+ghost use Rattle.zo_solve_dive.specs.inner.Better.{IsBest, IsWeaker};
 
 use std::alloc::{AllocError, Global};
 use zo_cert_tree::{CertNode, Claim};
 use zo_model::ZeroOne;
-use zo_solve_dive::{dive_below, improve_again, needed};
+use zo_solve_dive::{Best, dive_below, improve_again, needed};
 use zo_solve_relaxation::long::Length;
 use zo_solve_relaxation::{ONE, Rounds, put};
-use zo_solve_state::Best;
 
 /// The rounds of the tree visit N columns, rows and terms; after that nodes are closed without multipliers.
 const WORK: u64 = 1_000_000_000;

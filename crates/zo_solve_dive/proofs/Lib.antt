@@ -1,0 +1,5 @@
+pub mod Along
+pub mod Placed
+pub mod Rows
+pub mod Spread
+pub mod Choice

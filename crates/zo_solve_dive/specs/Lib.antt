@@ -1,0 +1,5 @@
+pub mod Vector
+pub mod Choice
+pub mod Pick
+pub mod Sums
+pub mod inner

@@ -2,9 +2,10 @@
 
 ghost use Rattle.std.specs.Prelude.{◌≡◌, ◌↔◌, IfOk, IfSome, IsTrue, Some, false};
 ghost use Rattle.zo_model.specs.Program.{IsValid};
-ghost use Rattle.zo_solve_state.specs.inner.Better.{IsBest, IsCheaper, IsWeaker};
-ghost use Rattle.zo_solve_state.specs.Vector.{IsVector, cost_at, start_cost};
+ghost use Rattle.zo_solve_dive.specs.inner.Better.{IsBest, IsCheaper, IsWeaker};
+ghost use Rattle.zo_solve_dive.specs.Vector.{IsVector, cost_at, start_cost};
 
+use crate::Best;
 use crate::dive::{Way, run_dive, vector};
 use crate::exchange::Exchange;
 use crate::fixing::fix_decided;
@@ -14,7 +15,6 @@ use zo_cert_tree::Claim;
 use zo_model::{Assignment, ZeroOne, feasible};
 use zo_solve_relaxation::long::Length;
 use zo_solve_relaxation::{Log, ONE, Rounds, quotient};
-use zo_solve_state::Best;
 
 /// A bound that no multipliers reach.
 const FAR: i128 = 1 << 100;

@@ -13,7 +13,7 @@ use Rattle.zo_cert.specs.declared.report.Report.{Report}
 use Rattle.zo_cert.specs.declared.report.Verdict.{Verdict}
 use Rattle.zo_cert.specs.declared.report.Verdict.TheVariants.{Optimal, Feasible, Infeasible, Spent}
 use Rattle.zo_solve.specs.Solved.{CostsAtMost}
-use Rattle.zo_solve_state.specs.Vector.{IsVector, cost_at, start_cost}
+use Rattle.zo_solve_dive.specs.Vector.{IsVector, cost_at, start_cost}
 use Rattle.bank_prog_form.specs.Columns.{columns}
 use Rattle.bank_prog.specs.Weighted.{weighted_costs}
 use Rattle.bank_prog.specs.Meaning.{IsFeasible}

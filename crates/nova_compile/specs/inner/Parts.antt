@@ -9,7 +9,7 @@ use Rattle.zo_cert.specs.declared.report.Verdict.{Verdict}
 use Rattle.zo_model.specs.Program.{vector}
 use Rattle.nova_back.specs.Causes.{IsCodeOf, AreStartsOf, IsReportOn}
 use Rattle.nova_back.specs.Placed.{IsPlacedBy}
-use Rattle.nova_front.specs.Sources.{IsTypedSource}
+use Rattle.nova_compile.specs.Sources.{IsTypedSource}
 use Rattle.nova_compile.specs.Forms.{form_bound, IsCodeFor, IsBoundedFormOf, HasBanks, HasNoBanks}
 use Rattle.nova_compile.specs.declared.build.Compiled.{Compiled}
 use Rattle.nova_compile.specs.declared.build.CompileError.{CompileError}

@@ -1,7 +1,7 @@
 -- How a refusal of the front end or the back end is passed on.
 use Rattle.std.specs.Prelude.{◌≡◌}
-use Rattle.nova_front.specs.declared.error.FrontError.{FrontError}
-use Rattle.nova_front.specs.declared.error.FrontError.TheVariants as front
+use Rattle.nova_compile.specs.declared.error.FrontError.{FrontError}
+use Rattle.nova_compile.specs.declared.error.FrontError.TheVariants as front
 use Rattle.nova_back.specs.declared.error.BackError.{BackError}
 use Rattle.nova_back.specs.declared.error.BackError.TheVariants as back
 use Rattle.nova_compile.specs.declared.build.CompileError.{CompileError}

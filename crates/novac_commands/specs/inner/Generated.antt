@@ -3,7 +3,7 @@ use Rattle.std.specs.Prelude.{◌≡◌, ◌≤◌, ℕ, List, [], ◌∷◌, le
 use Rattle.nv_ast.specs.Sizes.{main_words, room}
 use Rattle.nv_ast.specs.Tree.{ProgramTree}
 use Rattle.nv_ast.specs.TypedView.{typed_program}
-use Rattle.nova_front.specs.Sources.{IsTypedSource}
+use Rattle.nova_compile.specs.Sources.{IsTypedSource}
 use Rattle.nova_back.specs.Causes.{report_cost}
 use Rattle.novac_commands.specs.Generating.{MeansWord, generated_text}
 use Rattle.nova_compile.specs.declared.build.Compiled.{Compiled}

@@ -2,8 +2,8 @@
 use Rattle.std.specs.Prelude.{◌≡◌}
 use Rattle.nv_text.specs.declared.error.TextError.{TextError}
 use Rattle.nv_text.specs.declared.error.TextError.TheVariants as text
-use Rattle.nova_front.specs.declared.error.FrontError.{FrontError}
-use Rattle.nova_front.specs.declared.error.FrontError.TheVariants as front
+use Rattle.nova_compile.specs.declared.error.FrontError.{FrontError}
+use Rattle.nova_compile.specs.declared.error.FrontError.TheVariants as front
 use Rattle.novac_words.specs.declared.refusal.Refusal.{Refusal}
 use Rattle.novac_words.specs.declared.refusal.Refusal.TheVariants as refusal
 

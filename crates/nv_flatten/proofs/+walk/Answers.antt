@@ -9,7 +9,7 @@ use Rattle.nv_flatten_values.specs.inner.Symbols.{bound, all_fresh, all_bound, s
 use Rattle.nv_flatten_values.specs.inner.Simulation.{Extends}
 use Rattle.nv_flatten_values.specs.inner.View.{view, scope_of}
 use Rattle.nv_flatten_values.specs.inner.Whole.{raised_or_none}
-use Rattle.nv_flatten_declarations.specs.inner.WholeView.{whole_in}
+use Rattle.nv_flatten_values.specs.inner.WholeView.{whole_in}
 use Rattle.nv_flatten_values.proofs.Keeping.{extends-itself, extends-then}
 use Rattle.nv_flatten_values.proofs.Rows.{tuple_view, record_view}
 use Rattle.nv_flatten.proofs.Ranks.{value_rank, value_rank-small, ending_rank, ending_rank-small, condition_rank, condition_rank-small, named-below, truth-below, given-below, decided-below}

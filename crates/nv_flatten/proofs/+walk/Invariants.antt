@@ -3,7 +3,7 @@ use Rattle.nv_ast.specs.ExprView.{tree_of, list_trees, list_named_trees, list_st
 use Rattle.nv_meaning.specs.inner.Weight.{weight, weight_all, weight_named, weight_statement, weight_statements}
 use Rattle.nv_flatten_values.specs.inner.Simulation.{Extends}
 use Rattle.nv_flatten_values.specs.inner.View.{scope_of}
-use Rattle.nv_flatten_declarations.specs.inner.WholeView.{whole_in}
+use Rattle.nv_flatten_values.specs.inner.WholeView.{whole_in}
 use Rattle.nv_flatten.proofs.FlatLists.{FlatFront, FlatFields, FlatLed}
 use Rattle.nv_flatten.proofs.Ranks.{value_rank, ending_rank, condition_rank}
 use Rattle.nv_flatten.proofs.+walk.Given as goal

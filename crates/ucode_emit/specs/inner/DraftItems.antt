@@ -7,7 +7,7 @@ use Rattle.place_plan.specs.declared.place.Place.TheVariants.{L, S, Slot}
 use Rattle.place_plan.specs.declared.place.Serve.{Serve}
 use Rattle.place_plan.specs.Places.{same_place}
 use Rattle.place_plan.specs.Fits.{is_slot, is_read_register}
-use Rattle.par_move.specs.Moves.{Move, temporary}
+use Rattle.ucode_emit.specs.Moves.{Move, temporary}
 use Rattle.ucode_emit.specs.inner.Machine.{IsReadable, IsWritable}
 use Rattle.ucode_emit.specs.Pieces.{Item, Moved, Plain, Branch, move_instr, brought}
 

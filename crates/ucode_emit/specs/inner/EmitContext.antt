@@ -7,7 +7,7 @@ use Rattle.ssu_ir.specs.Tree.{Step, Lit, Una, Bin, Clone, Read, Write, Last, Jum
 use Rattle.place_plan.specs.declared.place.Serve.{Serve}
 use Rattle.place_plan.specs.Plan as plan
 use Rattle.place_plan.specs.Plan.{Plan, pass}
-use Rattle.par_move.specs.Moves.{Move}
+use Rattle.ucode_emit.specs.Moves.{Move}
 use Rattle.ucode_emit.specs.declared.emit_context.EmitContext.{EmitContext}
 use Rattle.ucode_emit.specs.inner.Machine.{IsReadable, IsWritable}
 use Rattle.ucode_emit.specs.inner.Layers.{IsAddress}

@@ -13,7 +13,7 @@ use Rattle.place_plan.specs.declared.place.Place.TheVariants.{S, Slot}
 use Rattle.place_plan.specs.declared.place.Serve.{Serve}
 use Rattle.place_plan.specs.Plan.{Plan, home}
 use Rattle.place_plan.specs.Fits.{is_slot}
-use Rattle.par_move.specs.Moves.{Move}
+use Rattle.ucode_emit.specs.Moves.{Move}
 use Rattle.ucode_emit.specs.declared.emit_context.EmitContext.{EmitContext}
 use Rattle.ucode_emit.specs.inner.Machine.{IsReadable, IsWritable}
 use Rattle.ucode_emit.specs.inner.Layers.{IsAddress}

@@ -19,7 +19,7 @@ use Rattle.uc_isa.specs.Straight.{Stands as InCode}
 use Rattle.uc_isa.specs.Agrees.{IsStart}
 use Rattle.uc_isa.specs.Pieces.{Moment}
 use Rattle.uc_isa.specs.declared.engine.Engine.{Engine}
-use Rattle.uc_isa_executions.specs.Entry.{IsEntry}
+use Rattle.uc_isa.specs.Entry.{IsEntry}
 use Rattle.ssu_ir.specs.Tree.{Lit, Una, Bin, Clone, Read, Write, Jump, Halt, Tree, Do, If, End, Label, Ends}
 use Rattle.ssu_ir.specs.Points.{Names, own, names_after, Point, points, tree_points, nodes, point}
 use Rattle.ssu_ir.specs.Single.{single}
@@ -27,7 +27,7 @@ use Rattle.place_plan.specs.declared.place.Place.{Place}
 use Rattle.place_plan.specs.declared.place.Place.TheVariants.{A, B}
 use Rattle.place_plan.specs.Plan.{Plan, first, pass}
 use Rattle.place_plan.specs.Fits.{Fits, write_place}
-use Rattle.par_move.specs.Moves.{Move, Words, put, one_by_one, HaveOwnTargets, SpareTemporary}
+use Rattle.ucode_emit.specs.Moves.{Move, Words, put, one_by_one, HaveOwnTargets, SpareTemporary}
 use Rattle.ucode_emit.specs.Pieces.{operands, operand_at, words, result_place, to_slot, copies, all_copies, single_moves, un_op, source, target, address_of, entry_point, served_moves, entry_moves, parallel_moves}
 use Rattle.ucode_emit.specs.Emits.{IsSequence}
 use Rattle.ucode_emit.specs.inner.Ready.{Ready, Entered, Begun}

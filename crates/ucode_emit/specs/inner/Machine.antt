@@ -11,7 +11,7 @@ use Rattle.uc_isa.specs.declared.instruction.Instr.{Instr}
 use Rattle.place_plan.specs.declared.place.Place.{Place}
 use Rattle.place_plan.specs.declared.place.Place.TheVariants.{A, B, L, LD, S, SD, Slot}
 use Rattle.place_plan.specs.Fits.{read_place}
-use Rattle.par_move.specs.Moves.{Move, Words, put}
+use Rattle.ucode_emit.specs.Moves.{Move, Words, put}
 use Rattle.ucode_emit.specs.Pieces.{move_instr}
 
 -- the word in a place

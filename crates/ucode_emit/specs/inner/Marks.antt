@@ -4,7 +4,7 @@ use Rattle.uc_isa.specs.Registers.{failing}
 use Rattle.ssu_ir.specs.Tree.{Tree, Do, If, End, Label, Node, Does, Forks, Ends}
 use Rattle.ssu_ir.specs.Points.{PointKind, Entry, At, nodes}
 use Rattle.place_plan.specs.Plan.{Plan}
-use Rattle.par_move.specs.Moves.{Move}
+use Rattle.ucode_emit.specs.Moves.{Move}
 use Rattle.ucode_emit.specs.Pieces.{Item, moved, single_moves, all_copies, step_items, fork_items, last_items, Sequences, sequence_at, entry_moves, last_moves}
 
 -- what stands at a point, and at a fork the number of points of its first arm

@@ -9,7 +9,7 @@ use Rattle.place_plan.specs.declared.place.Place.TheVariants.{A}
 use Rattle.place_plan.specs.Plan.{Plan, home}
 use Rattle.place_plan.specs.Uses.{Use, uses}
 use Rattle.place_plan.specs.Fits.{general_places, read_places, has_place, is_early, word_register}
-use Rattle.par_move.specs.Moves.{Words}
+use Rattle.ucode_emit.specs.Moves.{Words}
 
 -- the places in which a value lasts while it is held
 abbrev pub lasting : List Label → Plan → ℕ → List Place

@@ -9,7 +9,7 @@ use Rattle.ssu_ir.specs.Points.{PointKind, Entry, At}
 use Rattle.ssu_ir.specs.View.{labels_view}
 use Rattle.place_plan.specs.declared.place.Serve.{Serve}
 use Rattle.place_plan.specs.Plan.{Plan}
-use Rattle.par_move.specs.Moves.{Move}
+use Rattle.ucode_emit.specs.Moves.{Move}
 use Rattle.ucode_emit.specs.declared.cursor.Cursor.{Cursor}
 use Rattle.ucode_emit.specs.declared.walk.Points.{Points}
 use Rattle.ucode_emit.specs.Pieces.{Item, moved, single_moves, all_copies, entry_moves, Sequences, parallel_moves}

@@ -5,8 +5,8 @@ use Rattle.zo_model.specs.declared.program.ZeroOne.{ZeroOne}
 use Rattle.zo_cert_tree.specs.Certificate.{Tree, preorder, EachNode, branches, HasLeft, unfixed}
 use Rattle.zo_cert_tree.specs.declared.cert.CertNode.{CertNode}
 use Rattle.zo_cert_tree.specs.declared.cert.CertNode.TheVariants.{Branch, Bound, Clash, Left}
-use Rattle.zo_solve_state.specs.declared.best.Best.{Best}
-use Rattle.zo_solve_state.specs.inner.Better.{IsBest}
+use Rattle.zo_solve_dive.specs.declared.best.Best.{Best}
+use Rattle.zo_solve_dive.specs.inner.Better.{IsBest}
 use Rattle.zo_solve_branch.specs.inner.Node.{IsGood}
 use Rattle.zo_solve.specs.declared.search.Solved.{Solved}
 use Rattle.zo_solve.specs.declared.search.Solved.TheVariants as answers

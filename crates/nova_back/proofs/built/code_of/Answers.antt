@@ -4,14 +4,14 @@ use Rattle.ssu_ir.specs.Entered.{entered}
 use Rattle.ssu_ir.specs.Meaning.{ssu_meaning, ssu_params}
 use Rattle.ssu_ir.specs.View.{labels_view}
 use Rattle.uc_isa.specs.declared.instruction.Instr.{Instr}
-use Rattle.uc_isa_executions.specs.Entry.{AssumesNoMore}
-use Rattle.uc_isa_executions.proofs.EntryLemmas.{visited-along}
-use Rattle.uc_isa_executions.proofs.Following.{assumes-there}
+use Rattle.uc_isa.specs.Entry.{AssumesNoMore}
+use Rattle.uc_isa.proofs.EntryLemmas.{visited-along}
+use Rattle.uc_isa.proofs.Following.{assumes-there}
 use Rattle.uc_peep.proofs.Peeps.{kept-trans}
 use Rattle.uc_peep.proofs.Without.{without-trans}
 use Rattle.uc_peep.specs.Rewrites.{IsWithout}
 use Rattle.uc_peep.specs.Becomes.{IsKept}
-use Rattle.uc_peep_branches.specs.Turned.{IsTurned}
+use Rattle.uc_peep_facts.specs.Turned.{IsTurned}
 use Rattle.ucode_emit.specs.Operations.{code_operations}
 use Rattle.ucode_emit.specs.SpillBase.{SpillsByBase}
 use Rattle.nova_back.specs.LeftOut.{LeavesOut}

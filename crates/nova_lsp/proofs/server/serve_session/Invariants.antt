@@ -1,5 +1,5 @@
 use Rattle.std.proofs.Common.{◌≡◌}
-use Rattle.nova_lsp_messages.specs.Frames.{AppendsFrames}
+use Rattle.nova_lsp.specs.Frames.{AppendsFrames}
 use Rattle.nova_lsp.proofs.server.serve_session.Given as goal
 
 abbrev pub invariant-loop : goal.invariant-loop

@@ -1,5 +1,5 @@
 use Rattle.std.proofs.Common.{◌≡◌, ◌+◌, drop, take}
-use Rattle.uc_isa_executions.specs.StraightCode.{weights}
+use Rattle.uc_isa.specs.StraightCode.{weights}
 use Rattle.nova_show.specs.Kinds.{AreNumbers, AreParts, cost_of}
 use Rattle.nova_show.proofs.counts.counts_of.Given as goal
 

@@ -4,7 +4,7 @@ use Rattle.nv_base.specs.declared.outcome.Outcome.{Outcome}
 use Rattle.novac_machine.specs.Machine.{full_text}
 use Rattle.ssu_ir.specs.Meaning.{ssu_meaning}
 use Rattle.ssu_ir.specs.View.{labels_view}
-use Rattle.place_weights_text.specs.WeightsText.{count_limit, weights_text}
+use Rattle.place_weights.specs.WeightsText.{count_limit, weights_text}
 use Rattle.novac_commands.specs.Counting.{AreCounted}
 use Rattle.novac_commands.proofs.Counts.{counts-small, are-counted, printed-full}
 use Rattle.novac_commands.proofs.counting.count_entries.Goals as goal

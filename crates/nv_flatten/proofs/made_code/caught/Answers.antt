@@ -4,7 +4,7 @@ use Rattle.nv_ast.specs.Types.{total_words}
 use Rattle.nv_flatten_values.specs.inner.Symbols.{all_bound, numbers_from}
 use Rattle.nv_flatten_values.specs.inner.View.{scope_of}
 use Rattle.nv_flatten_values.specs.inner.Whole.{raised_or_none}
-use Rattle.nv_flatten_declarations.specs.inner.WholeView.{whole_in}
+use Rattle.nv_flatten_values.specs.inner.WholeView.{whole_in}
 use Rattle.nv_flatten.proofs.made_code.caught.Goals as goal
 
 pub returns-clause-number : goal.returns-clause-number

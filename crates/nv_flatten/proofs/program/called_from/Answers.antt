@@ -1,6 +1,6 @@
 use Rattle.std.proofs.Common.{◌≡◌, ◌∙◌, ap, sym, length, arith}
 use Rattle.std.specs.Prelude.{slice_get}
-use Rattle.nv_flatten_declarations.specs.inner.WholeView.{whole_in}
+use Rattle.nv_flatten_values.specs.inner.WholeView.{whole_in}
 use Rattle.nv_flatten.proofs.Bounding.{bounded-first, bounded-more, bounded-all}
 use Rattle.nv_flatten.proofs.SourceFunctions.{called-before}
 use Rattle.nv_flatten.proofs.program.called_from.Goals as goal

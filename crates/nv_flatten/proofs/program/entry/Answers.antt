@@ -3,7 +3,7 @@ use Rattle.std.proofs.lemmas.List.{drop_all}
 use Rattle.nv_ast.specs.Types.{type_of, named_types_of, words, total_named_words}
 use Rattle.nv_ast.specs.TypeView.{type_tree, list_named_types}
 use Rattle.nv_flatten_values.specs.inner.View.{scope_of}
-use Rattle.nv_flatten_declarations.specs.inner.WholeView.{whole_in}
+use Rattle.nv_flatten_values.specs.inner.WholeView.{whole_in}
 use Rattle.nv_flatten_values.proofs.Listing.{numbers-turn, params-turn, params-done}
 use Rattle.nv_flatten.proofs.program.entry.Goals as goal
 use Rattle.nv_ast.proofs.Items.{next_item}

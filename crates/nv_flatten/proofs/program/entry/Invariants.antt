@@ -3,7 +3,7 @@ use Rattle.nv_ast.specs.Types.{named_types_of, total_named_words}
 use Rattle.nv_ast.specs.TypeView.{list_named_types}
 use Rattle.nv_flatten_values.specs.inner.Symbols.{named_fresh, numbers_from, params_bound}
 use Rattle.nv_flatten_values.specs.inner.View.{scope_of}
-use Rattle.nv_flatten_declarations.specs.inner.WholeView.{whole_in}
+use Rattle.nv_flatten_values.specs.inner.WholeView.{whole_in}
 use Rattle.nv_flatten.proofs.program.entry.Given as goal
 
 abbrev pub invariant-loop-param : goal.invariant-loop-param

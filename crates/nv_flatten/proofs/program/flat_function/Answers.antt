@@ -5,7 +5,7 @@ use Rattle.nv_ast.specs.Types.{named_types_of, total_named_words}
 use Rattle.nv_ast.specs.TypeView.{list_named_types}
 use Rattle.nv_flatten_values.specs.inner.Symbols.{numbers_from}
 use Rattle.nv_flatten_values.specs.inner.View.{view, scope_of}
-use Rattle.nv_flatten_declarations.specs.inner.WholeView.{whole_in}
+use Rattle.nv_flatten_values.specs.inner.WholeView.{whole_in}
 use Rattle.nv_flatten.proofs.Making.{made-of}
 use Rattle.nv_flatten.proofs.Bounding.{narrow-made, small-made}
 use Rattle.nv_flatten.proofs.program.flat_function.Goals as goal

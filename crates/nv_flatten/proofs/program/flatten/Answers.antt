@@ -1,7 +1,7 @@
 use Rattle.std.proofs.Common.{◌∙◌, ◌≤◌, ap, refl, subst}
 use Rattle.nv_ast.specs.TypedView.{typed_program}
 use Rattle.nv_flatten_values.specs.inner.Whole.{whole_of}
-use Rattle.nv_flatten_declarations.specs.inner.WholeView.{whole_in}
+use Rattle.nv_flatten_values.specs.inner.WholeView.{whole_in}
 use Rattle.nv_flatten.proofs.Lockstep.{keeps, equal}
 use Rattle.nv_flatten.proofs.FormedProgram.{formed, all-reached}
 use Rattle.nv_flatten.proofs.Bounding.{bounded-main, wide-of}

@@ -1,6 +1,6 @@
 use Rattle.std.proofs.Common.{refl}
 use Rattle.nv_ast.specs.ProgramView.{fun_tree}
-use Rattle.nv_flatten_declarations.specs.inner.WholeView.{whole_in}
+use Rattle.nv_flatten_values.specs.inner.WholeView.{whole_in}
 use Rattle.nv_flatten.proofs.Making.{if-ok, made-found, placed-found}
 use Rattle.nv_flatten.proofs.Bounding.{narrow-found, small-found, empty-made}
 use Rattle.nv_flatten.proofs.program.function.Goals as goal

@@ -1,5 +1,5 @@
 use Rattle.nv_ast.specs.ProgramView.{fun_tree}
-use Rattle.nv_flatten_declarations.specs.inner.WholeView.{whole_in}
+use Rattle.nv_flatten_values.specs.inner.WholeView.{whole_in}
 use Rattle.nv_flatten.proofs.Making.{if-ok}
 use Rattle.nv_flatten.proofs.Bounding.{bounded-found}
 use Rattle.nv_flatten.proofs.program.functions.Goals as goal

@@ -1,6 +1,6 @@
 use Rattle.std.proofs.Common.{◌++◌, ◌∷◌, [], get_or, ap, ◌∙◌, true, false}
 use Rattle.uc_isa.specs.declared.instruction.Instr.TheVariants.{Halt}
-use Rattle.uc_isa_executions.specs.Relocated.{relocated}
+use Rattle.uc_isa.specs.Relocated.{relocated}
 use Rattle.uc_peep.proofs.Marking.{compact-more}
 use Rattle.uc_peep.proofs.compacting.compact.Goals as goal
 use Rattle.uc_peep.proofs.compacting.compact.Goals.{then-not-gone-x+in_ok-push, else-not-gone-x}

@@ -1,6 +1,6 @@
 use Rattle.std.proofs.Common.{take}
 use Rattle.uc_peep.specs.Draft.{AreMarked}
-use Rattle.uc_isa_executions.specs.Starts.{IsLabelStart}
+use Rattle.uc_isa.specs.Starts.{IsLabelStart}
 use Rattle.uc_peep.proofs.compacting.mark_starts.Given as goal
 
 abbrev pub invariant-loop-s : goal.invariant-loop-s

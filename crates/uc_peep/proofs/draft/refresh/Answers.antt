@@ -1,5 +1,5 @@
 use Rattle.std.proofs.Common.{◌<◌, ◌-◌, length, arith, ◌∙◌, sym, subst}
-use Rattle.uc_isa_executions.specs.Program.{IsLawfulWithin}
+use Rattle.uc_isa.specs.Program.{IsLawfulWithin}
 use Rattle.uc_peep.specs.Liveness.{IsLiveBefore}
 use Rattle.uc_peep.proofs.Passes.{law-at, fresh-more}
 use Rattle.uc_peep.proofs.draft.refresh.Goals as goal

@@ -1,6 +1,6 @@
 use Rattle.std.proofs.Common.{◌∙◌, ◌<◌, length, sym, subst}
 use Rattle.std.proofs.lemmas.Grind.{get_or_default_zero}
-use Rattle.uc_isa_executions.specs.Program.{IsLawfulWithin}
+use Rattle.uc_isa.specs.Program.{IsLawfulWithin}
 use Rattle.uc_peep.specs.Liveness.{IsLiveBefore}
 use Rattle.uc_peep.specs.Sets.{IsWithin}
 use Rattle.uc_peep.proofs.Passes.{law-at, closed-renewed}

@@ -1,6 +1,6 @@
 use Rattle.std.proofs.Common.{sym, subst}
-use Rattle.uc_isa_executions.specs.Program.{IsProgram}
-use Rattle.uc_isa_executions.proofs.Programs.{lawful_program}
+use Rattle.uc_isa.specs.Program.{IsProgram}
+use Rattle.uc_isa.proofs.Programs.{lawful_program}
 use Rattle.uc_peep.proofs.liveness.live.Goals as goal
 
 pub live_sets-requires-clause-lawful : goal.live_sets-requires-clause-lawful

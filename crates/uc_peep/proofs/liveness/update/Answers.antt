@@ -1,6 +1,6 @@
 use Rattle.std.proofs.Common.{length, sym, ◌∙◌, subst}
 use Rattle.std.proofs.lemmas.Grind.{get_or_default_zero}
-use Rattle.uc_isa_executions.specs.Program.{IsLawfulWithin}
+use Rattle.uc_isa.specs.Program.{IsLawfulWithin}
 use Rattle.uc_peep.specs.Liveness.{IsLiveBefore}
 use Rattle.uc_peep.proofs.Sweeps.{lawful-here, updated-same, updated-more, same-not}
 use Rattle.uc_peep.proofs.liveness.update.Goals as goal

@@ -1,8 +1,8 @@
 use Rattle.std.proofs.Common.{◌≡◌, ◌∙◌, rules, sym, subst}
 use Rattle.uc_isa.specs.Lawful.{IsLawful}
-use Rattle.uc_isa_executions.specs.Alike.{Follows}
-use Rattle.uc_isa_executions.specs.Program.{IsProgram}
-use Rattle.uc_isa_executions.proofs.Programs.{lawful_program, program_lawful}
+use Rattle.uc_isa.specs.Alike.{Follows}
+use Rattle.uc_isa.specs.Program.{IsProgram}
+use Rattle.uc_isa.proofs.Programs.{lawful_program, program_lawful}
 use Rattle.uc_peep.proofs.Peeps.{agrees-both}
 use Rattle.uc_peep.proofs.peephole.peep.Goals as goal
 

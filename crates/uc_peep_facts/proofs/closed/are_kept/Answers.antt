@@ -1,8 +1,8 @@
 use Rattle.std.proofs.Common.{◌≡◌, ◌∙◌, ◌<◌, length, Some, arith, refl, sym, subst}
 use Rattle.std.specs.Prelude.{slice_get}
 use Rattle.std.proofs.lemmas.Option.{slice_get_read}
-use Rattle.uc_isa_executions.specs.Program.{IsFormed, IsLawfulWithin}
-use Rattle.uc_isa_executions.specs.Resources.{IsNext}
+use Rattle.uc_isa.specs.Program.{IsFormed, IsLawfulWithin}
+use Rattle.uc_isa.specs.Resources.{IsNext}
 use Rattle.uc_peep.proofs.Sweeps.{lawful-here}
 use Rattle.uc_peep_facts.proofs.Ways.{kept-all, kept-more, none-first}
 use Rattle.uc_peep_facts.proofs.closed.are_kept.Goals as goal

@@ -1,7 +1,7 @@
 use Rattle.std.proofs.Common.{ℕ, List, sym, subst}
 use Rattle.uc_isa.specs.declared.instruction.Dst.{Dst}
 use Rattle.uc_isa.specs.declared.instruction.Instr.{Instr}
-use Rattle.uc_isa_executions.specs.Program.{IsFormed}
+use Rattle.uc_isa.specs.Program.{IsFormed}
 use Rattle.uc_peep_facts.specs.Facts.{FlagsStand, IsIdle, TargetStands, known}
 use Rattle.uc_peep_facts.specs.declared.fact.Fact.{Fact}
 use Rattle.uc_peep_facts.proofs.Idleness.{idle-alu, idle-immed, idle-un}

@@ -1,7 +1,7 @@
 use Rattle.std.proofs.Common.{◌+◌, ◌∙◌, arith, refl, sym, subst}
 use Rattle.std.proofs.lemmas.Grind.{get_or_default_zero}
 use Rattle.std.proofs.lemmas.Option.{slice_get_read}
-use Rattle.uc_isa_executions.specs.Program.{IsFormed}
+use Rattle.uc_isa.specs.Program.{IsFormed}
 use Rattle.uc_peep.proofs.Sweeps.{lawful-here}
 use Rattle.uc_peep_facts.proofs.Ways.{AllMayGo, may-more}
 use Rattle.uc_peep_facts.proofs.repeats.mark_idle.Goals as goal

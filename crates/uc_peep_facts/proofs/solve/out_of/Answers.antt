@@ -1,5 +1,5 @@
 use Rattle.std.proofs.Common.{refl, sym, subst}
-use Rattle.uc_isa_executions.specs.Program.{IsFormed}
+use Rattle.uc_isa.specs.Program.{IsFormed}
 use Rattle.uc_peep.proofs.Sweeps.{lawful-here}
 use Rattle.uc_peep_facts.proofs.solve.out_of.Goals as goal
 

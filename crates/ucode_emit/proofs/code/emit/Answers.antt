@@ -1,9 +1,9 @@
 use Rattle.std.proofs.Common.{◌≡◌, ◌≤◌, [], length, sym, ◌∙◌, subst}
 use Rattle.uc_isa.specs.Lawful.{IsLawful}
 use Rattle.uc_isa.specs.Moves.{moves}
-use Rattle.uc_isa_executions.specs.Entries.{IsVisited}
-use Rattle.uc_isa_executions.specs.Entry.{AssumesNoMore}
-use Rattle.uc_isa_executions.specs.Starts.{AreStarts}
+use Rattle.uc_isa.specs.Entries.{IsVisited}
+use Rattle.uc_isa.specs.Entry.{AssumesNoMore}
+use Rattle.uc_isa.specs.Starts.{AreStarts}
 use Rattle.ssu_ir.specs.Entered.{entered}
 use Rattle.ssu_ir.specs.Meaning.{ssu_meaning, ssu_params}
 use Rattle.ssu_ir.specs.Measures.{code_bound}

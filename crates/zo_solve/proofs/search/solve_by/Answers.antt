@@ -1,4 +1,4 @@
-use Rattle.zo_solve_state.specs.Vector.{start_cost}
+use Rattle.zo_solve_dive.specs.Vector.{start_cost}
 use Rattle.zo_solve.proofs.Endings.{ended, ended_below, ended_cut_off, ended_decided, ended_few, ended_limits, ended_no_dearer, ended_no_start, ended_picked, ended_proved, ended_searched, ended_shaped, ended_vector, ended_within}
 use Rattle.zo_solve.proofs.search.solve_by.Goals as goal
 

@@ -2,8 +2,8 @@ use Rattle.std.proofs.Common.{◌≡◌, ◌+◌, ◌*◌, length}
 use Rattle.zo_model.specs.Program.{columns}
 use Rattle.zo_cert_tree.specs.Certificate.{branches, HasLeft}
 use Rattle.zo_cert_tree.specs.inner.Leaf.{IsClear}
-use Rattle.zo_solve_state.specs.Pick.{Answers}
-use Rattle.zo_solve_state.specs.inner.Better.{IsBest}
+use Rattle.zo_solve_dive.specs.Pick.{Answers}
+use Rattle.zo_solve_dive.specs.inner.Better.{IsBest}
 use Rattle.zo_solve.specs.inner.Search.{LeftsLast}
 use Rattle.zo_solve.proofs.Weaker.{BegunFor}
 use Rattle.zo_solve.proofs.search.walk.Given as goal

@@ -6,8 +6,8 @@ use Rattle.zo_model.specs.declared.program.ZeroOne.{ZeroOne}
 use Rattle.zo_cert_tree.specs.Fixing.{ones}
 use Rattle.zo_cert_tree.specs.inner.Path.{current}
 use Rattle.zo_cert_tree.specs.Searched.{IsInReach, IsMet}
-use Rattle.zo_solve_state.specs.Sums.{SumsOf}
-use Rattle.zo_solve_state.specs.inner.Better.{CostsAsMuch}
+use Rattle.zo_solve_dive.specs.Sums.{SumsOf}
+use Rattle.zo_solve_dive.specs.inner.Better.{CostsAsMuch}
 use Rattle.zo_solve_branch.proofs.Close.{clash_closes, clash_node, plain_closes, plain_node}
 use Rattle.zo_solve_branch.proofs.Steps.{closed_steps, no_better_met, no_better_open}
 use Rattle.zo_solve_branch.proofs.node.step_on.Goals as goal

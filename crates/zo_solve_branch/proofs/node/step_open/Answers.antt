@@ -7,9 +7,9 @@ use Rattle.zo_cert_tree.specs.Certificate.{ClosesLeaf}
 use Rattle.zo_cert_tree.specs.Fixing.{ones}
 use Rattle.zo_cert_tree.specs.inner.Path.{current}
 use Rattle.zo_cert_tree.specs.Node.{IsNode}
-use Rattle.zo_solve_state.specs.Pick.{HasFree}
+use Rattle.zo_solve_dive.specs.Pick.{HasFree}
 use Rattle.zo_solve_branch.specs.Nodes.{CostsLess}
-use Rattle.zo_solve_state.specs.inner.Better.{CostsAsMuch}
+use Rattle.zo_solve_dive.specs.inner.Better.{CostsAsMuch}
 use Rattle.zo_solve_branch.proofs.Close.{open_free, plain_closes, plain_node}
 use Rattle.zo_solve_branch.proofs.Steps.{answers_at, branch_steps, closed_steps, costs_less, left_steps, no_better_open}
 use Rattle.zo_solve_branch.proofs.node.step_open.Goals as goal

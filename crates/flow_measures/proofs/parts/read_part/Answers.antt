@@ -1,6 +1,0 @@
-use Rattle.std.proofs.Common.{max, ap, ◌∙◌}
-use Rattle.flow_measures.proofs.Nodes.{of_read}
-use Rattle.flow_measures.proofs.parts.read_part.Goals as goal
-
-pub returns : goal.returns
-returns c = of_read _ _ _ _ _ _ _ _ c.in_ok-live.ensures c.in_ok-node.ensures c.in_ok-add_atom.ensures c.in_ok-add_each.ensures c.count.ensures (c.max-width.ensures ∙ ap (λ i. max i c.args.rest.width) c.max.ensures)

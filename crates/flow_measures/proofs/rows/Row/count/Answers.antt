@@ -1,6 +1,0 @@
-use Rattle.std.proofs.Common.{sym, ◌∙◌}
-use Rattle.nv_base.proofs.Sets.{different-all}
-use Rattle.flow_measures.proofs.rows.Row.count.Goals as goal
-
-pub returns : goal.returns
-returns c = c.len.ensures ∙ c.args.self.now.xs.ok.0 ∙ sym (different-all c.args.self.now.xs.items c.args.self.now.once)

@@ -1,9 +1,0 @@
-pub mod Keeping
-pub mod Same
-pub mod Formed
-pub mod Narrow
-pub mod Whole
-pub mod Asking
-pub mod Ranks
-pub mod Cutting
-pub mod Contracted

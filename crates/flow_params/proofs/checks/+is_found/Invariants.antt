@@ -1,5 +1,0 @@
-use Rattle.flow_params.proofs.Asking.{Sought}
-use Rattle.flow_params.proofs.checks.+is_found.Given as goal
-
-abbrev pub invariant-spine : goal.invariant-spine
-invariant-spine l = Sought l.ranks l.rank l.x l.t l.cur

@@ -1,5 +1,0 @@
-use Rattle.flow_params.proofs.Asking.{NotHanded}
-use Rattle.flow_params.proofs.checks.is_handed.Given as goal
-
-abbrev pub invariant-loop-j : goal.invariant-loop-j
-invariant-loop-j l = NotHanded l.ranks l.rank l.x l.k l.words l.j

@@ -1,8 +1,0 @@
-use Rattle.flow_params.specs.inner.Pruned.{gone_of}
-use Rattle.flow_params.proofs.Cutting.{Cut}
-use Rattle.std.proofs.Common.{map}
-use Rattle.flow_ir.specs.View.{label_view}
-use Rattle.flow_params.proofs.pruning.+pruned.Given as goal
-
-abbrev pub invariant-spine : goal.invariant-spine
-invariant-spine l = Cut (map label_view l.labels) (gone_of l.table) l.t l.cur l.steps.items

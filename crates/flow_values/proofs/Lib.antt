@@ -1,4 +1,0 @@
-pub mod Prims
-pub mod Means
-pub mod Kept
-pub mod Along

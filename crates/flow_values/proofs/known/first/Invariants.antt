@@ -1,6 +1,0 @@
-use Rattle.std.proofs.Common.{◌≡◌, drop}
-use Rattle.flow_values.specs.inner.Above.{entries, first}
-use Rattle.flow_values.proofs.known.first.Given as goal
-
-abbrev pub invariant-loop-k : goal.invariant-loop-k
-invariant-loop-k l = first (entries (drop l.k-index l.near)) l.p ≡ first (entries l.near) l.p

@@ -1,7 +1,0 @@
-mod ShortCode
-mod ShortForms
-mod ShortStores
-mod ShortTexts
-mod ShortTrees
-mod ShortSaves
-mod ShortTraces

@@ -1,2 +1,0 @@
-pub mod OneSource
-pub mod Programs

@@ -1,5 +1,0 @@
-use Rattle.par_move.proofs.Loops.{Turning}
-use Rattle.par_move.proofs.order.turn_all.Given as goal
-
-abbrev pub invariant-loop-m : goal.invariant-loop-m
-invariant-loop-m l = Turning l.moves l.m-index l.pending

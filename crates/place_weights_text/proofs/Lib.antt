@@ -1,4 +1,0 @@
-pub mod Lines
-pub mod Faults
-pub mod Exact
-pub mod Printed

@@ -1,5 +1,0 @@
-use Rattle.place_weights_text.proofs.Faults.{HasCounts}
-use Rattle.place_weights_text.proofs.read.read_counts.Given as goal
-
-abbrev pub invariant-loop-i : goal.invariant-loop-i
-invariant-loop-i l = HasCounts l.initial.lines l.lines l.counts.items l.i

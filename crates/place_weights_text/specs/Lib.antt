@@ -1,3 +1,0 @@
-pub mod WeightsText
-pub mod Answer
-pub mod inner

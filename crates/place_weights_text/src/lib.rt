@@ -1,9 +1,0 @@
-//! The text of weights: how often each label of a program was entered, read as weights and printed.
-#![tactic(auto)]
-
-pub mod laws;
-mod print;
-mod read;
-
-pub use print::print_counts;
-pub use read::{WeightsError, read_weights};

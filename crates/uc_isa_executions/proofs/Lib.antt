@@ -1,8 +1,0 @@
-pub mod Effects
-pub mod Lockstep
-pub mod Programs
-pub mod Counting
-pub mod Relocation
-pub mod Costs
-pub mod Following
-pub mod EntryLemmas

@@ -1,4 +1,0 @@
-pub mod Lighter
-pub mod Exchanged
-pub mod Turning
-pub mod Level

@@ -1,5 +1,0 @@
-use Rattle.uc_peep_branches.specs.inner.Pairs.{AreTurnedTo}
-use Rattle.uc_peep_branches.proofs.turned.turn_all.Given as goal
-
-abbrev pub invariant-loop-x : goal.invariant-loop-x
-invariant-loop-x l = AreTurnedTo l.code l.entered l.started l.draft l.gone l.some l.x

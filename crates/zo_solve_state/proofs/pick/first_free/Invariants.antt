@@ -1,6 +1,0 @@
-use Rattle.std.proofs.Common.{ℕ, take}
-use Rattle.zo_solve_state.specs.Choice.{HasColumn, IsFree}
-use Rattle.zo_solve_state.proofs.pick.first_free.Given as goal
-
-abbrev pub invariant-loop-j : goal.invariant-loop-j
-invariant-loop-j l = (m : ℕ) → HasColumn m (take l.j-index l.terms) → IsFree l.fixed m → ⊥

@@ -1,7 +1,0 @@
-use Rattle.std.proofs.Common.{take}
-use Rattle.zo_solve_state.specs.Choice.{IsPreferred}
-use Rattle.zo_solve_state.specs.inner.Least.{AnswersLeast}
-use Rattle.zo_solve_state.proofs.pick.least_preferred.Given as goal
-
-abbrev pub invariant-loop-i : goal.invariant-loop-i
-invariant-loop-i l = AnswersLeast (IsPreferred (take l.i l.z.rows.items) l.fixed.at.items) l.best
