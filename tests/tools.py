@@ -499,7 +499,7 @@ def completion(top):
 def pages_as_made(top):
     """The pages of `nova explain` are those of docs/FAULTS.md."""
     made = pages.files(top).items()
-    return [f"{name} is to be written again by tests/pages.py" for name, text in made if read(top, f"crates/diag_text/src/{name}") != text]
+    return [f"{name} is to be written again by tests/pages.py" for name, text in made if read(top, f"crates/nova_show/src/{name}") != text]
 
 
 def page_as_made(top):

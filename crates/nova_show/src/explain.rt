@@ -1,8 +1,8 @@
 //! The command `explain`.
 
 use crate::answer::{Answer, Ending};
+use crate::pages::page_of;
 use crate::words::push_nearest;
-use diag_text::page_of;
 use nova_words::nearest_among;
 use nv_lines::Message;
 use std::alloc::{AllocError, Global};
