@@ -1,6 +1,6 @@
 #!/usr/bin/env python3
 """The pages that `nova explain type 14` and the like print, made from docs/FAULTS.md: `tests/pages.py` writes them
-into crates/diag_text again, and the rows of tests/tools.py show whether they are as made."""
+into crates/nova_show again, and the rows of tests/tools.py show whether they are as made."""
 import math
 import os
 import re
@@ -85,5 +85,5 @@ def made(what, word, found):
 
 if __name__ == "__main__":
     for name, text in files().items():
-        with open(os.path.join(TOP, "crates", "diag_text", "src", name), "w", encoding="utf-8") as it:
+        with open(os.path.join(TOP, "crates", "nova_show", "src", name), "w", encoding="utf-8") as it:
             it.write(text)
