@@ -118,7 +118,7 @@ fn call<'a>(
         match t.found(callee) {
             None => return Err(Interruption::Going),
             Some((place, function)) => {
-                log.follow(callee, place)?;
+                log.follow(callee, place, function, &args)?;
                 scope.clear();
                 enter(&function.params, args, &mut scope)?;
                 match eval(alloc, t, &function.body, &mut scope, p, log, left)? {
@@ -224,6 +224,7 @@ fn statement<'a>(
     match st {
         Stmt::Let(pattern, e, _) => {
             let v = settled(alloc, t, e, scope, p, log, left)?;
+            log.bound(e.span, pattern, &v);
             Ok(bind(pattern, v, scope)?)
         }
         Stmt::Store(m, a, e, span) => store(alloc, t, *span, *m, a, e, scope, p, log, left),
@@ -348,6 +349,7 @@ fn raise<'a>(
     ensures same { OnOk result (scope.new.items ≡ scope.old.items) }
 {
     let vs = each(alloc, t, es, scope, p, log, left)?;
+    log.raised(x, &vs);
     Err(Interruption::Raised(t.exception(x), vs))
 }
 

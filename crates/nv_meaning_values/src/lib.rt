@@ -9,6 +9,7 @@ mod grouping;
 mod memory;
 mod notes;
 mod operators;
+mod said;
 mod sizes;
 mod stop;
 mod table;

@@ -11,7 +11,8 @@ ghost use Rattle.nv_meaning_values.specs.Callers.{calls_of, IsMark, LieAbove};
 use crate::callers::{Caller, Mark, enter, leave, marked};
 use crate::events::Event;
 use crate::trace::{Made, Trace};
-use nv_ast::{Name, Span};
+use crate::value::Value;
+use nv_ast::{Fun, Name, Pat, Span};
 use nv_base::{Access, Mem, NoMemory, Packet, Write, WriteLog};
 use std::alloc::Global;
 use std::marker::Model;
@@ -66,14 +67,21 @@ impl<'a> Notes<'a> {
         marked(&self.callers, events.level(), events.here())
     }
 
-    /// Adds a call of the function at a place, in the innermost call's place where it is of the same group.
-    pub fn follow(&mut self, name: &'a Name, place: usize) -> Result<(), NoMemory>
+    /// Adds a call of the function at a place, in the innermost call's place where it is of the same group. The function and its
+    /// arguments are noted for people.
+    pub fn follow(
+        &mut self,
+        name: &'a Name,
+        place: usize,
+        f: &Fun,
+        args: &Vec<Value>,
+    ) -> Result<(), NoMemory>
         ensures log { self.new.log ≡ self.old.log }
         ensures trail { self.new.trail ≡ self.old.trail }
         ensures called { OnOk result (HasRoom self.old.trail → self.new.chain ≡ record { groups = self.old.chain.groups; calls = called self.old.chain.calls (name.now, get_or self.old.chain.groups place 0) }) }
         ensures same { OnErr result (self.new ≡ self.old) }
     {
-        self.trace.call(place);
+        self.trace.call(place, f, args);
         if !self.trace.has_room() {
             return Ok(());
         }
@@ -98,6 +106,20 @@ impl<'a> Notes<'a> {
         ensures { self.new ≡ self.old }
     {
         self.trace.set_here(here);
+    }
+
+    /// Notes that the variables of a pattern get the value of an expression.
+    pub fn bound(&mut self, span: Span, p: &Pat, v: &Value)
+        ensures { self.new ≡ self.old }
+    {
+        self.trace.bound(span, p, v);
+    }
+
+    /// Notes that an exception is raised.
+    pub fn raised(&mut self, x: &Name, vs: &Vec<Value>)
+        ensures { self.new ≡ self.old }
+    {
+        self.trace.raised(x, vs);
     }
 
     /// Notes that so many words are fetched, before that is done.

@@ -7,7 +7,8 @@ ghost use Rattle.nv_meaning_values.specs.Callers.{calls_of};
 
 use crate::callers::{Caller, names};
 use crate::events::{Event, Events};
-use nv_ast::{Name, Span};
+use crate::value::Value;
+use nv_ast::{Fun, Name, Pat, Span};
 use nv_base::{Mem, NoMemory, SOURCE_SCRATCH, Write};
 use std::alloc::Global;
 use std::marker::Model;
@@ -65,6 +66,21 @@ impl Trace {
         })
     }
 
+    /// An empty trace that keeps no write and, for people, the first `most` events with values, and where in a text of so many bytes
+    /// expressions are begun.
+    pub fn with_values(alloc: Global, most: u32, bytes: usize) -> Result<Trace, NoMemory>
+        ensures { IfOk result (λ t. t ≡ none_kept 0) }
+    {
+        let events = Events::with_values(alloc, most as usize, bytes)?;
+        Ok(Trace {
+            room: 0,
+            first: Vec::new(alloc),
+            all: 0,
+            chains: Vec::new(alloc),
+            events,
+        })
+    }
+
     /// What the run did so far.
     pub fn events(&self) -> &Events {
         &self.events
@@ -77,11 +93,26 @@ impl Trace {
         self.events.begin(here);
     }
 
-    /// Notes a call of the function at a place.
-    pub fn call(&mut self, place: usize)
+    /// Notes a call of the function at a place with these values.
+    pub fn call(&mut self, place: usize, f: &Fun, vs: &[Value])
         ensures { self.new ≡ self.old }
     {
         self.events.call(place);
+        self.events.entered(f, vs);
+    }
+
+    /// Notes that the variables of a pattern get the value of an expression.
+    pub fn bound(&mut self, span: Span, p: &Pat, v: &Value)
+        ensures { self.new ≡ self.old }
+    {
+        self.events.bound(span, p, v);
+    }
+
+    /// Notes that an exception is raised.
+    pub fn raised(&mut self, x: &Name, vs: &[Value])
+        ensures { self.new ≡ self.old }
+    {
+        self.events.raised(x, vs);
     }
 
     /// Notes that a run comes back to a level and to a place of the text.

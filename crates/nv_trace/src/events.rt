@@ -48,13 +48,14 @@ fn push_event(out: &mut Message, event: Event) {
             out.put("s");
             out.number(u64::from(span.first))
         }
+        Event::Bound(_) | Event::Raised(_) => {}
     }
 }
 
 // The sum with an access: its kind and its memory, its address, and how many words it has.
 fn summed(sum: u32, event: Event) -> u32 {
     match event {
-        Event::Call(_) | Event::Back(_) => sum,
+        Event::Call(_) | Event::Back(_) | Event::Bound(_) | Event::Raised(_) => sum,
         Event::Fetch(_, mem, at, count) => mixed(mixed(mixed(sum, code_of(mem)), at), count),
         Event::Store(_, write) => {
             let count = write.words.list().len() as u32;

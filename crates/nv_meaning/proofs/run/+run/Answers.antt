@@ -387,14 +387,14 @@ statement-returns-in_err-v-in-Let t c = record {
 
 pub statement-returns-in_err-bind-in-Let : goal.statement-returns-in_err-bind-in-Let
 statement-returns-in_err-bind-in-Let t c = record {
-  ran = (let p = err_from_is_err_and c.from_residual-in_err-bind-in-Let.result c.from_residual-in_err-bind-in-Let.ensures.1 in rw (p.1, p.2) (subst (λ st. RanScope (declared_in c.args.t.now) (at c.args.left.now c.args.p.now c.args.log.now) (at c.settled.new.left c.settled.new.p c.settled.new.log) (Err NoMemory) (scope_of c.bind.new.scope.items []) (λ call now. run_one (declared_in c.args.t.now) call st (scope_of c.args.scope.now.items []) now)) (sym (let-is c.args.st.now c.in-Let.pattern c.in-Let.e c.in-Let.field-2 c.in-Let.is)) (let-short (declared_in c.args.t.now) (at c.args.left.now c.args.p.now c.args.log.now) (at c.settled.new.left c.settled.new.p c.settled.new.log) (pattern_tree c.in-Let.pattern) (tree_of c.in-Let.e) (scope_of c.args.scope.now.items []) (scope_of c.bind.new.scope.items []) c.in_ok-v-in-Let.v c.in_ok-v-in-Let.ensures.ran)));
+  ran = (let p = err_from_is_err_and c.from_residual-in_err-bind-in-Let.result c.from_residual-in_err-bind-in-Let.ensures.1 in rw (p.1, p.2, c.bound.ensures) (subst (λ st. RanScope (declared_in c.args.t.now) (at c.args.left.now c.args.p.now c.args.log.now) (at c.settled.new.left c.settled.new.p c.settled.new.log) (Err NoMemory) (scope_of c.bind.new.scope.items []) (λ call now. run_one (declared_in c.args.t.now) call st (scope_of c.args.scope.now.items []) now)) (sym (let-is c.args.st.now c.in-Let.pattern c.in-Let.e c.in-Let.field-2 c.in-Let.is)) (let-short (declared_in c.args.t.now) (at c.args.left.now c.args.p.now c.args.log.now) (at c.settled.new.left c.settled.new.p c.settled.new.log) (pattern_tree c.in-Let.pattern) (tree_of c.in-Let.e) (scope_of c.args.scope.now.items []) (scope_of c.bind.new.scope.items []) c.in_ok-v-in-Let.v c.in_ok-v-in-Let.ensures.ran)));
   left = c.in_ok-v-in-Let.ensures.left;
   extends = extends-from c.args.scope.now.items c.settled.new.scope.items c.bind.new.scope.items c.in_ok-v-in-Let.ensures.same c.in_err-bind-in-Let.ensures.extends;
 }
 
 pub statement-returns-in_ok-bind-in-Let : goal.statement-returns-in_ok-bind-in-Let
 statement-returns-in_ok-bind-in-Let t c = record {
-  ran = subst (λ st. RanScope (declared_in c.args.t.now) (at c.args.left.now c.args.p.now c.args.log.now) (at c.settled.new.left c.settled.new.p c.settled.new.log) (Ok tt) (scope_of c.bind.new.scope.items []) (λ call now. run_one (declared_in c.args.t.now) call st (scope_of c.args.scope.now.items []) now)) (sym (let-is c.args.st.now c.in-Let.pattern c.in-Let.e c.in-Let.field-2 c.in-Let.is)) (let-done (declared_in c.args.t.now) (at c.args.left.now c.args.p.now c.args.log.now) (at c.settled.new.left c.settled.new.p c.settled.new.log) (pattern_tree c.in-Let.pattern) (tree_of c.in-Let.e) (scope_of c.args.scope.now.items []) (scope_of c.bind.new.scope.items []) c.in_ok-v-in-Let.v (c.in_ok-bind-in-Let.ensures.matches ∙ ap (λ l. matched (pattern_tree c.in-Let.pattern) (view c.in_ok-v-in-Let.v) (scope_of l [])) c.in_ok-v-in-Let.ensures.same) c.in_ok-v-in-Let.ensures.ran);
+  ran = rw c.bound.ensures (subst (λ st. RanScope (declared_in c.args.t.now) (at c.args.left.now c.args.p.now c.args.log.now) (at c.settled.new.left c.settled.new.p c.settled.new.log) (Ok tt) (scope_of c.bind.new.scope.items []) (λ call now. run_one (declared_in c.args.t.now) call st (scope_of c.args.scope.now.items []) now)) (sym (let-is c.args.st.now c.in-Let.pattern c.in-Let.e c.in-Let.field-2 c.in-Let.is)) (let-done (declared_in c.args.t.now) (at c.args.left.now c.args.p.now c.args.log.now) (at c.settled.new.left c.settled.new.p c.settled.new.log) (pattern_tree c.in-Let.pattern) (tree_of c.in-Let.e) (scope_of c.args.scope.now.items []) (scope_of c.bind.new.scope.items []) c.in_ok-v-in-Let.v (c.in_ok-bind-in-Let.ensures.matches ∙ ap (λ l. matched (pattern_tree c.in-Let.pattern) (view c.in_ok-v-in-Let.v) (scope_of l [])) c.in_ok-v-in-Let.ensures.same) c.in_ok-v-in-Let.ensures.ran));
   left = c.in_ok-v-in-Let.ensures.left;
   extends = extends-from c.args.scope.now.items c.settled.new.scope.items c.bind.new.scope.items c.in_ok-v-in-Let.ensures.same c.in_ok-bind-in-Let.ensures.extends;
 }
@@ -513,7 +513,7 @@ raise-returns-in_err-vs t c = record {
 
 pub raise-returns : goal.raise-returns
 raise-returns t c = record {
-  ran = raise-done (declared_in c.args.t.now) (at c.args.left.now c.args.p.now c.args.log.now) (at c.each.new.left c.each.new.p c.each.new.log) (list_trees c.args.es.now) (scope_of c.args.scope.now.items []) (exception_number (declared_in c.args.t.now).exceptions c.args.x.now) c.exception.result c.in_ok-vs.vs c.exception.ensures c.in_ok-vs.ensures.ran;
+  ran = rw c.raised.ensures (raise-done (declared_in c.args.t.now) (at c.args.left.now c.args.p.now c.args.log.now) (at c.each.new.left c.each.new.p c.each.new.log) (list_trees c.args.es.now) (scope_of c.args.scope.now.items []) (exception_number (declared_in c.args.t.now).exceptions c.args.x.now) c.exception.result c.in_ok-vs.vs c.exception.ensures c.in_ok-vs.ensures.ran);
   left = c.in_ok-vs.ensures.left;
   extends = c.in_ok-vs.ensures.extends;
   same = tt;
