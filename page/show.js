@@ -36,85 +36,27 @@ const runs = lines(text('memories')).map((title, n) => {
 const now = { run: runs[0] || null, input: null, ran: null, after: null, isOurs: false, hasCounts: false, step: -1, memory: 'sdram', from: 0, bytes: null };
 const profileNow = () => (now.run ? now.run.profile : { steps: 0, labels: new Map() });
 
-// Which lines have an access or a raise, by what it does.
+// The words of the source that have a colour.
 const keywords = {
   word: /^(layout|exception|fun|and|let|if|else|unpack|pack|raise|try|handle|overlay|_|true|false)$/,
   type: /^(word|bool|packed|unpacked)$/,
   mem: /^(sram|sdram|scratch)$/,
 };
 const sourceLines = source.text.replace(/\n$/, '').split('\n');
-const offsetsOf = new Map();
-for (const it of source.plain.matchAll(/\b(sram|sdram|scratch)\s*(?:\[\s*(\w+)\s*\]\s*)?\(|\braise\s+(\w+)/g)) {
-  const key = it[3] ? 'raise ' + it[3] : it[2] ? 'read ' + it[1] + ' ' + Number(it[2]) : 'write ' + it[1];
-  offsetsOf.set(key, (offsetsOf.get(key) || []).concat(it.index));
-}
-function keyOf(it) {
-  if (it.op === 'halt') return it.exception > 0 ? 'raise ' + exceptions.get(it.exception) : 'the end';
-  if (it.kind.startsWith('spill') || it.op !== 'read' && it.op !== 'write') return '';
-  return it.op === 'read' ? 'read ' + it.memory + ' ' + it.count : 'write ' + it.memory;
-}
-// Where the access or the end of a place stands in the source, by the runs of the interpreter.
+// Where each place comes from: by the runs of the interpreter, or else what of the source may do such a thing. It is known where this is one line.
+const acts = actsOf(source, layouts);
 const linked = code.map(() => new Set());
 for (const run of runs) if (run.links) for (const [place, found] of run.links.places) for (const at of found) linked[place].add(at);
-// Where an instruction may come from: by a run, or since these are all that do such a thing. It is known where this is one line.
-const origins = code.map((it, place) => (linked[place].size > 0 ? [...linked[place]] : offsetsOf.get(keyOf(it)) || []));
+const origins = code.map((it, place) => (linked[place].size > 0 ? [...linked[place]] : actsFor(acts, it, exceptions, notes[place], forms)));
 const candidates = origins.map(found => [...new Set(found.map(source.lineAt))]);
-const placesOf = new Map();
-candidates.forEach((found, place) => {
-  if (found.length === 1) placesOf.set(found[0], (placesOf.get(found[0]) || []).concat(place));
-});
-
-// The functions of labels: the one that was in progress each time that the label was entered, or else those that its accesses come from.
-const labelNames = new Map();
-listing.labels.forEach(({ number, start }, n) => {
-  const sets = runs.flatMap(run => (run.links && run.links.labels.has(start) ? [run.links.labels.get(start)] : []));
-  const names = number === 0 ? ['main'] : sets.length > 0 ? [...sets[0]].filter(it => sets.every(set => set.has(it))) : [];
-  const end = n + 1 < listing.labels.length ? listing.labels[n + 1].start : code.length;
-  const found = new Set(origins.slice(start, end).flatMap(it => (it.length === 1 ? [source.functionAt(it[0])] : [])));
-  if (names.length === 1) labelNames.set(number, names[0]);
-  else if (found.size > 0 && found.size < 3) labelNames.set(number, 'with ' + [...found].join(', '));
-});
+// The places that come from a line, and those that may.
+const placesOf = new Map(), mayOf = new Map();
+candidates.forEach((found, place) => found.forEach(line => {
+  const of = found.length === 1 ? placesOf : mayOf;
+  of.set(line, (of.get(line) || []).concat(place));
+}));
+const labelNames = labelNamesOf(listing, source, runs, origins), valueNames = valueNamesOf(source, layouts, forms, notes, origins, exceptions);
 const labelTitle = number => 'L' + number + (labelNames.has(number) ? ' ' + labelNames.get(number) : '');
-
-// The names of values: of main's parameters, of what a `let` reads, and of what is written or raised.
-const valueNames = new Map();
-const nameValue = (value, title) => {
-  if (!value || !title) return;
-  const titles = valueNames.get(value) || [];
-  if (!titles.includes(title)) valueNames.set(value, titles.concat(title));
-};
-if (forms.has(0)) mainNames(source, forms.get(0).params.length).forEach((title, n) => nameValue(forms.get(0).params[n], title));
-notes.forEach((note, place) => {
-  if (!note || !note.row || origins[place].length !== 1) return;
-  const [found] = origins[place], { row } = note, root = forms.get(note.label).root;
-  if (row.op === 'read') namesAt(source, layouts, found, row.defines.length, 'read').forEach((title, n) => nameValue(row.defines[n], title));
-  if (row.op === 'write') namesAt(source, layouts, found, row.uses.length - 1, 'write').forEach((title, n) => nameValue(root(row.uses[n + 1]), title));
-  if (row.op === 'halt' && row.exception > 0) namesAt(source, layouts, found, row.uses.length, exceptions.get(row.exception)).forEach((title, n) => nameValue(root(row.uses[n]), title));
-});
-// A parameter of a label has the name that all words have which jumps hand on for it.
-function nameParams() {
-  const handed = [];
-  for (const form of forms.values()) {
-    for (const row of form.rows) if (row.op === 'jump' && forms.has(row.next)) forms.get(row.next).params.forEach((param, n) => handed.push([param, form.root(row.uses[n])]));
-  }
-  const names = new Map([...valueNames].map(([value, titles]) => [value, titles[0]])), isParam = new Set(handed.map(it => it[0]));
-  const users = new Map(handed.map(it => [it[1], []])), left = [];
-  for (const [param, value] of handed) {
-    users.get(value).push(param);
-    if (!isParam.has(value) && !names.has(value)) names.set(value, '');
-  }
-  left.push(...names.keys());
-  while (left.length > 0) {
-    const value = left.pop();
-    for (const param of users.get(value) || []) {
-      if (valueNames.has(param) || names.get(param) === '' || names.get(param) === names.get(value)) continue;
-      names.set(param, names.has(param) ? '' : names.get(value));
-      left.push(param);
-    }
-  }
-  for (const [value, title] of names) if (!valueNames.has(value)) nameValue(value, title);
-}
-nameParams();
 const titleOf = value => value + (valueNames.has(value) ? ' (' + valueNames.get(value).join(', ') + ')' : '');
 
 const banks = new Map(), bankNames = { M: 'slot', L: 'read register', W: 'write register', X: 'A15' };
@@ -134,7 +76,7 @@ function colouredCode(it) {
   return it.words.map((word, n) => {
     const register = NUMBER.get(word);
     if (n === 0) return '<span class="word">' + word + '</span>';
-    if (register !== undefined && register !== NONE) return '<span class="r ' + bankOf(register) + '" data-r="' + word + '">' + word + '</span>';
+    if (register !== undefined && register !== NONE) return '<span class="r ' + bankOf(register) + '">' + word + '</span>';
     return keywords.mem.test(word) ? '<span class="mem">' + word + '</span>' : safe(word);
   }).join(' ');
 }
@@ -143,27 +85,25 @@ const sorted = found => [...found].sort((x, y) => x.slice(1) - y.slice(1));
 const formText = it => safe(it).replace(/\bv[0-9]+\b/g, value => '<span data-v="' + value + '">' + value + '</span>');
 function formRow(words, depth, found) {
   const count = found ? found.size : 0;
-  const bar = found ? '<i class="' + (count > 30 ? 'over' : '') + '" style="width:' + Math.min(100, count * 100 / 30) + '%"></i><b>' + count + '</b>' : '';
-  return '<div class="row point"' + (found ? ' data-live="' + sorted(found).join(' ') + '"' : '') + '><span class="n"></span><span class="h">' + bar + '</span><span class="t">' + '  '.repeat(depth) + formText(words) + '</span></div>';
+  const bar = found ? '<span class="h' + (count > 30 ? ' over' : '') + '" style="--w:' + Math.min(100, count * 100 / 30) + '%">' + count : '<span class="h">';
+  return '<div class="row point"' + (found ? ' data-live="' + sorted(found).join(' ') + '"' : '') + '><span class="n"></span>' + bar + '</span><span class="t">' + '  '.repeat(depth) + formText(words) + '</span></div>';
 }
 const formRows = form => [formRow(form.text, 0, form.live), ...form.rows.map(row => formRow(row.text, row.depth, row.live))];
-// The colour of the edge of a line and of its instructions.
-const hueOf = line => line * 67 % 360;
+// The edge of a line and of its instructions: one colour for what is tied, dots for what may be.
+const edgeOf = (line, isPerhaps) => (line ? ' tied" style="--t:' + line * 67 % 360 : isPerhaps ? ' may' : '');
+// The rows of each label stand in a box of their own, which a browser leaves out of the layout while it is far away.
 function codeRows(hasForm) {
-  const out = [];
-  let next = 0;
-  code.forEach((it, place) => {
-    for (; next < listing.labels.length && listing.labels[next].start === place; next += 1) {
-      const number = listing.labels[next].number, form = forms.get(number);
-      out.push('<div class="row label" data-label="' + number + '">' + safe(labelTitle(number)) + ':<small></small></div>');
-      if (form && hasForm) out.push(...formRows(form));
+  return listing.labels.map(({ number, start }, n) => {
+    const end = n + 1 < listing.labels.length ? listing.labels[n + 1].start : code.length, form = forms.get(number), rows = form && hasForm ? formRows(form) : [];
+    for (let place = start; place < end; place += 1) {
+      const it = code[place], found = candidates[place];
+      rows.push('<div class="row ' + kindName(it.kind) + edgeOf(found.length === 1 && found[0], found.length > 1) + '" id="i' + place + '" data-place="' + place + '"><a href=#i' + place + '>' + place
+        + '</a><span class="h"></span><span class="t">' + colouredCode(it) + '</span></div>');
     }
-    out.push('<div class="row ' + kindName(it.kind) + (candidates[place].length === 1 ? ' tied" style="--t:' + hueOf(candidates[place][0]) : '') + '" id="i' + place + '" data-place="' + place + '"><a href=#i' + place + '>' + place
-      + '</a><span class="h"><i></i><b></b></span><span class="t">' + colouredCode(it) + '</span></div>');
-  });
-  return out.join('');
+    return '<div class="group" style="--n:' + (rows.length + 1) + '"><div class="row label" data-label="' + number + '">' + safe(labelTitle(number)) + ':<small></small></div>' + rows.join('') + '</div>';
+  }).join('');
 }
-put('source-rows', sourceLines.map((line, n) => '<div class="row' + (placesOf.has(n + 1) ? ' tied" style="--t:' + hueOf(n + 1) : '') + '" id="L' + (n + 1) + '" data-line="' + (n + 1) + '"><a href=#L' + (n + 1) + '>' + (n + 1)
+put('source-rows', sourceLines.map((line, n) => '<div class="row' + edgeOf(placesOf.has(n + 1) && n + 1, mayOf.has(n + 1)) + '" id="L' + (n + 1) + '" data-line="' + (n + 1) + '"><a href=#L' + (n + 1) + '>' + (n + 1)
   + '</a><span class="h"></span><span class="t">' + (coloured(line) || ' ') + '</span></div>').join(''));
 put('code-rows', codeRows(false));
 const rowOf = place => at('i' + place);
@@ -203,7 +143,7 @@ function placeTip(place) {
   out.push(...reasons(place));
   out.push('Live before it: ' + inA + ' of 15 in A, ' + inB + ' of 15 in B.');
   const found = candidates[place], isSeen = linked[place].size > 0;
-  if (found.length > 0) out.push(found.length > 1 ? 'From one of the lines ' + found.join(', ') + '.' : 'From line ' + found[0] + ' of the source, ' + (isSeen ? 'as the interpreter noted in the run.' : 'the only one that does this.'));
+  if (found.length > 0) out.push(found.length > 1 ? 'From one of the lines ' + found.join(', ') + '.' : 'From line ' + found[0] + ' of the source, ' + (isSeen ? 'as the interpreter noted in the run.' : 'the only one that may do this.'));
   if (now.hasCounts) out.push('Ran ' + several(now.ran.counts[place], 'time') + '.');
   const isNow = now.hasCounts && now.ran.places[now.step] === place;
   for (const r of new Set([...it.reads, ...it.writes])) {
@@ -218,15 +158,21 @@ function valueTip(value) {
   const said = { 'A': 'is put into bank A', 'B': 'is put into bank B', 'A copied': 'is copied into bank A, which costs 1', 'B copied': 'is copied into bank B, which costs 1' };
   return titleOf(value) + ' ' + homes.map(home => said[home] || 'is put into a ' + home).join(', and ') + '. Costs are times the weight of the label, here 1.' + alternatives(value);
 }
-const tieOf = place => (linked[place].size === 1 ? keyOf(code[place]) + ' ' + [...linked[place]][0] : keyOf(code[place]));
+const keyAt = place => keyOf(code[place], exceptions), tieOf = place => (linked[place].size === 1 ? keyAt(place) + ' ' + [...linked[place]][0] : keyAt(place));
+const atPlaces = places => (places.length > 1 ? 'at the places ' : 'at place ') + places.join(', ');
+const act = key => (key.startsWith('raise') ? 'the end by ' + key : key);
 function lineTip(line) {
-  const places = placesOf.get(line);
-  if (!places) return '';
-  return [...new Set(places.map(tieOf))].map(tie => {
-    const of = places.filter(place => tieOf(place) === tie), key = keyOf(code[of[0]]), what = key.startsWith('raise') ? 'the end by ' + key : key;
+  const places = placesOf.get(line) || [], others = mayOf.get(line) || [];
+  const out = [...new Set(places.map(tieOf))].map(tie => {
+    const of = places.filter(place => tieOf(place) === tie);
     const times = now.hasCounts ? ' ran ' + several(of.reduce((sum, place) => sum + now.ran.counts[place], 0), 'time') + ', ' : ' ';
-    return what + times + (of.length > 1 ? 'at the places ' : 'at place ') + of.join(', ');
-  }).join('\n');
+    return act(keyAt(of[0])) + times + atPlaces(of);
+  });
+  for (const lines of new Set(others.map(place => candidates[place].join(', ')))) {
+    const of = others.filter(place => candidates[place].join(', ') === lines);
+    out.push(act(keyAt(of[0])) + ' ' + atPlaces(of) + ', from one of the lines ' + lines);
+  }
+  return out.join('\n');
 }
 
 // Counts beside the code, its labels and the source.
@@ -235,8 +181,9 @@ function showCounts() {
   document.body.classList.toggle('uncounted', !now.hasCounts);
   code.forEach((_, place) => {
     const cell = rowOf(place).children[1];
-    cell.firstChild.style.width = now.hasCounts ? Math.ceil(100 * counts[place] / most) + '%' : '0';
-    cell.lastChild.textContent = now.hasCounts && counts[place] > 0 ? counts[place] : '';
+    const isShown = now.hasCounts && counts[place] > 0;
+    if (isShown || cell.firstChild) cell.textContent = isShown ? counts[place] : '';
+    if (isShown || cell.style.length > 0) cell.style.setProperty('--w', isShown ? Math.ceil(100 * counts[place] / most) + '%' : '0');
   });
   for (const it of labelCounts(listing, counts)) {
     const told = profileNow().labels.get(it.number) || { entries: 0, steps: 0 };
@@ -251,11 +198,16 @@ function showCounts() {
 }
 
 // Which rows belong together.
-function light(line, places, scroll) {
+function light(lines, places, scroll) {
   all('.row.lit').forEach(it => it.classList.remove('lit'));
-  if (line) lineRow(line).classList.add('lit');
+  lines.forEach(line => lineRow(line).classList.add('lit'));
   places.forEach(place => rowOf(place).classList.add('lit'));
   if (scroll) scroll.scrollIntoView({ block: 'nearest' });
+}
+const lightPlace = (place, isFar) => light(candidates[place], [place], isFar && candidates[place].length > 0 && lineRow(candidates[place][0]));
+function lightLine(line, isFar) {
+  const places = [...(placesOf.get(line) || []), ...(mayOf.get(line) || [])];
+  light(places.length > 0 ? [line] : [], places, isFar && places.length > 0 && rowOf(places[0]));
 }
 function showTip(words, event) {
   at('tip').hidden = words === '';
@@ -267,37 +219,37 @@ function showTip(words, event) {
 }
 function pointAt(event) {
   const find = name => event.target.closest('[data-' + name + ']');
-  const value = find('v'), register = find('r'), place = find('place'), line = find('line'), point = find('live');
+  const value = find('v'), register = event.target.closest('.t .r'), place = find('place'), line = find('line'), point = find('live');
   all('.r.same').forEach(it => it.classList.remove('same'));
-  if (register) all('.r[data-r="' + register.dataset.r + '"]').forEach(it => it.classList.add('same'));
+  if (register) all('#code-rows .r').forEach(it => it.classList.toggle('same', it.textContent === register.textContent));
   if (value) return showTip(valueTip(value.dataset.v), event);
   if (point) return showTip(several(point.dataset.live.split(' ').filter(it => it).length, 'value') + ' live: ' + point.dataset.live.split(' ').map(titleOf).join(', '), event);
   if (place) {
     const n = Number(place.dataset.place);
-    light(candidates[n].length === 1 ? candidates[n][0] : 0, [n]);
+    lightPlace(n);
     return showTip(placeTip(n), event);
   }
   if (line) {
     const n = Number(line.dataset.line);
-    light(placesOf.has(n) ? n : 0, placesOf.get(n) || []);
+    lightLine(n);
     return showTip(lineTip(n), event);
   }
-  light(0, []);
+  light([], []);
   return showTip('', event);
 }
 for (const id of ['source-rows', 'code-rows', 'values']) {
   on(at(id), 'mousemove', pointAt);
-  on(at(id), 'mouseleave', event => { light(0, []); showTip('', event); });
+  on(at(id), 'mouseleave', event => { light([], []); showTip('', event); });
 }
 on(at('source-rows'), 'click', event => {
-  const row = event.target.closest('[data-line]'), places = row ? placesOf.get(Number(row.dataset.line)) : null;
-  if (places) light(Number(row.dataset.line), places, rowOf(places[0]));
+  const row = event.target.closest('[data-line]');
+  if (row) lightLine(Number(row.dataset.line), true);
 });
 on(at('code-rows'), 'click', event => {
   const row = event.target.closest('[data-place]');
   if (!row) return;
   const place = Number(row.dataset.place), step = now.hasCounts ? now.ran.places.indexOf(place) : -1;
-  if (candidates[place].length === 1) light(candidates[place][0], [place], lineRow(candidates[place][0]));
+  lightPlace(place, true);
   if (step >= 0) goTo(step);
 });
 on(at('with-form'), 'change', () => {

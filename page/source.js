@@ -10,7 +10,7 @@ function readSource(text) {
   const functions = [...plain.matchAll(/\b(?:fun|and)\s+(\w+)\s*\[/g)].map(it => ({ name: it[1], from: it.index }));
   const lineAt = at => starts.filter(it => it <= at).length;
   const functionAt = at => (functions.filter(it => it.from <= at).pop() || { name: '' }).name;
-  return { text, plain, functions, decoded, lineAt, functionAt };
+  return { text, plain, functions, tails: tailsOf(plain), decoded, lineAt, functionAt };
 }
 
 // The place behind the bracket that closes the one at a place.
@@ -22,6 +22,59 @@ function behind(plain, at) {
     if (depth === 0) return n + 1;
   }
   return plain.length;
+}
+
+// The place where the expression that begins at a place ends: at a `;`, an `else` or a closing bracket that stands in no other.
+function endOf(plain, at) {
+  const ends = /[;,)\]}]|\belse\b|[([{]/g;
+  ends.lastIndex = at;
+  for (let found = ends.exec(plain); found; found = ends.exec(plain)) {
+    if (!'([{'.includes(found[0])) return found.index;
+    ends.lastIndex = behind(plain, found.index);
+  }
+  return plain.length;
+}
+
+// The last expressions of `main`, one of which is the result of a run that ends.
+function tailsOf(plain) {
+  const out = [], skip = at => at + /^\s*/.exec(plain.slice(at))[0].length, matched = (form, at) => form.exec(plain.slice(at, at + 400));
+  // Both give the place behind what they read.
+  const block = start => {
+    let at = skip(start);
+    for (;;) {
+      const isLet = matched(/^let\b/, at), store = matched(/^(?:sram|sdram|scratch)\s*\(/, at);
+      const value = isLet ? at : store ? behind(plain, at + store[0].length - 1) : -1;
+      if (value < 0 || store && !matched(/^\s*<-/, value)) return tail(at);
+      at = skip(statementEnd(value) + 1);
+    }
+  };
+  const statementEnd = start => {
+    for (let at = endOf(plain, start); ; at = endOf(plain, at + 4)) if (plain[at] !== 'e') return at;
+  };
+  const tail = start => {
+    const at = skip(start), word = (matched(/^(?:if|raise|try)\b/, at) || [''])[0];
+    const opened = (from, open) => plain.indexOf(open, from);
+    if (word === 'if') {
+      const next = skip(block(behind(plain, opened(at, '('))));
+      return plain.startsWith('else', next) ? block(next + 4) : next;
+    }
+    if (word === 'raise') return behind(plain, opened(at, '['));
+    if (word === 'try') {
+      const body = opened(at, '{'), handler = opened(behind(plain, opened(behind(plain, body), '[')), '{');
+      block(body + 1);
+      block(handler + 1);
+      return behind(plain, handler);
+    }
+    const end = endOf(plain, at), inner = plain.slice(at, end).trimEnd();
+    if (inner[0] === '(' && behind(inner, 0) === inner.length && partsOf(inner.slice(1, -1)).length === 1) block(at + 1);
+    else out.push({ from: at, to: at + inner.length });
+    return end;
+  };
+  const main = /\b(?:fun|and)\s+main\s*\[/.exec(plain), params = main ? behind(plain, main.index + main[0].length - 1) : 0;
+  // The result's type may be a record.
+  const type = main ? /^\s*:\s*/.exec(plain.slice(params)) : null, first = type ? params + type[0].length : 0;
+  if (type) block(plain.indexOf('{', plain[first] === '{' || plain[first] === '(' ? behind(plain, first) : first) + 1);
+  return out;
 }
 
 // The parts of a text between commas that stand in no bracket.
@@ -93,7 +146,10 @@ function linksOf(code, source, ran, events, mostEvents, exceptions) {
   if (!events.hasAll) return links;
   const end = code[ran.last], raised = end.op === 'halt' && end.exception > 0 ? raiseAt(source, source.decoded(events.last), exceptions.get(end.exception)) : null;
   if (raised) tie(ran.last, raised.index);
-  else if (end.op === 'halt' && end.exception === 0 || ran.fault && ran.fault.isWrite) tie(ran.last, source.decoded(events.here));
+  else if (end.op === 'halt' && end.exception === 0 || ran.fault && ran.fault.isWrite) {
+    const here = source.decoded(events.here), found = source.tails.find(it => it.from <= here && here < it.to);
+    tie(ran.last, end.op === 'halt' && found ? found.from : here);
+  }
   const between = functionsBetween(events, source.functions.map(it => it.name));
   let done = 0;
   ran.places.forEach((place, step) => {

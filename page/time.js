@@ -18,11 +18,12 @@ function goTo(step) {
   all('.row.at').forEach(it => it.classList.remove('at'));
   const row = rowOf(place), pane = row.closest('.scroll');
   row.classList.add('at');
-  pane.scrollTop = Math.max(0, row.offsetTop - pane.clientHeight / 2);
+  const topIn = (it, box) => it.getBoundingClientRect().top - box.getBoundingClientRect().top + box.scrollTop;
+  pane.scrollTop = Math.max(0, topIn(row, pane) - pane.clientHeight / 2);
   if (candidates[place].length === 1) {
-    const line = lineRow(candidates[place][0]), source = line.closest('.scroll');
+    const line = lineRow(candidates[place][0]), source = line.closest('.scroll'), top = topIn(line, source);
     line.classList.add('at');
-    if (line.offsetTop < source.scrollTop || line.offsetTop + 24 > source.scrollTop + source.clientHeight) source.scrollTop = Math.max(0, line.offsetTop - source.clientHeight / 2);
+    if (top < source.scrollTop || top + 24 > source.scrollTop + source.clientHeight) source.scrollTop = Math.max(0, top - source.clientHeight / 2);
   }
   const written = [...new Set(code[place].writes)].map(r => REGISTERS[r] + ' = ' + hex(wordAt(r, now.step)));
   const rest = now.ran.steps === now.ran.places.length ? '' : ' (the first ' + now.ran.places.length + ' are shown)';

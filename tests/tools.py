@@ -506,6 +506,7 @@ def page_as_made(top):
     """The texts of crates/nova_page are those of page/, whose scripts are read by node, where it is installed."""
     make = module(top, "page/make")
     found = [f"{name} is to be written again by page/make" for name, text in make.files(top).items() if read(top, f"crates/nova_page/src/{name}") != text]
+    found += [] if make.is_script(read(top, "crates/nova_page/src/script.rt"), top) else ["script.rt is to be written again by page/make"]
     if not shutil.which("node"):
         return found
     scripts = [os.path.join("page", it) for it in [*(f"{name}.js" for name in make.SCRIPTS), "test.js"]]

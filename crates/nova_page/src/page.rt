@@ -1,16 +1,10 @@
 //! What comes before the texts of a page, its texts, and what comes behind them.
 
-use crate::engine::push_engine;
+use crate::end::push_end;
 use crate::frame::push_frame;
 use crate::head::push_head;
-use crate::memory::push_memory;
-use crate::moves::push_moves;
-use crate::packet::push_packet;
-use crate::show::push_show;
-use crate::source::push_source;
+use crate::script::push_script;
 use crate::style::push_style;
-use crate::time::push_time;
-use crate::values::push_values;
 use nv_lines::Message;
 
 /// Appends what comes before the texts of a page.
@@ -101,18 +95,9 @@ fn push_front(out: &mut Message, id: &str, number: usize) {
 
 /// Appends the script that shows the texts of a page, and the end of the page.
 pub fn push_page_end(out: &mut Message) {
-    out.line("<script>");
-    push_engine(out);
-    push_packet(out);
-    push_source(out);
-    push_values(out);
-    push_show(out);
-    push_moves(out);
-    push_memory(out);
-    push_time(out);
-    out.line("</script>");
-    out.line("</body>");
-    out.line("</html>")
+    out.line("<script id=\"packed\" type=\"text/plain\">");
+    push_script(out);
+    push_end(out)
 }
 
 fn push_escaped(out: &mut Message, text: &[u8]) {
