@@ -10,4 +10,3 @@ pub mod LeftOut
 pub mod Cheapest
 pub mod Unmade
 pub mod Started
-pub mod Counted

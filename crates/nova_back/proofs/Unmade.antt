@@ -7,7 +7,6 @@ use Rattle.bank_prog.specs.declared.error.BankError.{BankError}
 use Rattle.bank_prog.specs.declared.error.BankError.TheVariants as bank
 use Rattle.bank_prog.proofs.FewRows.{large_few}
 use Rattle.nova_back.specs.Causes.{IsCause}
-use Rattle.nova_back.specs.Memory.{IsWithinBound}
 use Rattle.nova_back.specs.declared.error.BackError.{BackError}
 use Rattle.nova_back.specs.inner.Search.{IsUnbuilt, IsUnfound}
 use Rattle.nova_back.specs.inner.Unbuilt.{of_bank}
@@ -42,8 +41,3 @@ one-number labels slots m n (inr a) (inr b) = a.1.0 ∙ sym b.1.0
 pub told : (labels : List Label) (slots : ℕ) (e : BankError) → TellsLarge labels slots e → (n : ℕ) → IsTooLarge labels slots n → (of_bank e ≡ back.NoMemory) ⊎ (of_bank e ≡ back.TooLarge n)
 told labels slots bank.NoMemory many n large = inl refl
 told labels slots (bank.TooLarge m) many n large = inr (ap back.TooLarge (one-number labels slots m n (many m refl) large))
-
--- a form above the bound on memory is refused as out of memory
-pub bounded-told : (labels : List Label) (e : BankError) → (e ≡ bank.NoMemory) ⊎ IsWithinBound labels → (of_bank e ≡ back.NoMemory) ⊎ IsWithinBound labels
-bounded-told labels e (inl n) = inl (ap of_bank n)
-bounded-told labels e (inr w) = inr w

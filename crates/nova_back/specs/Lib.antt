@@ -1,5 +1,4 @@
 pub mod LeftOut
 pub mod Placed
 pub mod Causes
-pub mod Memory
 pub mod inner

@@ -1,4 +1,3 @@
-pub mod Lengths
 pub mod Paired
 pub mod Search
 pub mod Unbuilt

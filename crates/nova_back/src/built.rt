@@ -10,14 +10,12 @@ ghost use Rattle.bank_prog.specs.Weighted.{weighted_costs};
 ghost use Rattle.bank_prog_form.specs.Program.{rows, IsTooLarge};
 ghost use Rattle.uc_isa.specs.Moves.{moves};
 ghost use Rattle.nova_back.specs.Causes.{IsCodeOf, AreStartsOf, IsReportOn, HasVector, IsCheapFor, IsCause, report_cost};
-ghost use Rattle.nova_back.specs.Memory.{IsWithinBound};
 ghost use Rattle.nova_back.specs.Placed.{IsPlacedBy};
 ghost use Rattle.nova_back.specs.inner.Search.{IsChoice};
 
 use crate::choice::choice_of;
 use crate::error::BackError;
-use crate::memory::bounded_tables_of;
-use bank_prog::BankTables;
+use bank_prog::{BankTables, bank_tables_of};
 use nv_base::NoMemory;
 use place_weights::Weights;
 use reg_assign::assign_by;
@@ -75,8 +73,7 @@ fn code_of(
 ///
 /// # Errors
 ///
-/// The size of the program is looked at first, then whether the search found a choice, and last how long the code is. A form that needs more
-/// memory than `MEMORY_BOUND` by `need_of` is refused as out of memory before its columns are made.
+/// The size of the program is looked at first, then whether the search found a choice, and last how long the code is.
 pub fn back(
     alloc: Global,
     s: Ssu,
@@ -104,7 +101,6 @@ pub fn back(
     ensures cheap { peak (labels_view s) ≤ 15 → IfOk result (λ b. IsCheapFor (labels_view s) w.now (report_cost b.report)) }
     ensures few { IfOk result (λ _. length (columns (labels_view s)) ≤ 2 ^ 26) }
     ensures few_rows { IfOk result (λ _. length (rows (labels_view s) slots) ≤ 2 ^ 26) }
-    ensures bounded { MatchResult result (λ _. IsWithinBound (labels_view s)) (λ e. (e ≡ BackError.NoMemory) ⊎ IsWithinBound (labels_view s)) }
     ensures refused { IfErr result (λ e. (e ≡ BackError.NoMemory) ⊎ IsCause (labels_view s) slots w.now budget store e) }
     ensures only_large { (n : ℕ) → IsTooLarge (labels_view s) slots n → MatchResult result (λ _. ⊥) (λ e. (e ≡ BackError.NoMemory) ⊎ (e ≡ BackError.TooLarge n)) }
 {
@@ -142,11 +138,10 @@ pub fn back_within(
     ensures cheap { peak (labels_view s) ≤ 15 → IfOk result (λ b. IsCheapFor (labels_view s) w.now (report_cost b.report)) }
     ensures few { IfOk result (λ _. length (columns (labels_view s)) ≤ 2 ^ 26) }
     ensures few_rows { IfOk result (λ _. length (rows (labels_view s) slots) ≤ 2 ^ 26) }
-    ensures bounded { MatchResult result (λ _. IsWithinBound (labels_view s)) (λ e. (e ≡ BackError.NoMemory) ⊎ IsWithinBound (labels_view s)) }
     ensures refused { IfErr result (λ e. (e ≡ BackError.NoMemory) ⊎ IsCause (labels_view s) slots w.now budget store e) }
     ensures only_large { (n : ℕ) → IsTooLarge (labels_view s) slots n → MatchResult result (λ _. ⊥) (λ e. (e ≡ BackError.NoMemory) ⊎ (e ≡ BackError.TooLarge n)) }
 {
-    let bank = bounded_tables_of(alloc, &s)?;
+    let bank = bank_tables_of(alloc, &s)?;
     let report = choice_of(alloc, &bank, slots, budget, work, w)?;
     let emitted = code_of(alloc, &bank, slots, &report.x)?;
     let instructions = emitted.code.list().len();

@@ -4,11 +4,9 @@
 mod built;
 mod choice;
 mod error;
-mod memory;
 mod paired;
 mod search;
 mod start;
 
 pub use built::{Built, back, back_within};
 pub use error::BackError;
-pub use memory::{MEMORY_BOUND, Need, need_of};

@@ -8,7 +8,6 @@ ghost use Rattle.ssu_ir.specs.View.{labels_view};
 ghost use Rattle.uc_isa.specs.Moves.{moves};
 ghost use Rattle.zo_model.specs.Program.{vector};
 ghost use Rattle.nova_back.specs.Causes.{IsCodeOf, AreStartsOf, IsReportOn, HasVector, IsCheapFor, report_cost};
-ghost use Rattle.nova_back.specs.Memory.{IsWithinBound};
 ghost use Rattle.nova_back.specs.Placed.{IsPlacedBy};
 ghost use Rattle.nova_compile.specs.Sources.{IsTypedSource};
 ghost use Rattle.nova_compile.specs.Building.{IsCompileCause, IsFormCause, IsTextCause};
@@ -134,7 +133,6 @@ pub fn compile_text(
     // Where all live values at once fit a bank, at most two copies a value and one a use, each times the greatest weight.
     ensures cheap { IfOk result (λ t. peak (labels_view t.built.ssu) ≤ 15 → IsCheapFor (labels_view t.built.ssu) w.now (report_cost t.built.report)) }
     ensures banks { IfOk result (λ t. HasBanks (typed_program t.typed) slots w.now budget t.built.code t.built.starts.items t.built.report) }
-    ensures bounded { IfOk result (λ t. IsWithinBound (labels_view t.built.ssu)) }
     ensures only_program { (p : ProgramTree) → IsTypedSource bytes.now p → MatchResult result (λ t. typed_program t.typed ≡ p) (λ e. (e ≡ CompileError.NoMemory) ⊎ IsFormCause p slots w.now budget store e) }
     ensures refused { IfErr result (λ e. (e ≡ CompileError.NoMemory) ⊎ IsCompileCause bytes.now slots w.now budget store e) }
     ensures only_refused { (f : CompileError) → IsTextCause bytes.now f → MatchResult result (λ _. ⊥) (λ e. (e ≡ CompileError.NoMemory) ⊎ (e ≡ f)) }
@@ -172,7 +170,6 @@ pub fn compile_text_within(
     // Where all live values at once fit a bank, at most two copies a value and one a use, each times the greatest weight.
     ensures cheap { IfOk result (λ t. peak (labels_view t.built.ssu) ≤ 15 → IsCheapFor (labels_view t.built.ssu) w.now (report_cost t.built.report)) }
     ensures banks { IfOk result (λ t. HasBanks (typed_program t.typed) slots w.now budget t.built.code t.built.starts.items t.built.report) }
-    ensures bounded { IfOk result (λ t. IsWithinBound (labels_view t.built.ssu)) }
     ensures only_program { (p : ProgramTree) → IsTypedSource bytes.now p → MatchResult result (λ t. typed_program t.typed ≡ p) (λ e. (e ≡ CompileError.NoMemory) ⊎ IsFormCause p slots w.now budget store e) }
     ensures refused { IfErr result (λ e. (e ≡ CompileError.NoMemory) ⊎ IsCompileCause bytes.now slots w.now budget store e) }
     ensures only_refused { (f : CompileError) → IsTextCause bytes.now f → MatchResult result (λ _. ⊥) (λ e. (e ≡ CompileError.NoMemory) ⊎ (e ≡ f)) }

@@ -47,8 +47,8 @@ Without a line the output itself failed. Then what was saved stays.
                 name: "status 5",
                 text: r#"status 5: out of memory
 
-Nothing is printed, and no file was changed. `compile` and `gen` also end so, at once, where the choice of registers needs over 2 GiB by an
-estimate: the source has hundreds of values live at hundreds of points. To have fewer live at a time, read them later or store them earlier.
+Nothing is printed, and no file was changed. A source with hundreds of values live at hundreds of points may take two gigabytes and a
+minute. To have fewer live at a time, read them later or store them earlier.
 "#,
             },
             Page {

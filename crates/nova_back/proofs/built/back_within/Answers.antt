@@ -13,7 +13,7 @@ use Rattle.nova_back.specs.Placed.{IsPlacedBy}
 use Rattle.nova_back.specs.inner.Search.{IsUnfound}
 use Rattle.nova_back.specs.declared.error.BackError.TheVariants as back
 use Rattle.nova_back.proofs.Reported.{choice-of-report, code-by, light_by}
-use Rattle.nova_back.proofs.Unmade.{bounded-told, caused, told, unfound-caused}
+use Rattle.nova_back.proofs.Unmade.{caused, told, unfound-caused}
 use Rattle.nova_back.proofs.built.back_within.Goals as goal
 
 pub choice_of-requires-clause-single : goal.choice_of-requires-clause-single
@@ -73,16 +73,6 @@ pub returns-in_err-bank-clause-only_large : goal.returns-in_err-bank-clause-only
 returns-in_err-bank-clause-only_large c =
     let p = err_from_is_err_and c.from_residual.result c.from_residual.ensures.1 in
     rw (p.1, p.2) (told (labels_view c.args.s) c.args.slots c.in_err-bank.field-0.0 (λ n e. inl (c.in_err-bank.ensures.many n (ap Err e))))
-
-pub returns-in_err-bank-clause-bounded : goal.returns-in_err-bank-clause-bounded
-returns-in_err-bank-clause-bounded c =
-    let p = err_from_is_err_and c.from_residual.result c.from_residual.ensures.1 in
-    rw (p.1, p.2) (bounded-told (labels_view c.args.s) c.in_err-bank.field-0.0 c.in_err-bank.ensures.bounded)
-
-pub returns-in_err-report-clause-bounded : goal.returns-in_err-report-clause-bounded
-returns-in_err-report-clause-bounded c =
-    let p = err_from_is_err_and c.from_residual-in_err-report.result c.from_residual-in_err-report.ensures.1 in
-    rw (p.1) (inr c.in_ok-bank.ensures.bounded)
 
 pub returns-in_err-report-clause-refused : goal.returns-in_err-report-clause-refused
 returns-in_err-report-clause-refused c =

@@ -58,9 +58,6 @@ returns-clause-cheap c = rw c.in_ok-built.ensures.form c.in_ok-built.ensures.che
 pub returns-clause-placed : goal.returns-clause-placed
 returns-clause-placed c = rw c.in_ok-built.ensures.form c.in_ok-built.ensures.placed
 
-pub returns-clause-bounded : goal.returns-clause-bounded
-returns-clause-bounded c = rw c.in_ok-built.ensures.form c.in_ok-built.ensures.bounded
-
 pub returns-clause-banks : goal.returns-clause-banks
 returns-clause-banks c =
     let form : IsBoundedFormOf (typed_program c.in_ok-typed.typed) (labels_view c.in_ok-form.form) = form-of _ c.in_ok-typed.flat.funs.items c.in_ok-typed.flat.main _ c.in_ok-typed.flat.formed c.in_ok-typed.ensures.kept c.in_ok-typed.ensures.wide c.in_ok-typed.ensures.bulk c.in_ok-form.ensures.single c.in_ok-form.ensures.kept c.in_ok-form.ensures.peak c.in_ok-form.ensures.size c.in_ok-form.ensures.code c.in_ok-form.ensures.made in
