@@ -1,3 +1,3 @@
-pub mod Answered
+pub mod Readings
 pub mod Sent
 pub mod Ids

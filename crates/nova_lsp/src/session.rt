@@ -47,7 +47,7 @@ impl Session {
         }
     }
 
-    #[tactic(auto, using(crate::proofs::Answered::of_read, crate::proofs::Answered::of_unread))]
+    #[tactic(auto, using(crate::proofs::Readings::of_read, crate::proofs::Readings::of_unread))]
     /// What is sent for a message with this content.
     pub fn respond(&mut self, alloc: Global, content: &[u8]) -> Reply
         // A message gets the one answer that it wants, or none.
@@ -69,7 +69,7 @@ impl Session {
         }
     }
 
-    #[tactic(auto, using(crate::proofs::Answered::same_wanted))]
+    #[tactic(auto, using(crate::proofs::Readings::same_wanted))]
     fn respond_to(&mut self, alloc: Global, message: &Value) -> Reply
         ensures { IsReply (wanted_id (view message.now)) result }
     {
