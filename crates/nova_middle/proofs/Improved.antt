@@ -41,6 +41,13 @@ pub if_equal : (f g : List Label) (r : Result Flow NoMemory) → Equal f g → I
 if_equal f g (Ok h) e params equal = (equal_trans f g (map label_view h.labels.items) e (record { params = params; equal = equal })).equal
 if_equal f g (Err e') e params equal = tt
 
+pub if_kept : (f g : List Label) (r : Result Flow NoMemory) → KeepsOutcomes (flow_params f) (flow_params g) (flow_meaning f) (flow_meaning g) → IfOk r (λ h. flow_params (map label_view h.labels.items) ≡ flow_params g)
+    → IfOk r (λ h. AreEqual (flow_params g) (flow_meaning g) (flow_meaning (map label_view h.labels.items))) → IfOk r (λ h. KeepsOutcomes (flow_params f) (flow_params (map label_view h.labels.items)) (flow_meaning f) (flow_meaning (map label_view h.labels.items)))
+if_kept f g (Ok h) kept params equal =
+    keeps-trans (flow_params f) (flow_params g) (flow_params (map label_view h.labels.items)) (flow_meaning f) (flow_meaning g) (flow_meaning (map label_view h.labels.items)) kept
+    (equal_kept (flow_params g) (flow_params (map label_view h.labels.items)) (flow_meaning g) (flow_meaning (map label_view h.labels.items)) params equal)
+if_kept f g (Err e) kept params equal = tt
+
 -- ---- reduced flows
 
 pub if_reduced : (r : Result Flow NoMemory) → IfOk r (λ g. AreMerged (map label_view g.labels.items)) → IfOk r (λ g. AreReachable (map label_view g.labels.items)) → IfOk r (λ g. AllWanted (map label_view g.labels.items)) → IfOk r (λ g. All IsAtRest (map label_view g.labels.items)) → IfOk r (λ g. AreTidy (map label_view g.labels.items))

@@ -1,8 +1,8 @@
 -- Along a spine, from its end up.
-use Rattle.std.proofs.Common.{◌≡◌, ℕ, ◌+◌, ◌<◌, ◌≤◌, max, true, List, [], ◌∷◌, ◌++◌, refl, sym, ap, subst, ◌∙◌, map, reverse, length, take, get_or, All, arith, Result, Ok, Err, IfOk}
+use Rattle.std.proofs.Common.{◌≡◌, ℕ, ◌+◌, ◌<◌, ◌≤◌, max, true, List, [], ◌∷◌, ◌++◌, refl, sym, ap, subst, ◌∙◌, map, length, take, get_or, All, arith, Result, Ok, Err, IfOk}
 use Rattle.std.specs.Borrow.{Bor}
 use Rattle.std.proofs.lemmas.Bool.{false≢true}
-use Rattle.std.proofs.lemmas.List.{reverse-append, map_more}
+use Rattle.std.proofs.lemmas.List.{map_more}
 use Rattle.smallvec.specs.SmallVec.{SmallVec}
 use Rattle.nv_base.specs.declared.error.NoMemory.{NoMemory}
 use Rattle.nv_base.specs.declared.term.Atom.{Atom}
@@ -14,15 +14,10 @@ use Rattle.flow_ir.specs.declared.flow.Tree.{Tree as Boxed, size-Tree}
 use Rattle.flow_ir.specs.Tree.{Tree, Let, Read, Write, If, Jump, Halt, Label}
 use Rattle.flow_ir.specs.View.{tree_view, label_view}
 use Rattle.flow_ir.specs.Wide.{label_wide, wide}
+use Rattle.ssu_make.specs.inner.Making.{tops}
+use Rattle.ssu_make.proofs.Turns.{tops-last}
 use Rattle.nova_middle.specs.declared.parts.Part.{Part}
-use Rattle.nova_middle.specs.inner.Parts.{IsPart, IsRest, IsSpine, Chain, tops, after, is_end}
-
-pub tops_last : (ss : List (Bor Boxed)) (s : Bor Boxed) → tops (ss ++ s ∷ []) ≡ tree_view s.now ∷ tops ss
-tops_last ss s = ap reverse (map_last ss s) ∙ reverse-append (map (λ t. tree_view t.now) ss) (tree_view s.now ∷ [])
-  where
-    map_last : (ss : List (Bor Boxed)) (s : Bor Boxed) → map (λ t. tree_view t.now) (ss ++ s ∷ []) ≡ map (λ t. tree_view t.now) ss ++ tree_view s.now ∷ []
-    map_last [] s = refl
-    map_last (x ∷ ss) s = ap (λ l. tree_view x.now ∷ l) (map_last ss s)
+use Rattle.nova_middle.specs.inner.Parts.{IsPart, IsRest, IsSpine, Chain, after, is_end}
 
 -- what is known where these nodes are left, the next one first
 abbrev pub OnWay : List Tree → Part → Tree → Type 0
@@ -53,14 +48,14 @@ pub way_start : (nodes : List (Bor Boxed)) (t : Tree) (p : Part) → IsSpine (to
 way_start nodes t p h = start (tops nodes) t p h
 
 pub way_rest : (nodes nodes' : List (Bor Boxed)) (s : Bor Boxed) (t : Tree) (p : Part) → OnWay (tops nodes) p t → nodes ≡ nodes' ++ s ∷ [] → IsRest (tree_view s.now) p
-way_rest nodes nodes' s t p w e = (subst (λ l. OnWay l p t) (ap tops e ∙ tops_last nodes' s) w).0
+way_rest nodes nodes' s t p w e = (subst (λ l. OnWay l p t) (ap tops e ∙ tops-last nodes' s) w).0
 
 step : (s : Tree) (ss : List Tree) (t : Tree) (q : Part) → Chain s ss t → IsPart q s → OnWay ss q t
 step s [] t q c h = subst (IsPart q) c h
 step s (r ∷ rs) t q c h = (part_rest r q (subst (IsPart q) (sym c.0) h), c.1)
 
 pub way_step : (nodes nodes' : List (Bor Boxed)) (s : Bor Boxed) (t : Tree) (p q : Part) → OnWay (tops nodes) p t → nodes ≡ nodes' ++ s ∷ [] → IsPart q (tree_view s.now) → OnWay (tops nodes') q t
-way_step nodes nodes' s t p q w e h = step (tree_view s.now) (tops nodes') t q (subst (λ l. OnWay l p t) (ap tops e ∙ tops_last nodes' s) w).1 h
+way_step nodes nodes' s t p q w e h = step (tree_view s.now) (tops nodes') t q (subst (λ l. OnWay l p t) (ap tops e ∙ tops-last nodes' s) w).1 h
 
 pub way_end : (nodes : List (Bor Boxed)) (t : Tree) (p : Part) → OnWay (tops nodes) p t → nodes ≡ [] → IsPart p t
 way_end nodes t p w e = subst (λ l. OnWay (tops l) p t) e w

@@ -11,6 +11,7 @@ use crate::rules::simplified;
 use flow_ir::Flow;
 use flow_literals::hoist_literals;
 use flow_merge::copy_joins;
+use flow_paths::decide_choices;
 use flow_sink::{share_values, sink_lets};
 use flow_words::simpler_words;
 use nv_base::NoMemory;
@@ -46,6 +47,14 @@ fn shared_words(alloc: Global, f: &Flow) -> Result<Flow, NoMemory>
     all_shared(alloc, &simple)
 }
 
+// The flow with copies of short joins, and without the choices that are decided then.
+fn decided_joins(alloc: Global, f: &Flow) -> Result<Flow, NoMemory>
+    ensures kept { IfOk result (λ g. KeepsOutcomes (flow_params (map label_view f.now.labels.items)) (flow_params (map label_view g.labels.items)) (flow_meaning (map label_view f.now.labels.items)) (flow_meaning (map label_view g.labels.items))) }
+{
+    let copied = copy_joins(alloc, f)?;
+    decide_choices(alloc, &copied)
+}
+
 // One round: each pass once, and what the others then find to do.
 fn improved_once(alloc: Global, f: &Flow) -> Result<Flow, NoMemory>
     ensures kept { IfOk result (λ g. KeepsOutcomes (flow_params (map label_view f.now.labels.items)) (flow_params (map label_view g.labels.items)) (flow_meaning (map label_view f.now.labels.items)) (flow_meaning (map label_view g.labels.items))) }
@@ -53,8 +62,8 @@ fn improved_once(alloc: Global, f: &Flow) -> Result<Flow, NoMemory>
 {
     let simple = shared_words(alloc, f)?;
     let sunk = sink_lets(alloc, simple)?;
-    let copied = copy_joins(alloc, &sunk)?;
-    reduce(alloc, &copied)
+    let decided = decided_joins(alloc, &sunk)?;
+    reduce(alloc, &decided)
 }
 
 /// The flow improved, in a fixed number of rounds.

@@ -1,5 +1,5 @@
 -- What is known of a tree, by what follows each node.
-use Rattle.std.specs.Prelude.{◌≡◌, ℕ, ◌≤◌, ⊤, Bool, true, false, List, [], ◌∷◌, map, reverse, All}
+use Rattle.std.specs.Prelude.{◌≡◌, ℕ, ◌≤◌, ⊤, Bool, true, false, List, [], ◌∷◌, All}
 use Rattle.std.specs.Borrow.{Bor}
 use Rattle.nv_base.specs.declared.term.Atom.{Atom}
 use Rattle.nv_base.specs.Sets.{is_in, all_vars}
@@ -8,6 +8,7 @@ use Rattle.flow_ir.specs.declared.flow.Tree.{Tree as Boxed, size-Tree}
 use Rattle.flow_ir.specs.Tree.{Tree, Let, Read, Write, If, Jump, Halt}
 use Rattle.flow_ir.specs.View.{tree_view}
 use Rattle.flow_ir.specs.Wide.{live, tree_wide}
+use Rattle.ssu_make.specs.inner.Making.{tops}
 use Rattle.nova_middle.specs.declared.parts.Part.{Part}
 
 -- its live variables and its width are those of a tree
@@ -52,10 +53,6 @@ IsRest (Halt e bs) p = ⊤
 abbrev pub Chain : Tree → List Tree → Tree → Type 0
 Chain s [] t = s ≡ t
 Chain s (r ∷ rs) t = (after r ≡ s) × Chain r rs t
-
--- the trees that references point to, the last one first
-abbrev pub tops : List (Bor Boxed) → List Tree
-tops ts = reverse (map (λ t. tree_view t.now) ts)
 
 -- an end comes first
 abbrev pub IsSpine : List Tree → Tree → Type 0

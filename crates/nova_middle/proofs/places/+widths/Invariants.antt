@@ -1,7 +1,7 @@
 use Rattle.std.proofs.Common.{◌≤◌, ◌+◌, ◌*◌, All, vec_len}
 use Rattle.flow_ir.specs.View.{tree_view}
 use Rattle.flow_ir.specs.declared.flow.Tree.{size-Tree}
-use Rattle.nova_middle.specs.inner.Parts.{tops}
+use Rattle.ssu_make.specs.inner.Making.{tops}
 use Rattle.nova_middle.proofs.Spines.{OnWay}
 use Rattle.nova_middle.proofs.places.+widths.Given as goal
 

@@ -1,7 +1,8 @@
 use Rattle.std.proofs.Common.{◌≤◌, All}
 use Rattle.flow_ir.specs.View.{tree_view}
 use Rattle.flow_ir.specs.declared.flow.Tree.{size-Tree}
-use Rattle.nova_middle.specs.inner.Parts.{tops, Chain}
+use Rattle.nova_middle.specs.inner.Parts.{Chain}
+use Rattle.ssu_make.specs.inner.Making.{tops}
 use Rattle.nova_middle.proofs.places.spine.Given as goal
 
 abbrev pub invariant-spine : goal.invariant-spine
