@@ -9,3 +9,7 @@ pub mod Prims
 pub mod ValuesMeans
 pub mod Kept
 pub mod Along
+pub mod Adding
+pub mod Lateness
+pub mod OrderMeans
+pub mod OrderWhole

@@ -15,7 +15,7 @@ use Rattle.flow_sink.specs.Sunk.{nodes, IsSunk, AreSunk}
 use Rattle.flow_sink.specs.inner.Sinking.{sunk, label_sunk}
 use Rattle.flow_sink.proofs.Lowering.{at_if, apart_sunk, different_sunk}
 use Rattle.flow_sink.proofs.Formed.{formed_sunk}
-use Rattle.flow_sink.proofs.Likeness.{IsLike}
+use Rattle.flow_sink.proofs.Likeness.{IsLike, AllLike}
 use Rattle.flow_sink.proofs.Means.{sunk_means}
 use Rattle.flow_sink.proofs.Sank.{all_sank}
 
@@ -34,6 +34,13 @@ pub label_like : (labels : List Label) (l : Label) → is_label labels l ≡ tru
 label_like labels l e =
     at_if (λ m. IsLike labels l m) (nat_le (nodes l.body) 1024) (deep l) l
     (λ short. record { params = refl; formed = deep_formed labels l e; means = λ f ws w. sunk_means f l.body l.params (assigned_all blank l.params ws) w (label_fits labels l e) }) (λ long. record { params = refl; formed = e; means = λ f ws w. refl })
+
+labels_like : (labels ls : List Label) → list_all (is_label labels) ls ≡ true → AllLike labels ls (map label_sunk ls)
+labels_like labels [] e = tt
+labels_like labels (l ∷ ls) e = let parts = and_parts (is_label labels l) (list_all (is_label labels) ls) e in (label_like labels l parts.0, labels_like labels ls parts.1)
+
+pub all_like : (ls ms : List Label) → ms ≡ map label_sunk ls → is_flow ls ≡ true → AllLike ls ls ms
+all_like ls ms e h = subst (AllLike ls ls) (sym e) (labels_like ls ls (and_parts (list_all (is_label ls) ls) (is_entry (slice_get ls 0)) h).0)
 
 -- ---- what stands in labels
 

@@ -1,3 +1,4 @@
 pub mod Sunk
 pub mod inner
 pub mod Values
+pub mod Ordered

@@ -1,2 +1,3 @@
 pub mod Sinking
 pub mod Above
+pub mod Ordering

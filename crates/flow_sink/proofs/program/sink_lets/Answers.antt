@@ -1,18 +1,17 @@
 use Rattle.std.proofs.Common.{map}
 use Rattle.flow_ir.specs.View.{label_view}
-use Rattle.flow_sink.specs.inner.Sinking.{label_sunk}
-use Rattle.flow_sink.proofs.Likeness.{formed_call, params_call, means_call}
-use Rattle.flow_sink.proofs.Whole.{label_like, sank_call}
+use Rattle.flow_sink.proofs.Likeness.{flow_formed, same_params, flow_means}
+use Rattle.flow_sink.proofs.Whole.{all_like, sank_call}
 use Rattle.flow_sink.proofs.program.sink_lets.Goals as goal
 
 pub invariant_of-result : goal.invariant_of-result
-invariant_of-result c = record { formed = formed_call label_sunk label_like (map label_view c.args.f.labels.items) (map label_view c.in_ok-labels.labels.items) c.in_ok-labels.ensures c.args.f.formed }
+invariant_of-result c = record { formed = flow_formed (map label_view c.args.f.labels.items) (map label_view c.in_ok-labels.labels.items) (all_like _ _ c.in_ok-labels.ensures c.args.f.formed) c.args.f.formed }
 
 pub returns-clause-params : goal.returns-clause-params
-returns-clause-params c = params_call label_sunk label_like (map label_view c.args.f.labels.items) (map label_view c.in_ok-labels.labels.items) c.in_ok-labels.ensures c.args.f.formed
+returns-clause-params c = same_params (map label_view c.args.f.labels.items) (map label_view c.args.f.labels.items) (map label_view c.in_ok-labels.labels.items) (all_like _ _ c.in_ok-labels.ensures c.args.f.formed)
 
 pub returns-clause-equal : goal.returns-clause-equal
-returns-clause-equal c = means_call label_sunk label_like (map label_view c.args.f.labels.items) (map label_view c.in_ok-labels.labels.items) c.in_ok-labels.ensures c.args.f.formed
+returns-clause-equal c = flow_means (map label_view c.args.f.labels.items) (map label_view c.in_ok-labels.labels.items) (all_like _ _ c.in_ok-labels.ensures c.args.f.formed)
 
 pub returns-clause-sunk : goal.returns-clause-sunk
 returns-clause-sunk c = sank_call (map label_view c.args.f.labels.items) (map label_view c.in_ok-labels.labels.items) c.in_ok-labels.ensures c.args.f.formed
