@@ -12,7 +12,7 @@ use flow_ir::Flow;
 use flow_literals::hoist_literals;
 use flow_merge::copy_joins;
 use flow_paths::decide_choices;
-use flow_sink::{share_values, sink_lets};
+use flow_sink::{order_lets, share_values, sink_lets};
 use flow_words::simpler_words;
 use nv_base::NoMemory;
 use std::alloc::Global;
@@ -62,7 +62,8 @@ fn improved_once(alloc: Global, f: &Flow) -> Result<Flow, NoMemory>
 {
     let simple = shared_words(alloc, f)?;
     let sunk = sink_lets(alloc, simple)?;
-    let decided = decided_joins(alloc, &sunk)?;
+    let ordered = order_lets(alloc, sunk)?;
+    let decided = decided_joins(alloc, &ordered)?;
     reduce(alloc, &decided)
 }
 

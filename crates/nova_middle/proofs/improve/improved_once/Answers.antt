@@ -7,7 +7,8 @@ pub returns-clause-kept : goal.returns-clause-kept
 returns-clause-kept c =
     if_ok c.reduce.result _ _
     (λ g kept. equal_then _ _ _ (record { params = c.in_ok-simple.ensures.params; equal = c.in_ok-simple.ensures.equal })
-    (equal_then _ _ _ (record { params = c.in_ok-sunk.ensures.params; equal = c.in_ok-sunk.ensures.equal }) (keeps-trans _ _ _ _ _ _ c.in_ok-decided.ensures.kept kept)))
+    (equal_then _ _ _ (record { params = c.in_ok-sunk.ensures.params; equal = c.in_ok-sunk.ensures.equal })
+    (equal_then _ _ _ (record { params = c.in_ok-ordered.ensures.params; equal = c.in_ok-ordered.ensures.equal }) (keeps-trans _ _ _ _ _ _ c.in_ok-decided.ensures.kept kept))))
     c.reduce.ensures.kept
 
 pub returns-clause-reduced : goal.returns-clause-reduced
