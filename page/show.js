@@ -91,7 +91,6 @@ function formRow(words, depth, found) {
 const formRows = form => [formRow(form.text, 0, form.live), ...form.rows.map(row => formRow(row.text, row.depth, row.live))];
 // The edge of a line and of its instructions: one colour for what is tied, dots for what may be.
 const edgeOf = (line, isPerhaps) => (line ? ' tied" style="--t:' + line * 67 % 360 : isPerhaps ? ' may' : '');
-// The rows of each label stand in a box of their own, which a browser leaves out of the layout while it is far away.
 function codeRows(hasForm) {
   return listing.labels.map(({ number, start }, n) => {
     const end = n + 1 < listing.labels.length ? listing.labels[n + 1].start : code.length, form = forms.get(number), rows = form && hasForm ? formRows(form) : [];
@@ -100,7 +99,7 @@ function codeRows(hasForm) {
       rows.push('<div class="row ' + kindName(it.kind) + edgeOf(found.length === 1 && found[0], found.length > 1) + '" id="i' + place + '" data-place="' + place + '"><a href=#i' + place + '>' + place
         + '</a><span class="h"></span><span class="t">' + colouredCode(it) + '</span></div>');
     }
-    return '<div class="group" style="--n:' + (rows.length + 1) + '"><div class="row label" data-label="' + number + '">' + safe(labelTitle(number)) + ':<small></small></div>' + rows.join('') + '</div>';
+    return '<div class="row label" data-label="' + number + '">' + safe(labelTitle(number)) + ':<small></small></div>' + rows.join('');
   }).join('');
 }
 put('source-rows', sourceLines.map((line, n) => '<div class="row' + edgeOf(placesOf.has(n + 1) && n + 1, mayOf.has(n + 1)) + '" id="L' + (n + 1) + '" data-line="' + (n + 1) + '"><a href=#L' + (n + 1) + '>' + (n + 1)
@@ -143,7 +142,8 @@ function placeTip(place) {
   out.push(...reasons(place));
   out.push('Live before it: ' + inA + ' of 15 in A, ' + inB + ' of 15 in B.');
   const found = candidates[place], isSeen = linked[place].size > 0;
-  if (found.length > 0) out.push(found.length > 1 ? 'From one of the lines ' + found.join(', ') + '.' : 'From line ' + found[0] + ' of the source, ' + (isSeen ? 'as the interpreter noted in the run.' : 'the only one that may do this.'));
+  if (isSeen) out.push('From line ' + found.join(' and line ') + ' of the source, as the interpreter noted in the run.');
+  else if (found.length > 0) out.push(found.length > 1 ? 'From one of the lines ' + found.join(', ') + '.' : 'From line ' + found[0] + ' of the source, the only one that may do this.');
   if (now.hasCounts) out.push('Ran ' + several(now.ran.counts[place], 'time') + '.');
   const isNow = now.hasCounts && now.ran.places[now.step] === place;
   for (const r of new Set([...it.reads, ...it.writes])) {

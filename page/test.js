@@ -1,5 +1,6 @@
 // Replays runs in node as the page does, and prints the name of each that doesn't agree: `node page/test.js`, with a JSON list of
-// runs on the standard input, each with name, source, listing, memory, outcome, profile and the interpreter's events, and the listing of the source with its form.
+// runs on the standard input, each with name, source, listing, memory, outcome, profile, sizes and the interpreter's
+// events, and the listing of the source with its form.
 'use strict';
 const fs = require('fs');
 const path = require('path');
@@ -7,15 +8,18 @@ const vm = require('vm');
 
 const load = names => {
   const text = names.map(name => fs.readFileSync(path.join(__dirname, name), 'utf8')).join('\n');
-  return vm.runInThisContext(text + '\n({ readListing, readMemory, readProfile, runCode, liveBefore, disagreement, packetGroups, checkFields, readForm, followCode, readSource, readEvents, linksOf })');
+  return vm.runInThisContext(text + '\n({ readListing, readMemory, readProfile, runCode, liveBefore, disagreement, packetGroups, checkFields, readForm, followCode, readSource, readEvents, linksOf, readLayouts, keyOf, actsOf, actsFor })');
 };
-const page = load(['engine.js', 'packet.js', 'source.js', 'values.js']);
+const page = load(['engine.js', 'packet.js', 'source.js', 'values.js', 'names.js']);
 for (const fault of page.checkFields()) console.log(fault);
 
-// The form in the listing of a source: the values that are live by the page have to be those in its remarks, and each label's code has to follow its form.
+// The form in the listing of a source, with its remarks, and as a page has it.
+const formRows = run => [...run.form.matchAll(/^ {8}; (.*)$/gm)].map(it => it[1]).filter(it => !it.startsWith('#'));
+const readFormOf = run => page.readForm(formRows(run).map(it => it.replace(/#.*/, '').replace(/[ v]/g, '')).join('\n'));
+
+// The values that are live by the page have to be those in the form's remarks, and each label's code has to follow its form.
 function checkForm(run, listing) {
-  const rows = [...run.form.matchAll(/^ {8}; (.*)$/gm)].map(it => it[1]).filter(it => !it.startsWith('#'));
-  const forms = page.readForm(rows.map(it => it.replace(/#.*/, '').replace(/[ v]/g, '')).join('\n'));
+  const rows = formRows(run), forms = readFormOf(run);
   const found = [...forms.values()].flatMap(form => [form.live, ...form.rows.map(row => row.live)]).filter(it => it !== null).map(it => [...it].sort().join(' '));
   const told = rows.filter(it => it.includes('#')).map(it => it.replace(/^.*# [0-9]+:/, '').trim().split(' ').sort().join(' '));
   const differs = told.findIndex((it, n) => it !== found[n]);
@@ -27,15 +31,20 @@ function checkForm(run, listing) {
   if (unknown.length > 0) console.log(run.name + ': the read at ' + unknown[0].place + ' has a word that is no value');
 }
 // Each write of the run has to come from one place of the source, and where the interpreter notes all, each access and the end.
+// Each has to be among those places which may do what the instruction does; what no run came to has such places, too.
 function checkLinks(run, listing, ran) {
-  const source = page.readSource(run.source), events = page.readEvents(run.events), links = page.linksOf(listing.code, source, ran, events, 3000, new Map());
+  const exceptions = new Map([...run.sizes.matchAll(/^exception `(\w+)`: `raised ([0-9]+)`/gm)].map(it => [Number(it[2]), it[1]]));
+  const source = page.readSource(run.source), events = page.readEvents(run.events), links = page.linksOf(listing.code, source, ran, events, 3000, exceptions);
+  const acts = page.actsOf(source, page.readLayouts(run.sizes)), forms = readFormOf(run), notes = page.followCode(listing, forms);
   if (!links.isKnown) console.log(run.name + ": the accesses aren't those of the interpreter");
   listing.code.forEach((it, place) => {
     const isAccess = it.op === 'write' || events.hasAll && it.op === 'read', isWanted = ran.counts[place] > 0 && (events.hasAll && it.op === 'halt' || isAccess && it.kind !== 'spill');
+    const found = page.actsFor(acts, it, exceptions, notes[place], forms), [at] = links.places.get(place) || [];
+    if (page.keyOf(it, exceptions) !== '' && (found.length === 0 || at !== undefined && !found.includes(at))) console.log(run.name + ': the instruction at ' + place + ' is none of ' + found + (at === undefined ? '' : ', but ' + at));
     if (isWanted && (!links.places.has(place) || links.places.get(place).size !== 1)) console.log(run.name + ': the instruction at ' + place + ' has no place in the source');
   });
   for (const [place, found] of links.places) {
-    const [at] = found, it = listing.code[place], word = it.op === 'halt' ? '' : it.memory;
+    const [at] = found, it = listing.code[place], word = it.op !== 'halt' ? it.memory : it.exception > 0 ? 'raise' : '';
     if (!source.text.startsWith(word, at)) console.log(run.name + ': the instruction at ' + place + ' has the wrong place in the source');
   }
 }

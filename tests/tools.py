@@ -123,7 +123,8 @@ class PageRow:
 
 class ReplayRow:
     """The engine of the page comes on each example to the outcome and the counts of `nova run --profile`, what the page says to be live is
-    what `nova list` prints, and each write of the run has its place in the source. It wants node, and passes without."""
+    what `nova list` prints, and each access and end of the run has its place in the source, one of those which may do it. It wants node, and
+    passes without."""
 
     where, wants, name = "tests/tools.py", ("nova",), "the page's replay of the examples"
 
@@ -144,9 +145,10 @@ class ReplayRow:
             said(nova, "build", example, "-o", "o")
             ran, listing, form = said(nova, "run", "o", memory, "--profile"), said(nova, "list", "o"), said(nova, "list", example)
             said(nova, "page", example, memory, "-o", "p.html")
-            events = re.search(r'<pre id="events">\n(.*?)</pre>', open(os.path.join(at, "p.html"), encoding="utf-8").read(), re.S)[1]
+            page = open(os.path.join(at, "p.html"), encoding="utf-8").read()
+            blocks = {it: re.search(rf'<pre id="{it}">\n(.*?)</pre>', page, re.S)[1] for it in ("events", "sizes")}
             with open(memory, encoding="utf-8") as text, open(example, encoding="utf-8") as source:
-                run = {"name": name, "source": source.read(), "memory": text.read(), "events": events}
+                run = {"name": name, "source": source.read(), "memory": text.read(), **blocks}
             runs.append({**run, "listing": listing.stdout, "outcome": ran.stdout, "profile": ran.stderr, "form": form.stdout})
         return in_node(self.top, [os.path.join(self.top, "page", "test.js")], json.dumps(runs))
 

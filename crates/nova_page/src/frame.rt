@@ -33,11 +33,11 @@ const FRAME: &str = r#"</style>
 <details open class="legend"><summary>How to read this page</summary><dl>
 <dt>Code</dt><dd>Each instruction has its place, how often it ran, and a bar for that count.
 <span class="mark between">moves between banks</span>, <span class="mark within">moves within a bank</span>, <span class="mark literal">literals</span> and
-<span class="mark spill">spills</span> have a colour each. Point at one to read what it does, why a move is there, and what is live. A click goes to its first step.</dd>
-<dt>Source</dt><dd>A line with a coloured edge has an access or a <code>raise</code> that the code is known to have from it: instructions of its colour. Its number is how often the code did that.
-A write of a run is tied to the line where the interpreter of <code>nova</code> made it, if all writes are the same: memory, address and count.
-A read, a <code>raise</code>, and a write that no run came to are tied where one line alone does such a thing. The others aren't tied.</dd>
-<dt>Labels and values</dt><dd><code>with f</code> at a label says that what is tied in it comes from the function <code>f</code>. A value has a name where
+<span class="mark spill">spills</span> have a colour each. Point at one to read what it does, why a move is there, and what is live. A click goes to its first step and its line.</dd>
+<dt>Source</dt><dd>A line with a coloured edge has an access, a <code>raise</code> or an end, and the instructions of its colour come from it. Its number is how often the code did that.
+What ran is tied to the line where the interpreter of <code>nova</code> did it, if all accesses are the same: memory, address and count.
+What no run came to is tied where one line alone may do such a thing. A dotted edge is one of several such lines. A click on a line or an instruction shows the other side.</dd>
+<dt>Labels and values</dt><dd>A label has the name of the function that was in progress whenever a run came to it; <code>with f</code> says that what is tied in it comes from <code>f</code>. A value has a name where
 <code>main</code> gets it, a <code>let</code> reads it, or it is written or raised by that name, in a line that is tied. Others have numbers.</dd>
 <dt>Packet</dt><dd>Bytes before the run stand left, those after it right, and what differs is red. A change of a byte or an argument runs the code again, by the engine of this page alone.
 A layout of the source or a header can be laid over any word: a click on a byte chooses it.</dd>
