@@ -9,3 +9,7 @@ pub mod Lighter
 pub mod Exchanged
 pub mod Turning
 pub mod Level
+pub mod SameWords
+pub mod Putting
+pub mod InPlace
+pub mod Saved

@@ -167,7 +167,7 @@ written-target d (Read m q n x off) r h w = absurd h
 written-target d (Write m q n x off) r h w = absurd h
 written-target d (Halt k n) r h w = absurd h
 
-target-named : (d : Dst) (r : Register) → target_register d ≡ Some r → is_target d (In r) ≡ true
+pub target-named : (d : Dst) (r : Register) → target_register d ≡ Some r → is_target d (In r) ≡ true
 target-named d r h = ap (λ o. is_some_register o (In r)) h ∙ true-same r
 
 target-written : (d : Dst) (i : Instr) (r : Register) → IsStraight i → target_register d ≡ Some r → writes (with_target d i) (In r) ≡ true
@@ -279,7 +279,7 @@ given-tested (Halt k n) before d x sets named e p h sizes all = absurd sets
 
 -- ---- copies
 
-copied : (d : Dst) (x : Src) (e : Engine) (p : Memories) (r : Register) → IsEngine e → target_register d ≡ Some r → IsRegister r → register r (effect (Un d Copy x) e p).engine ≡ operand x e
+pub copied : (d : Dst) (x : Src) (e : Engine) (p : Memories) (r : Register) → IsEngine e → target_register d ≡ Some r → IsRegister r → register r (effect (Un d Copy x) e p).engine ≡ operand x e
 copied d x e p r h t there = (puts-flags d (operand x e) (operand x e) false e h).target r t there
 
 pub given-copied : (d : Dst) (x : Src) (before : List Fact) (set : ℕ) (f : Fact) → IsWritten (Un d Copy x) set → IsOneOf f before → IsResult f x → IsStraight f.instr → ((s : Resource) → IsResource s → reads f.instr s ≡ true → has set s ≡ false)

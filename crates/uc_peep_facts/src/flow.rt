@@ -1,6 +1,7 @@
 //! The facts after an instruction.
 
-ghost use Rattle.std.specs.Prelude.{◌≡◌, true, false, IfSome};
+ghost use Rattle.std.specs.Prelude.{◌≡◌, true, false, IfSome, IfNone};
+ghost use Rattle.uc_isa.specs.declared.instruction.Dst.{Dst};
 ghost use Rattle.uc_isa.specs.declared.instruction.Instr.TheVariants.{Un};
 ghost use Rattle.uc_isa.specs.declared.instruction.UnOp.TheVariants.{Copy};
 ghost use Rattle.uc_isa.specs.Program.{IsFormed};
@@ -95,8 +96,9 @@ pub(crate) fn with_target(i: &Instr, d: &Dst) -> Instr
 }
 
 // The target of an instruction that sets the flags.
-fn flagged_target(i: &Instr) -> Option<Dst>
-    ensures { IfSome result (λ d. SetsFlags i.now d) }
+pub(crate) fn flagged_target(i: &Instr) -> Option<Dst>
+    ensures some { IfSome result (λ d. SetsFlags i.now d) }
+    ensures none { IfNone result ((d : Dst) → ¬ SetsFlags i.now d) }
 {
     match i {
         Instr::Alu { dst, .. } => Some(*dst),
@@ -203,7 +205,7 @@ fn add_tested(i: &Instr, before: &Facts, after: &mut Facts)
     }
 }
 
-fn is_copy(op: &UnOp) -> bool
+pub(crate) fn is_copy(op: &UnOp) -> bool
     ensures { result ≡ true → op.now ≡ Copy }
 {
     matches!(op, UnOp::Copy)

@@ -99,7 +99,7 @@ fn is_last(i: &Instr) -> bool {
     )
 }
 
-// What stands after the instruction at a place, which goes where it is idle.
+// What stands after the instruction at a place, which goes where it is idle for what these sets say.
 fn out_of(code: &[Instr], sets: &[LiveSet], table: &[Facts], x: usize) -> Facts
     requires lawful { IsProgram code.now }
     requires inside { x < length code.now }
