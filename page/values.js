@@ -57,6 +57,7 @@ function findLive(form) {
   form.root = value => roots.get(value) || value;
   form.literals = new Map(form.rows.filter(row => row.op === 'literal').map(row => [row.defines[0], row.word]));
   for (const row of form.rows) if (row.op === 'clone') for (const it of row.defines) roots.set(it, form.root(row.uses[0]));
+  form.terms = new Map(form.rows.filter(row => row.op === 'un' || row.op === 'alu').map(row => [row.defines[0], [row.op, row.operation, row.shift, ...row.uses.map(form.root)].join(' ')]));
   const second = [];
   let after = new Set();
   for (let n = form.rows.length - 1; n >= 0; n -= 1) {
@@ -77,18 +78,18 @@ function findLive(form) {
   form.live = new Set(form.params);
 }
 
-// A word of the program that a register holds is a value, once something tells. One register can be two values where both are one literal.
+// A word of the program that a register holds is a value, once something tells. One register can be two values where both are one literal, or computed alike.
 const merge = (token, value, state) => {
   if (!token || !value || token.value === value) return;
-  const { literals } = state, isLiteral = literals.has(value) && literals.get(value) === literals.get(token.value);
-  if (token.value && !isLiteral) state.isWrong = true;
+  const isSame = known => known.has(value) && known.get(value) === known.get(token.value);
+  if (token.value && !isSame(state.literals) && !isSame(state.terms)) state.isWrong = true;
   token.value = value;
 };
 
 // Goes along the code of a label beside the form: which line each instruction is, where that is certain, and which word each register holds. An instruction
 // that was taken out leaves lines without one. Where the two don't fit, nothing is said of the label.
 function followLabel(code, form, start, end, entry) {
-  const held = new Map(entry), arms = new Map(), state = { isWrong: false, literals: form.literals }, out = [];
+  const held = new Map(entry), arms = new Map(), state = { isWrong: false, literals: form.literals, terms: form.terms }, out = [];
   const slots = new Map(), rows = form.rows.filter(row => row.op !== 'clone' && row.op !== '');
   let at = 0, now = new Map(held);
   const token = register => {
@@ -184,7 +185,7 @@ function followCode(listing, forms) {
   for (const note of notes) {
     const row = note && (note.arm || note.row);
     if (!row || row.op !== 'jump' || !note.held || !entries.has(row.next)) continue;
-    const from = forms.get(note.label), to = forms.get(row.next), state = { isWrong: false, literals: from.literals };
+    const from = forms.get(note.label), to = forms.get(row.next), state = { isWrong: false, literals: from.literals, terms: from.terms };
     for (const [register, word] of entries.get(row.next)) {
       const place = word.value ? to.params.indexOf(word.value) : -1, given = note.held.get(register);
       if (place >= 0 && given) merge(given, from.root(row.uses[place]), state);
