@@ -2,6 +2,7 @@
 use Rattle.std.proofs.Common.{◌≡◌, ◌≢◌, ℕ, ◌+◌, ◌≤◌, ◌<◌, List, [], ◌∷◌, ◌++◌, Option, Some, None, Result, Ok, Err, length, take, refl, sym, ap, ◌∙◌, subst, arith, append_assoc, length-append, take_at, inl, inr, ◌⊎◌}
 use Rattle.std.specs.Io.KnownBytes.{Consumes, IsAtEnd}
 use Rattle.nova_capture.specs.declared.state.State.{State}
+use Rattle.nova_capture.specs.declared.state.Position.{Position}
 use Rattle.nova_capture.specs.declared.state.Format.{Format}
 use Rattle.nova_capture.specs.declared.state.Format.TheVariants as formats
 use Rattle.nova_capture.specs.declared.fault.Fault.{Fault}
@@ -40,10 +41,10 @@ cut_record s first bytes all len e l is n =
     }
 
 -- what is told of a fault
-pub told : (s : State) (old new : Option (List ℕ)) (e : ReadError) (fault : Fault) (packets offset : ℕ) → e ≡ errors.Broken (broken_at fault packets offset) → ReadsFault s old new fault → ReadsError s old new e
-told s old new e fault packets offset is fault-is = subst (ReadsError s old new) (sym is) fault-is
+pub told : (s : State) (old new : Option (List ℕ)) (e : ReadError) (fault : Fault) (at : Position) → e ≡ errors.Broken (broken_at fault at) → ReadsFault s old new fault → ReadsError s old new e
+told s old new e fault at is fault-is = subst (ReadsError s old new) (sym is) fault-is
 
-pub told_cut : (s : State) (old new : Option (List ℕ)) (first bytes all : List ℕ) (len packets offset : ℕ) (e : ReadError) → e ≡ errors.Broken (broken_at Cut packets offset)
+pub told_cut : (s : State) (old new : Option (List ℕ)) (first bytes all : List ℕ) (len : ℕ) (at : Position) (e : ReadError) → e ≡ errors.Broken (broken_at Cut at)
     → all ≡ first ++ bytes → length first ≡ head_of s → record_len_at s first ≡ Ok len → length all < len → Consumes old new all → IsAtEnd new → ReadsError s old new e
-told_cut s old new first bytes all len packets offset e told-is is l said n consumed end =
-    told s old new e Cut packets offset told-is (record { front = all; consumed = consumed; why = inr (refl, cut_record s first bytes all len is l said n, end) })
+told_cut s old new first bytes all len at e told-is is l said n consumed end =
+    told s old new e Cut at told-is (record { front = all; consumed = consumed; why = inr (refl, cut_record s first bytes all len is l said n, end) })

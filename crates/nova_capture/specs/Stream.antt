@@ -2,7 +2,9 @@
 use Rattle.std.specs.Prelude.{◌≡◌, ◌≢◌, ◌≤◌, ◌<◌, ℕ, ◌^◌, ◌+◌, ◌-◌, min, List, [], length, take, Option, Some, None, Result, Ok, Err, ◌⊎◌, ⊤}
 use Rattle.std.specs.Io.KnownBytes.{Consumes, IsAtEnd}
 use Rattle.nova_capture.specs.declared.item.Item.{Item}
+use Rattle.nova_capture.specs.declared.item.Item.TheVariants as items
 use Rattle.nova_capture.specs.declared.state.State.{State}
+use Rattle.nova_capture.specs.declared.state.Position.{Position}
 use Rattle.nova_capture.specs.declared.state.Format.TheVariants as formats
 use Rattle.nova_capture.specs.declared.fault.Fault.{Fault}
 use Rattle.nova_capture.specs.declared.fault.Fault.TheVariants.{Cut}
@@ -24,13 +26,31 @@ pub record IsCut (s : State) (bytes : List ℕ) : Type 0 where
 abbrev pub IsWrong : State → List ℕ → Fault → Type 0
 IsWrong s bytes fault = ((length bytes ≡ head_of s) × (record_len_at s bytes ≡ Err fault)) ⊎ (IsWhole s bytes × (item_at s bytes ≡ Err fault))
 
+-- a number goes up by so many, and stays at the last of 64 bits
+abbrev pub up_to_most : ℕ → ℕ → ℕ
+up_to_most n more = min (n + more) (2 ^ 64 - 1)
+
+abbrev pub packets_after : ℕ → Item → ℕ
+packets_after n (items.Packet p) = up_to_most n 1
+packets_after n (items.Header h) = n
+packets_after n (items.Section order) = n
+packets_after n (items.Interface i) = n
+packets_after n (items.Other kind) = n
+
+-- the position behind a record of so many bytes that says this item
+abbrev pub behind : Position → Item → ℕ → Position
+behind at item len = record { state = state_after at.state item; packets = packets_after at.packets item; offset = up_to_most at.offset len }
+
+-- the bytes are a record that says this item, with these bytes beside it
+abbrev pub SaysItem : State → List ℕ → Item → List ℕ → Type 0
+SaysItem s front item bytes = IsWhole s front × (item_at s front ≡ Ok (item, bytes))
+
 -- what one call of the reader gave: an item, the end, or what is wrong; `old` is what the input held, and `new` what it holds now
-pub record ReadsItem (s : State) (old new : Option (List ℕ)) (item : Item) (bytes : List ℕ) (after : State) : Type 0 where
+pub record ReadsItem (at : Position) (old new : Option (List ℕ)) (item : Item) (bytes : List ℕ) (now : Position) : Type 0 where
   pub front : List ℕ
   pub consumed : Consumes old new front
-  pub whole : IsWhole s front
-  pub says : item_at s front ≡ Ok (item, bytes)
-  pub next : after ≡ state_after s item
+  pub says : SaysItem at.state front item bytes
+  pub further : now ≡ behind at item (length front)
 
 pub record ReadsFault (s : State) (old new : Option (List ℕ)) (fault : Fault) : Type 0 where
   pub front : List ℕ
@@ -45,17 +65,16 @@ ReadsError s old new errors.NoMemory = ⊤
 ReadsError s old new (errors.Failed kind) = ⊤
 ReadsError s old new (errors.Broken b) = ReadsFault s old new b.fault
 
-abbrev pub Reads : State → Option (List ℕ) → Option (List ℕ) → Result (Option Item) ReadError → List ℕ → State → Type 0
-Reads s old new (Ok None) bytes after = ReadsNothing s old
-Reads s old new (Ok (Some item)) bytes after = ReadsItem s old new item bytes after
-Reads s old new (Err e) bytes after = ReadsError s old new e
+abbrev pub Reads : Position → Option (List ℕ) → Option (List ℕ) → Result (Option Item) ReadError → List ℕ → Position → Type 0
+Reads at old new (Ok None) bytes now = ReadsNothing at.state old
+Reads at old new (Ok (Some item)) bytes now = ReadsItem at old new item bytes now
+Reads at old new (Err e) bytes now = ReadsError at.state old new e
 
--- the place of a fault behind so many packets and bytes
-abbrev pub broken_at : Fault → ℕ → ℕ → Broken
-broken_at fault packets offset = record { fault = fault; packet = min (packets + 1) (2 ^ 64 - 1); offset = offset }
+-- a fault at a position is told with the next packet, and with where the record begins
+abbrev pub broken_at : Fault → Position → Broken
+broken_at fault at = record { fault = fault; packet = up_to_most at.packets 1; offset = at.offset }
 
--- an error tells the next packet, and where its record begins
-abbrev pub Place : ℕ → ℕ → ReadError → Type 0
-Place packets offset errors.NoMemory = ⊤
-Place packets offset (errors.Failed kind) = ⊤
-Place packets offset (errors.Broken b) = b ≡ broken_at b.fault packets offset
+abbrev pub Place : Position → ReadError → Type 0
+Place at errors.NoMemory = ⊤
+Place at (errors.Failed kind) = ⊤
+Place at (errors.Broken b) = b ≡ broken_at b.fault at

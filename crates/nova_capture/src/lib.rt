@@ -19,5 +19,5 @@ pub use order::Order;
 pub use reader::Reader;
 pub use records::{MOST_BLOCK, MOST_CAPTURED, head_len, item_of, record_len};
 pub use spell::{can_spell, push_item};
-pub use state::{Format, State};
+pub use state::{Format, Position, State};
 pub use writer::Writer;

@@ -1,10 +1,10 @@
 // A capture from a reader, a record at a time.
-ghost use Rattle.std.specs.Prelude.{◌≡◌, ◌≢◌, ◌≤◌, ◌<◌, ◌+◌, ◌++◌, ℕ, List, OnOk, IfOk, IfErr, MatchBool, length, max, min, vec_len, true, false, None, Ok};
+ghost use Rattle.std.specs.Prelude.{◌≡◌, ◌≢◌, ◌≤◌, ◌<◌, ◌+◌, ◌++◌, ℕ, List, OnOk, IfOk, IfErr, IfSome, IfNone, MatchBool, MatchResult, length, max, min, vec_len, true, false, None, Ok};
 ghost use Rattle.std.specs.Io.KnownBytes.{Consumes, IsAtEnd};
 ghost use Rattle.nova_capture.specs.Stream.{Reads, ReadsError, IsWhole, Place, broken_at};
 
 use crate::records::{head_len, item_of, record_len};
-use crate::{Broken, Fault, Format, Item, ReadError, State};
+use crate::{Broken, Fault, Format, Item, Position, ReadError};
 use std::alloc::Global;
 use std::io::{ErrorKind, Read};
 
@@ -12,9 +12,7 @@ use std::io::{ErrorKind, Read};
 #[derive(Drop)]
 pub struct Reader<R> {
     input: R,
-    state: State,
-    offset: u64,
-    packets: u64,
+    position: Position,
     ended: bool,
     buffer: Vec<u8>,
 }
@@ -22,47 +20,31 @@ pub struct Reader<R> {
 impl<R: Read> Reader<R> {
     pub fn new(alloc: Global, input: R) -> Reader<R>
         ensures input { result.input ≡ input }
-        ensures state { result.state ≡ State.START }
-        ensures offset { result.offset ≡ 0 }
-        ensures packets { result.packets ≡ 0 }
+        ensures position { result.position ≡ Position.START }
         ensures ended { result.ended ≡ false }
     {
         Reader {
             input,
-            state: State::START,
-            offset: 0,
-            packets: 0,
+            position: Position::START,
             ended: false,
             buffer: Vec::new(alloc),
         }
     }
 
-    /// What the records so far say.
-    pub fn state(&self) -> State
-        ensures { result ≡ self.now.state }
+    /// What the records so far say, how many packets have come, and where the next record begins.
+    pub fn position(&self) -> Position
+        ensures { result ≡ self.now.position }
     {
-        self.state
-    }
-
-    /// How many packets have come.
-    pub fn packets(&self) -> u64
-        ensures { result ≡ self.now.packets }
-    {
-        self.packets
-    }
-
-    /// Where the next record begins.
-    pub fn offset(&self) -> u64
-        ensures { result ≡ self.now.offset }
-    {
-        self.offset
+        self.position
     }
 
     /// The next item, and in `bytes` its bytes. None at the end, and behind an error.
     pub fn next_item(&mut self, bytes: &mut Vec<u8>) -> Result<Option<Item>, ReadError>
-        ensures reads { self.old.ended ≡ false → Reads self.old.state (R.remaining self.old.input) (R.remaining self.new.input) result bytes.new.items self.new.state }
-        ensures place { IfErr result (λ e. Place self.old.packets self.old.offset e) }
+        ensures reads { self.old.ended ≡ false → Reads self.old.position (R.remaining self.old.input) (R.remaining self.new.input) result bytes.new.items self.new.position }
+        ensures place { IfErr result (λ e. Place self.old.position e) }
         ensures ended { self.old.ended ≡ true → result ≡ Ok None }
+        ensures goes_on { IfOk result (λ found. IfSome found (λ _. self.new.ended ≡ false)) }
+        ensures stays { MatchResult result (λ found. IfNone found (self.new.position ≡ self.old.position)) (λ _. self.new.position ≡ self.old.position) }
     {
         if self.ended {
             return Ok(None);
@@ -77,24 +59,22 @@ impl<R: Read> Reader<R> {
     // The same of a reader that hasn't ended.
     #[tactic(auto, using(crate::proofs::Taken::told))]
     fn next(&mut self, bytes: &mut Vec<u8>) -> Result<Option<Item>, ReadError>
-        ensures reads { Reads self.old.state (R.remaining self.old.input) (R.remaining self.new.input) result bytes.new.items self.new.state }
-        ensures place { IfErr result (λ e. Place self.old.packets self.old.offset e) }
+        ensures reads { Reads self.old.position (R.remaining self.old.input) (R.remaining self.new.input) result bytes.new.items self.new.position }
+        ensures place { IfErr result (λ e. Place self.old.position e) }
+        ensures ended { self.new.ended ≡ self.old.ended }
+        ensures stays { MatchResult result (λ found. IfNone found (self.new.position ≡ self.old.position)) (λ _. self.new.position ≡ self.old.position) }
     {
         if !self.take_record()? {
             return Ok(None);
         }
-        let found = item_of(self.state, self.buffer.as_slice());
+        let found = item_of(self.position.state, self.buffer.as_slice());
         let (item, part) = match found {
             Err(fault) => return Err(self.broken(fault)),
             Ok(found) => found,
         };
         bytes.clear();
         bytes.extend_from_slice(part)?;
-        self.state = self.state.after(item);
-        self.offset = self.offset.saturating_add(self.buffer.len() as u64);
-        if matches!(item, Item::Packet(_)) {
-            self.packets = self.packets.saturating_add(1);
-        }
+        self.position = self.position.behind(item, self.buffer.len());
         Ok(Some(item))
     }
 
@@ -102,26 +82,25 @@ impl<R: Read> Reader<R> {
     #[tactic(auto, using(crate::proofs::Taken::told, crate::proofs::Taken::whole_record, crate::proofs::Taken::told_cut, crate::proofs::Taken::consumes_both))]
     fn take_record(&mut self) -> Result<bool, ReadError>
         ensures found { IfOk result (λ found. MatchBool found
-            (IsWhole self.old.state self.new.buffer.items × Consumes (R.remaining self.old.input) (R.remaining self.new.input) self.new.buffer.items)
-            (IsAtEnd (R.remaining self.old.input) × (self.old.state.format ≢ Format.Start))) }
-        ensures fault { IfErr result (ReadsError self.old.state (R.remaining self.old.input) (R.remaining self.new.input)) }
-        ensures place { IfErr result (λ e. Place self.old.packets self.old.offset e) }
-        ensures state { self.new.state ≡ self.old.state }
-        ensures packets { self.new.packets ≡ self.old.packets }
-        ensures offset { self.new.offset ≡ self.old.offset }
+            (IsWhole self.old.position.state self.new.buffer.items × Consumes (R.remaining self.old.input) (R.remaining self.new.input) self.new.buffer.items)
+            (IsAtEnd (R.remaining self.old.input) × (self.old.position.state.format ≢ Format.Start))) }
+        ensures fault { IfErr result (ReadsError self.old.position.state (R.remaining self.old.input) (R.remaining self.new.input)) }
+        ensures place { IfErr result (λ e. Place self.old.position e) }
+        ensures position { self.new.position ≡ self.old.position }
+        ensures ended { self.new.ended ≡ self.old.ended }
     {
         self.buffer.clear();
-        let head = head_len(self.state);
+        let head = head_len(self.position.state);
         if let Err(kind) = fill(&mut self.input, &mut self.buffer, head) {
             return Err(ReadError::Failed(kind));
         }
-        if self.buffer.is_empty() && !matches!(self.state.format, Format::Start) {
+        if self.buffer.is_empty() && !matches!(self.position.state.format, Format::Start) {
             return Ok(false);
         }
         if self.buffer.len() < head {
             return Err(self.broken(Fault::Cut));
         }
-        let len = match record_len(self.state, self.buffer.as_slice()) {
+        let len = match record_len(self.position.state, self.buffer.as_slice()) {
             Err(fault) => return Err(self.broken(fault)),
             Ok(len) => len,
         };
@@ -135,12 +114,12 @@ impl<R: Read> Reader<R> {
     }
 
     fn broken(&self, fault: Fault) -> ReadError
-        ensures { result ≡ ReadError.Broken (broken_at fault self.now.packets self.now.offset) }
+        ensures { result ≡ ReadError.Broken (broken_at fault self.now.position) }
     {
         ReadError::Broken(Broken {
             fault,
-            packet: self.packets.saturating_add(1),
-            offset: self.offset,
+            packet: self.position.packets.saturating_add(1),
+            offset: self.position.offset,
         })
     }
 }

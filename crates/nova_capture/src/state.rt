@@ -2,6 +2,7 @@
 ghost use Rattle.std.specs.Prelude.{◌≡◌};
 ghost use Rattle.nova_capture.specs.Record.{state_after};
 ghost use Rattle.nova_capture.specs.Blocks.{simple_length};
+ghost use Rattle.nova_capture.specs.Stream.{behind, packets_after};
 
 use crate::{Item, Order, Precision};
 
@@ -57,6 +58,7 @@ impl State {
             Item::Packet(_) | Item::Other(_) => self,
         }
     }
+
     /// How many bytes of a packet of this length a simple packet block holds.
     pub fn simple_captured(self, original: u32) -> u32
         ensures { result ≡ simple_length self original }
@@ -66,5 +68,43 @@ impl State {
         } else {
             original.min(self.snap)
         }
+    }
+}
+
+/// A place between two records. `packets` counts those that have come, and the next record begins at `offset`; both stay at
+/// the end of their type.
+#[derive(Clone, Copy)]
+pub struct Position {
+    pub state: State,
+    pub packets: u64,
+    pub offset: u64,
+}
+
+impl Position {
+    /// Before the first record.
+    pub const START: Position = Position {
+        state: State::START,
+        packets: 0,
+        offset: 0,
+    };
+
+    /// The position behind a record of so many bytes that says this item.
+    pub fn behind(self, item: Item, len: usize) -> Position
+        ensures { result ≡ behind self item len }
+    {
+        Position {
+            state: self.state.after(item),
+            packets: packets_behind(self.packets, item),
+            offset: self.offset.saturating_add(len as u64),
+        }
+    }
+}
+
+fn packets_behind(packets: u64, item: Item) -> u64
+    ensures { result ≡ packets_after packets item }
+{
+    match item {
+        Item::Packet(_) => packets.saturating_add(1),
+        Item::Header(_) | Item::Section(_) | Item::Interface(_) | Item::Other(_) => packets,
     }
 }

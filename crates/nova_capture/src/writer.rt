@@ -1,5 +1,5 @@
 // A capture to a writer, an item at a time.
-ghost use Rattle.std.specs.Prelude.{◌≡◌, OnOk, Err};
+ghost use Rattle.std.specs.Prelude.{◌≡◌, OnOk, OnErr, Err};
 ghost use Rattle.std.specs.Io.KnownBytes.{Appends, Keeps};
 ghost use Rattle.nova_capture.specs.Spelling.{spelling, Fits};
 ghost use Rattle.nova_capture.specs.Record.{state_after};
@@ -41,6 +41,7 @@ impl<W: Write> Writer<W> {
         ensures ok { OnOk result (Appends (W.contents self.old.output) (W.contents self.new.output) (spelling self.old.state item bytes.now)) }
         ensures fits { OnOk result (Fits self.old.state item bytes.now) }
         ensures state { OnOk result (self.new.state ≡ state_after self.old.state item) }
+        ensures stays { OnErr result (self.new.state ≡ self.old.state) }
         ensures unfit { result ≡ Err WriteError.Unfit → (Fits self.old.state item bytes.now → ⊥) × Keeps (W.contents self.old.output) (W.contents self.new.output) }
     {
         self.buffer.clear();

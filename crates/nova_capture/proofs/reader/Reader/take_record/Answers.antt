@@ -6,7 +6,7 @@ use Rattle.nova_capture.proofs.reader.Reader.take_record.Goals as goal
 
 pub returns-then-len-clause-fault : goal.returns-then-len-clause-fault
 returns-then-len-clause-fault g c =
-    let s = c.args.self.now.state in
+    let s = c.args.self.now.position.state in
     let old = g.R.Read.remaining c.args.self.now.input in
     let middle = g.R.Read.remaining c.fill.new.input in
     let new = g.R.Read.remaining c.fill-2.new.input in
@@ -21,4 +21,4 @@ returns-then-len-clause-fault g c =
     let short : length all < c.in-Ok.len = search rules in
     let end : IsAtEnd new = search rules in
     let consumed : Consumes old new all = consumes_both old middle new a b all (both ∙ ap (λ l. l ++ b) front) c.in_default.ensures.read.2 c.in_default-fill.ensures.read.2 in
-    told_cut s old new first b all c.in-Ok.len c.args.self.now.packets c.args.self.now.offset c.broken-then-len.result c.broken-then-len.ensures both long said short consumed end
+    told_cut s old new first b all c.in-Ok.len c.args.self.now.position c.broken-then-len.result c.broken-then-len.ensures both long said short consumed end
