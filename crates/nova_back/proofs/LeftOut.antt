@@ -1,5 +1,5 @@
 -- What holds of code without some of its instructions.
-use Rattle.std.proofs.Common.{◌≡◌, ℕ, zero, suc, ◌≤◌, List, ◌∷◌, length, Option, Some, None, refl, sym, subst, arith}
+use Rattle.std.proofs.Common.{◌≡◌, ◌≢◌, ◌∙◌, ℕ, zero, suc, ◌≤◌, inl, inr, Bool, List, ◌∷◌, length, Option, Some, None, nat_eq, if◌then◌else◌, refl, sym, ap, subst, arith, ne_eqb}
 use Rattle.std.specs.List.{cons_option}
 use Rattle.std.specs.Prelude.{true, slice_get}
 use Rattle.std.proofs.lemmas.Bool.{and_parts, leb-true}
@@ -7,7 +7,11 @@ use Rattle.ssu_ir.specs.Meaning.{ssu_params, params_of}
 use Rattle.ssu_ir.specs.Single.{single, is_entry}
 use Rattle.ssu_ir.specs.Tree.{Label}
 use Rattle.nv_base.specs.declared.term.Bin.TheVariants.{Add, Sub, And, Or, Xor}
+use Rattle.nv_base.specs.declared.term.Mem.{Mem}
+use Rattle.uc_isa.specs.declared.instruction.Gpr.{Gpr}
+use Rattle.uc_isa.specs.declared.instruction.Gpr.TheVariants as gpr
 use Rattle.uc_isa.specs.declared.instruction.Src.{Src}
+use Rattle.uc_isa.specs.declared.instruction.Src.TheVariants as src
 use Rattle.uc_isa.specs.declared.instruction.Dst.TheVariants as dst
 use Rattle.uc_isa.specs.declared.instruction.Instr.{Instr}
 use Rattle.uc_isa.specs.declared.instruction.Instr.TheVariants.{Alu, Un, Immed, Br, Read, Write, Halt}
@@ -17,10 +21,14 @@ use Rattle.uc_peep.specs.Rewrites.IsWithout.{Nothing, Gone, Tested, Stays}
 use Rattle.uc_peep.proofs.Without.{compares-straight}
 use Rattle.uc_peep_facts.specs.Turned.{IsTurned, opposite}
 use Rattle.uc_peep_facts.specs.Turned.IsTurned.{Nothing as Flat, Turned as OneBranch, Stays as Unturned, InTurn as TwiceTurned}
+use Rattle.uc_peep_facts.specs.Elsewhere.{AreReread, GoesAs, ReadsAs, Rereads}
+use Rattle.uc_peep_facts.specs.Elsewhere.AreReread.{Nothing as Alike, Each}
+use Rattle.uc_peep_facts.specs.Elsewhere.Rereads.{Same, Binary as BinaryAt, Unary as UnaryAt, Reading as ReadingAt, Writing as WritingAt, BinaryTest, UnaryTest, InTurn}
 use Rattle.uc_isa.specs.Relocated.{relocated}
 use Rattle.uc_isa.specs.StraightCode.{IsStraight}
-use Rattle.ucode_emit.specs.Operations.{Operation, code_operations, instr_operation}
-use Rattle.ucode_emit.specs.SpillBase.{IsOtherSource, KeepsBase, SpillsByBase}
+use Rattle.ucode_emit.specs.Operations.{Operation, access_operation, code_operations, instr_operation}
+use Rattle.ucode_emit.specs.Operations.Operation.{Reading, Writing}
+use Rattle.ucode_emit.specs.SpillBase.{IsOtherSource, KeepsBase, KeepsToSlots, SpillsByBase}
 use Rattle.nova_back.specs.LeftOut.{LeavesOut}
 use Rattle.nova_back.specs.LeftOut.LeavesOut.{Empty, Needless, Kept, Turned, InTurn as OneByOne}
 
@@ -100,6 +108,61 @@ spills-left slots a b (Stays f i code code' w) h = both (spills-left slots code 
   where
     both : SpillsByBase slots code' → SpillsByBase slots (relocated f i ∷ code')
     both rest zero d lt = keeps-relocated f slots i (h zero d (omega arith))
+    both rest (suc k) d lt = rest k d (omega arith)
+
+-- ---- instructions that read elsewhere
+
+access-same : (o : Operation) (x x' : Gpr) → GoesAs x x' → access_operation o x' ≡ access_operation o x
+access-same o x x' (inl same) = ap (access_operation o) same
+access-same o x x' (inr other) = far x' other.1 ∙ sym (far x other.0)
+  where
+    far : (x : Gpr) → x ≢ gpr.B 15 → access_operation o x ≡ Some o
+    far (gpr.A k) h = refl
+    far (gpr.B k) h = ap (λ (b : Bool). if b then None else Some o) (ne_eqb k 15 (λ e. h (ap gpr.B e)))
+
+reread-operation : (i j : Instr) → Rereads i j → instr_operation j ≡ instr_operation i
+reread-operation i j (Same k) = refl
+reread-operation i j (BinaryAt d op x x' y y' a b) = refl
+reread-operation i j (UnaryAt d op x x' a) = refl
+reread-operation i j (ReadingAt m r n x x' off a) = access-same (Reading m n) x x' a
+reread-operation i j (WritingAt m r n x x' off a) = access-same (Writing m n) x x' a
+reread-operation i j (BinaryTest d op x y) = refl
+reread-operation i j (UnaryTest d op x) = refl
+reread-operation i j (InTurn a b c s t) = reread-operation b c t ∙ reread-operation a b s
+
+pub operations-reread : (code code' : List Instr) → AreReread code code' → code_operations code' ≡ code_operations code
+operations-reread a b Alike = refl
+operations-reread a b (Each i j code code' h all) =
+    ap (λ o. cons_option o (code_operations code')) (reread-operation i j h) ∙ ap (cons_option (instr_operation i)) (operations-reread code code' all)
+
+other-source : (x y : Src) → ReadsAs x y → IsOtherSource x → IsOtherSource y
+other-source x y (inl same) h = subst IsOtherSource (sym same) h
+other-source x (src.A k) (inr far) h = tt
+other-source x (src.B k) (inr far) h = λ e. far (ap src.B e)
+other-source x (src.L k) (inr far) h = tt
+other-source x (src.LD k) (inr far) h = tt
+
+to-slots : (slots : ℕ) (m : Mem) (n : ℕ) (x y : Gpr) (off : ℕ) → GoesAs x y → KeepsToSlots slots m n x off → KeepsToSlots slots m n y off
+to-slots slots m n x y off (inl same) h = subst (λ z. KeepsToSlots slots m n z off) (sym same) h
+to-slots slots m n x (gpr.A k) off (inr far) h = tt
+to-slots slots m n x (gpr.B k) off (inr far) h = λ e. absurd (far.1 (ap gpr.B e))
+
+reread-base : (slots : ℕ) (i j : Instr) → Rereads i j → KeepsBase slots i → KeepsBase slots j
+reread-base slots i j (Same k) h = h
+reread-base slots i j (BinaryAt d op x x' y y' a b) h = (h.0, other-source x x' a h.1, other-source y y' b h.2)
+reread-base slots i j (UnaryAt d op x x' a) h = (h.0, other-source x x' a h.1)
+reread-base slots i j (ReadingAt m r n x x' off a) h = to-slots slots m n x x' off a h
+reread-base slots i j (WritingAt m r n x x' off a) h = to-slots slots m n x x' off a h
+reread-base slots i j (BinaryTest d op x y) h = (tt, h.1, h.2)
+reread-base slots i j (UnaryTest d op x) h = (tt, h.1)
+reread-base slots i j (InTurn a b c s t) h = reread-base slots b c t (reread-base slots a b s h)
+
+pub spills-reread : (slots : ℕ) (code code' : List Instr) → AreReread code code' → SpillsByBase slots code → SpillsByBase slots code'
+spills-reread slots a b Alike h = h
+spills-reread slots a b (Each i j code code' r all) h = both (spills-reread slots code code' all (λ k d lt. h (suc k) d (omega arith)))
+  where
+    both : SpillsByBase slots code' → SpillsByBase slots (j ∷ code')
+    both rest zero d lt = reread-base slots i j r (h zero d (omega arith))
     both rest (suc k) d lt = rest k d (omega arith)
 
 -- ---- turned branches

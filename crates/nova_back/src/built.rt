@@ -23,7 +23,7 @@ use ssu_ir::Ssu;
 use std::alloc::Global;
 use uc_isa::Code;
 use uc_peep::without_needless;
-use uc_peep_facts::{with_turned_branches, without_repeats};
+use uc_peep_facts::{with_sources, with_turned_branches, without_repeats};
 use ucode_emit::{Emitted, emit};
 use zo_cert::Report;
 use zo_model::Assignment;
@@ -38,8 +38,8 @@ pub struct Built {
     pub starts: Vec<u32>,
 }
 
-/// The code of a form whose values stand where a choice of banks has them, without instructions that repeat what stands
-/// already, without branches over a jump, and without needless instructions.
+/// The code of a form whose values stand where a choice of banks has them. It reads words where they came from. Instructions
+/// that repeat what stands already, needless ones, and branches over a jump are left out.
 fn code_of(
     alloc: Global,
     bank: &BankTables<'_>,
@@ -58,7 +58,8 @@ fn code_of(
 {
     let placement = assign_by(alloc, bank, slots, x)?;
     let emitted = emit(alloc, bank.form.ssu, &placement)?;
-    let first = without_needless(alloc, emitted.code, emitted.starts)?;
+    let read = with_sources(alloc, emitted.code, &emitted.starts)?;
+    let first = without_needless(alloc, read, emitted.starts)?;
     let once = without_repeats(alloc, first.code, first.starts)?;
     let turned = with_turned_branches(alloc, once.code, once.starts)?;
     let peeped = without_needless(alloc, turned.code, turned.starts)?;

@@ -178,8 +178,14 @@ fn unary_use(d: &Dst, op: &UnOp, x: &Src, heavy: bool) -> Use
     Use::Any
 }
 
-// The operand that is read in the place of this one.
-fn operand_for(x: &Src, u: &Use, facts: &Facts) -> Src
+// Whether an operation only compares.
+fn is_comparison(d: &Dst, op: &Bin) -> bool {
+    matches!(d, Dst::Nowhere) && matches!(op, Bin::Sub)
+}
+
+// The operand that is read in the place of this one. An operand that is compared isn't read from another literal's
+// register: where it is a zero of its own, both may be left out later.
+fn operand_for(x: &Src, u: &Use, facts: &Facts, is_compared: bool) -> Src
     requires { Fits u.now x.now }
     ensures same { HoldsSame (known facts.now) x.now result }
     ensures reads { ReadsAs x.now result }
@@ -191,6 +197,9 @@ fn operand_for(x: &Src, u: &Use, facts: &Facts) -> Src
                 return y;
             }
         }
+    }
+    if is_compared {
+        return *x;
     }
     match same_literal(x, facts) {
         Some(y) if fits(u, &y) => y,
@@ -210,7 +219,7 @@ fn address_for(x: &Gpr, facts: &Facts) -> Gpr
     if is_base(&from) {
         return *x;
     }
-    match operand_for(&from, &Use::Address, facts) {
+    match operand_for(&from, &Use::Address, facts, false) {
         Src::A(r) => Gpr::A(r),
         Src::B(r) => Gpr::B(r),
         _ => *x,
@@ -218,25 +227,25 @@ fn address_for(x: &Gpr, facts: &Facts) -> Gpr
 }
 
 // What an operation reads in the place of its first operand, before this second one.
-fn first_operand(x: &Src, y: &Src, facts: &Facts) -> Src
+fn first_operand(x: &Src, y: &Src, facts: &Facts, is_compared: bool) -> Src
     requires { AreApart x.now y.now }
     ensures same { HoldsSame (known facts.now) x.now result }
     ensures reads { ReadsAs x.now result }
     ensures apart { AreApart result y.now }
 {
     let u = Use::Before(*y);
-    operand_for(x, &u, facts)
+    operand_for(x, &u, facts, is_compared)
 }
 
 // What an operation reads in the place of its second operand, after this first one.
-fn second_operand(x: &Src, y: &Src, facts: &Facts) -> Src
+fn second_operand(x: &Src, y: &Src, facts: &Facts, is_compared: bool) -> Src
     requires { AreApart x.now y.now }
     ensures same { HoldsSame (known facts.now) y.now result }
     ensures reads { ReadsAs y.now result }
     ensures apart { AreApart x.now result }
 {
     let u = Use::After(*x);
-    operand_for(y, &u, facts)
+    operand_for(y, &u, facts, is_compared)
 }
 
 // An operation on two words that reads elsewhere.
@@ -244,8 +253,9 @@ fn reread_alu(d: &Dst, op: &Bin, x: &Src, y: &Src, facts: &Facts) -> Instr
     requires { IsFormed (Alu d.now op.now x.now y.now) }
     ensures { IsReread (known facts.now) (Alu d.now op.now x.now y.now) result }
 {
-    let first = first_operand(x, y, facts);
-    let second = second_operand(&first, y, facts);
+    let is_compared = is_comparison(d, op);
+    let first = first_operand(x, y, facts, is_compared);
+    let second = second_operand(&first, y, facts, is_compared);
     Instr::Alu {
         dst: *d,
         op: *op,
@@ -260,7 +270,7 @@ fn reread_un(d: &Dst, op: &UnOp, x: &Src, facts: &Facts, heavy: bool) -> Instr
     ensures { IsReread (known facts.now) (Un d.now op.now x.now) result }
 {
     let u = unary_use(d, op, x, heavy);
-    let from = operand_for(x, &u, facts);
+    let from = operand_for(x, &u, facts, false);
     Instr::Un {
         dst: *d,
         op: *op,
