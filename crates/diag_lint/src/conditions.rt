@@ -5,6 +5,7 @@ ghost use Rattle.nv_base.specs.Words.{compares};
 
 use crate::fields::field_bits;
 use crate::lint::Lint;
+use crate::ranges::are_apart;
 use nv_ast::{Expr, Kind, Op, ShiftOp};
 use nv_base::Cmp;
 
@@ -17,6 +18,8 @@ pub fn decided<'a>(lint: &Lint<'a>, e: &'a Expr) -> Option<bool> {
             Some(b) => Some(!b),
             None => None,
         },
+        Kind::Binary(Op::Both, a, b) if are_apart(a, b, true) => Some(false),
+        Kind::Binary(Op::Either, a, b) if are_apart(a, b, false) => Some(true),
         Kind::Binary(Op::Both, a, b) => one_of(decided(lint, a), decided(lint, b), false),
         Kind::Binary(Op::Either, a, b) => one_of(decided(lint, a), decided(lint, b), true),
         Kind::Binary(op, a, b) => compared(lint, *op, a, b),
@@ -61,8 +64,14 @@ fn of_words<'a>(lint: &Lint<'a>, cmp: Cmp, a: &'a Expr, b: &'a Expr) -> Option<b
     }
     match (number(a), number(b)) {
         (Some(x), Some(y)) => Some(cmp.holds(x, y)),
-        (None, Some(y)) => to_number(cmp, most(lint, a), y),
-        (Some(x), None) => from_number(cmp, x, most(lint, b)),
+        (None, Some(y)) => match unreached(cmp, bits(lint, a), y) {
+            Some(b) => Some(b),
+            None => to_number(cmp, most(lint, a), y),
+        },
+        (Some(x), None) => match unreached(cmp, bits(lint, b), x) {
+            Some(b) => Some(b),
+            None => from_number(cmp, x, most(lint, b)),
+        },
         (None, None) => None,
     }
 }
@@ -74,7 +83,8 @@ fn is_same(a: &Expr, b: &Expr) -> bool {
     }
 }
 
-fn number(e: &Expr) -> Option<u32> {
+/// The number that an expression is, where that is seen.
+pub fn number(e: &Expr) -> Option<u32> {
     match &e.kind {
         Kind::Number(n) => Some(*n),
         Kind::Paren(inner) => number(inner),
@@ -109,6 +119,29 @@ fn from_number(cmp: Cmp, x: u32, most: u32) -> Option<bool>
         Cmp::Lt if x >= most => Some(false),
         Cmp::Ge if x >= most => Some(true),
         _ => None,
+    }
+}
+
+// Whether words of these bits alone are equal to a number that has others.
+fn unreached(cmp: Cmp, bits: u32, y: u32) -> Option<bool> {
+    match cmp {
+        Cmp::Eq if y & !bits != 0 => Some(false),
+        Cmp::Ne if y & !bits != 0 => Some(true),
+        _ => None,
+    }
+}
+
+// The bits that a word may have.
+fn bits<'a>(lint: &Lint<'a>, e: &'a Expr) -> u32 {
+    match &e.kind {
+        Kind::Paren(inner) => bits(lint, inner),
+        Kind::Binary(Op::And, a, b) => bits(lint, a) & bits(lint, b),
+        Kind::Binary(Op::Or | Op::Xor, a, b) => bits(lint, a) | bits(lint, b),
+        Kind::Shift(ShiftOp::Left, inner, n) if *n < 32 => bits(lint, inner) << *n,
+        Kind::Shift(ShiftOp::Right, inner, n) if *n < 32 => bits(lint, inner) >> *n,
+        Kind::Number(n) => *n,
+        Kind::Dot(_, _) => most(lint, e),
+        _ => u32::MAX,
     }
 }
 

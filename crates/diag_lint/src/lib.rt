@@ -7,6 +7,7 @@ mod conditions;
 mod fields;
 mod lint;
 mod packing;
+mod ranges;
 mod uses;
 mod walk;
 mod warning;

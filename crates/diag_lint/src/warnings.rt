@@ -335,7 +335,7 @@ fn push_advice(out: &mut Message, cause: Cause) {
         Cause::Wide(_, _, _) => out.line("The field takes its lowest bits alone."),
         Cause::Endless => out.line("Count down or up, as in `go[n - 1]`."),
         Cause::Past(Mem::Sdram) => out.line(
-            "A memory has at most 32,768 quadwords, and an address of SDRAM counts quadwords.",
+            "SDRAM has at most 65,536 quadwords, and an address counts quadwords, of two words each.",
         ),
         Cause::Past(_) => out.line("A memory has at most 65,536 words."),
         Cause::Read => out.line("It can only end the run by an address fault. Leave it out."),

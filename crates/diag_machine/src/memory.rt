@@ -133,7 +133,7 @@ fn sizes_slip(alloc: Global, it: &mut Finding, line: &Line) -> Option<Mark> {
             it.help.line(SIZES_FORM);
             return Some(pieces.end());
         };
-        if let Some(mark) = number_slip(it, &piece, size, TEN_DIGITS) {
+        if let Some(mark) = number_slip(it, &piece, size, 65_536) {
             return Some(mark);
         }
     }

@@ -223,6 +223,10 @@ fn push_register_help(it: &mut Finding, piece: &Piece, banks: &[Bank]) {
         it.help.line("One blank parts two operands, and no comma.");
         return;
     }
+    if piece.text.contains(&b'+') {
+        it.help.line("An offset stands by itself, behind the register and a blank.");
+        return;
+    }
     let letters = letters_of(piece.text);
     for bank in ALL.iter() {
         if letters == bank.name && !is_register(piece.text, bank) {

@@ -1,7 +1,7 @@
 //! Lines that give words to a memory.
 
 use crate::nearest::push_meant;
-use crate::number::{TEN_DIGITS, number_slip};
+use crate::number::number_slip;
 use crate::place::{Line, Mark, Piece, Pieces};
 use crate::word::word_slip;
 use diag_text::finding::Finding;
@@ -29,7 +29,7 @@ pub fn stretch_slip(
         it.help.line(FORM);
         return Some(pieces.end());
     };
-    if let Some(mark) = number_slip(it, &at, "the address", TEN_DIGITS) {
+    if let Some(mark) = number_slip(it, &at, "the address", u64::MAX) {
         return Some(mark);
     }
     if let Some(mark) = words_slip(it, line, pieces) {
@@ -129,7 +129,7 @@ fn inside_slip(
     count: u64,
     sizes: (u64, u64),
 ) -> Option<Mark> {
-    let first = read_decimal(at.text, TEN_DIGITS)?;
+    let first = read_decimal(at.text, u64::MAX)?;
     let taken = match mem {
         Mem::Sdram => count / 2,
         Mem::Sram | Mem::Scratch => count,

@@ -14,6 +14,7 @@ pub enum Sort {
     Source,
     Assembly,
     Memory,
+    Readable,
     Schedule,
     Dump,
     Capture,
@@ -27,6 +28,7 @@ impl Sort {
             Sort::Source => "a source",
             Sort::Assembly => "an assembly text",
             Sort::Memory => "a memory text",
+            Sort::Readable => "a readable memory text",
             Sort::Schedule => "a schedule",
             Sort::Dump => "a dump of bytes",
             Sort::Capture => "a capture file",
@@ -38,8 +40,10 @@ impl Sort {
         match self {
             Sort::Outcome =>
                 "Its lines from `memory` on are a memory text, with a line `args` behind the first of them.",
-            Sort::Dump => "`examples/packet` makes a memory text from a dump of bytes.",
-            Sort::Capture => "`examples/packet --pcap` makes a memory text from a packet of it.",
+            Sort::Dump =>
+                "A readable memory text, in a file `NAME.nmem`, may say bytes so, behind `sdram 0:` and without their offsets.",
+            Sort::Readable => "The name of its file ends in `.nmem`.",
+            Sort::Capture => "`nova replay` runs a program on the packets of a capture.",
             _ => "",
         }
     }
@@ -67,9 +71,26 @@ pub fn sort_of(bytes: &[u8]) -> Option<Sort> {
         b"params" => Some(Sort::Assembly),
         b"memory" => Some(Sort::Memory),
         b"contexts" => Some(Sort::Schedule),
+        b"args" | b"sram" | b"sdram" | b"scratch" if has_block(bytes) => Some(Sort::Readable),
         text if is_offset(text) => Some(Sort::Dump),
         _ => None,
     }
+}
+
+// Whether a colon ends a word of one of the first lines of a text, as in `sdram 0:`.
+fn has_block(bytes: &[u8]) -> bool {
+    for number in 1..=4 {
+        let mut pieces = Line::numbered(bytes, number).pieces();
+        for _ in 0..pieces.most() {
+            let Some(piece) = pieces.next_piece() else {
+                break;
+            };
+            if piece.text.ends_with(b":") {
+                return true;
+            }
+        }
+    }
+    false
 }
 
 // Whether a line of a dump of bytes begins so, as `0000` or `0x0000:`.

@@ -84,6 +84,9 @@ fn push_length(it: &mut Finding, piece: &Piece) {
             it.help.put("Words are hexadecimal, with zeros before a small number. ");
             push_instead(it, value.min(u64::from(u32::MAX)) as u32)
         }
+        if piece.text.len() % 2 == 0 {
+            it.help.line("Four bytes are one word: of `45 00 00 54` it is `45000054`.")
+        }
     } else if piece.text.len() % 8 == 0 {
         it.help.line("A blank parts two words.")
     } else {

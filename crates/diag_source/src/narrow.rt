@@ -16,7 +16,10 @@ pub fn narrowed(bytes: &[u8], tokens: &[Token], fault: Fault) -> Span {
     let some = match fault.kind {
         2 => declared_name(&first),
         4 => faulty_size(&first, found.len()),
+        8 => unknown_in_head(&first, found.len()),
+        9 if first.next_is("[") => second_parameter(&first, found.len()),
         9 | 13 | 16 | 17 => pattern(&first, &last),
+        14 => last_value(&first, &last),
         3 if first.is(0, "layout") => unknown_layout(&first, found.len()),
         3 => argument_of(&first, &["unpack", "pack"]),
         11 => Some(first.span(0)),
@@ -78,6 +81,66 @@ fn unknown_layout(first: &Place, count: usize) -> Option<Span> {
         }
     }
     None
+}
+
+// The first name of a layout in the types of a head that isn't declared above it.
+fn unknown_in_head(first: &Place, count: usize) -> Option<Span> {
+    for n in first.index()..count {
+        let place = first.moved(n);
+        let is_named = place.is(1, "(") && place.is_among(2, &["packed", "unpacked"]);
+        if is_named && !is_declared(first, &place) {
+            return Some(place.span(0));
+        }
+    }
+    None
+}
+
+// The first parameter of a head whose name an earlier one has.
+fn second_parameter(first: &Place, count: usize) -> Option<Span> {
+    for n in first.index()..count {
+        let place = first.moved(n);
+        if place.is_parameter() && is_parameter_before(first, &place) {
+            return Some(place.span(0));
+        }
+        if place.is(0, "]") && place.next_is(":") {
+            return None;
+        }
+    }
+    None
+}
+
+// Whether a parameter of the name of another one stands before it.
+fn is_parameter_before(first: &Place, name: &Place) -> bool {
+    for n in first.index()..name.index() {
+        let place = first.moved(n);
+        if place.is_parameter() && place.text(0) == name.text(0) {
+            return true;
+        }
+    }
+    false
+}
+
+// What follows the statements that an expression begins with, where it begins with some.
+fn last_value(first: &Place, last: &Place) -> Option<Span> {
+    let mut depth: usize = 0;
+    let mut from = None;
+    for n in first.index()..last.index() {
+        let place = first.moved(n);
+        if place.is_among(0, &["{", "(", "["]) {
+            depth = depth.saturating_add(1);
+        } else if place.is_among(0, &["}", ")", "]"]) {
+            depth = depth.saturating_sub(1);
+        } else if depth == 0 && place.is(0, ";") {
+            from = Some(place.later(1).span(0));
+        } else if depth == 0 && place.is_among(0, &["if", "try"]) {
+            return if place.is(1, ";") {
+                Some(joined(place.span(0), last.span(1)))
+            } else {
+                None
+            };
+        }
+    }
+    Some(joined(from?, last.span(1)))
 }
 
 // Whether a layout of this name is declared above.

@@ -4,6 +4,7 @@ use crate::checked::Checked;
 use crate::elsewhere::{main_in_capitals, push_elsewhere};
 use crate::large::push_large_parts;
 use crate::narrow::{narrowed, narrowed_to};
+use diag_syntax::place::Place;
 use diag_text::finding::{Code, Finding, Form, Severity};
 use diag_text::kinds::{kind_advice, kind_sentence};
 use diag_types::Walk;
@@ -84,10 +85,30 @@ fn explain_walked<'a>(
         span,
     );
     found.help.message_text(&walk.note);
-    let advice = walk.advice.unwrap_or(kind_advice(fault.kind));
+    let known = walk.advice.unwrap_or(kind_advice(fault.kind));
+    let advice = seen_advice(it, fault).unwrap_or(known);
     if !advice.is_empty() {
         found.help.line(advice)
     }
+}
+
+// What helps against a value of another type, where its first tokens tell it.
+fn seen_advice(it: &Checked, fault: Fault) -> Option<&'static str> {
+    let place = Place::at(it.source.bytes, &it.tokens, fault.span.first as usize);
+    if fault.kind != 14 {
+        return None;
+    }
+    if place.is_number(0) && place.is_among(1, &["||", "&&"]) {
+        return Some("Each side is a comparison: `x == 1 || x == 2`.");
+    }
+    if place.is_among(0, &["true", "false"]) && place.is_among(1, &["==", "!="]) {
+        return Some("A word is compared with a number: `x == 1`.");
+    }
+    let is_access = place.is_among(0, &["sram", "sdram", "scratch"]) && place.next_is("[");
+    if is_access && place.later(2).is(0, "0") {
+        return Some("An access moves at least one word: `sram[1](at)`.");
+    }
+    None
 }
 
 // Where the name stands of which another declaration is told: kind 2 is told by the whole declaration.
@@ -105,7 +126,7 @@ fn shown_span(it: &Checked, walk: &Walk, program: &Program, fault: Fault) -> Opt
     }
     let span = narrowed(it.source.bytes, &it.tokens, fault);
     match walk.culprit {
-        Some(name) if fault.kind == 5 || fault.kind == 18 => Some(narrowed_to(
+        Some(name) if matches!(fault.kind, 5 | 14 | 18) => Some(narrowed_to(
             it.source.bytes,
             &it.tokens,
             span,

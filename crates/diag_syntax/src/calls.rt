@@ -17,6 +17,10 @@ const NO_DROP: &str = "nothing drops a packet";
 const DROP: &str =
     "An exception ends a run: `exception Drop[];` above, and `raise Drop[]` in an arm.";
 
+const NO_CHECK: &str = "nothing checks a condition but an `if`";
+
+const CHECK: &str = "Raise an exception: `if (c) x else raise E[]`.";
+
 const NO_OPTION: &str = "there are no options and results";
 
 const OPTION: &str =
@@ -26,6 +30,11 @@ const NO_EXTERN: &str = "there are no functions but those of the text";
 
 const EXTERN: &str =
     "Write the function: `fun hash[x: word]: word { x ^ (x >> 16) }`, and call it as `hash[x]`.";
+
+const ROTATION: &str = "a rotation is an operator";
+
+const ROTATED: &str =
+    "`x <<< 3` rotates by 3 places to the left, and `x <<< 29` by as many to the right.";
 
 const NO_OUTPUT: &str = "nothing is printed";
 
@@ -37,7 +46,7 @@ const NO_SIZE: &str = "a size isn't asked for at run time";
 const SIZE: &str = "`nova check --verbose` prints the bits and words of each layout.";
 
 // Each name with a sentence on it and what helps.
-const CALLS: [(&str, &str, &str); 42] = [
+const CALLS: [(&str, &str, &str); 50] = [
     ("htons", ORDER, NO_SWAP),
     ("htonl", ORDER, NO_SWAP),
     ("ntohs", ORDER, NO_SWAP),
@@ -52,6 +61,8 @@ const CALLS: [(&str, &str, &str); 42] = [
     ("drop", NO_DROP, DROP),
     ("mark_to_drop", NO_DROP, DROP),
     ("drop_packet", NO_DROP, DROP),
+    ("verify", NO_CHECK, CHECK),
+    ("assert_eq", NO_CHECK, CHECK),
     ("Some", NO_OPTION, OPTION),
     ("Ok", NO_OPTION, OPTION),
     ("Err", NO_OPTION, OPTION),
@@ -69,6 +80,12 @@ const CALLS: [(&str, &str, &str); 42] = [
     ("min", NO_EXTERN, EXTERN),
     ("max", NO_EXTERN, EXTERN),
     ("abs", NO_EXTERN, EXTERN),
+    ("rol", ROTATION, ROTATED),
+    ("rol32", ROTATION, ROTATED),
+    ("rotl", ROTATION, ROTATED),
+    ("ror", ROTATION, ROTATED),
+    ("rotr", ROTATION, ROTATED),
+    ("rotate_left", ROTATION, ROTATED),
     ("print", NO_OUTPUT, OUTCOME),
     ("printf", NO_OUTPUT, OUTCOME),
     ("println", NO_OUTPUT, OUTCOME),

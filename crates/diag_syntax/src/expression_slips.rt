@@ -3,7 +3,7 @@
 use crate::calls::call_slip;
 use crate::expected::Expected;
 use crate::place::Place;
-use crate::slip::{BIT_RANGE, ONE_LET, Slip};
+use crate::slip::{BIND_AGAIN, BIT_RANGE, COMPARED, NO_ASSIGNMENT, ONE_LET, Slip};
 
 /// A slip where an operand or an operator is expected.
 pub fn expression_slip(place: &Place, expected: &Expected) -> Option<Slip> {
@@ -36,7 +36,9 @@ fn is_operator_expected(expected: &Expected) -> bool {
 // After a sign of a shift.
 fn shift_slip(place: &Place) -> Option<Slip> {
     if place.is_among(0, &["=", ">", "<"]) {
-        return Slip::help("Logical shifts are `<<` and `>>`, and `<<<` rotates to the left.");
+        return Slip::help(
+            "Logical shifts are `<<` and `>>`, and `<<<` rotates to the left: `x <<< 29` by 3 places to the right.",
+        );
     }
     Slip::help(
         "A shift goes by a number that stands in the text. A loop, or a chain of `if`s, shifts by a variable.",
@@ -45,6 +47,11 @@ fn shift_slip(place: &Place) -> Option<Slip> {
 
 // Where an operand is expected.
 fn operand_slip(place: &Place) -> Option<Slip> {
+    if place.is_among(0, &["&&", "||"]) && place.is(1, ")") {
+        return Slip::help(
+            "Brackets stand round the whole condition: `if (x == 1 && y == 2) 1 else 2`.",
+        );
+    }
     match place.text(0) {
         b"word" | b"bool" if place.is(1, "(") => cast_slip(0),
         b"word" | b"bool" => Slip::titled(UNTYPED, BIND),
@@ -77,9 +84,8 @@ const BIND: &str = "Write `let x = 5;`. The type is that of the value.";
 // A sign in place of an operand.
 fn sign_slip(place: &Place) -> Option<Slip> {
     match place.text(0) {
-        b">" if place.is(1, "<=") => Slip::help(
-            "The comparisons are `==`, `!=`, `<`, `<=`, `>` and `>=`.",
-        ),
+        b">" if place.is(1, "<=") => Slip::help(COMPARED),
+        b">" if place.is(1, "|") => Slip::titled("there is no `|>`", "A call is `f[x, 1]`."),
         b">" if place.is(1, "<") => Slip::before(1, "there is no `<>`", "Write `!=`."),
         b">" if place.is(1, "-") => Slip::before(
             1,
@@ -90,6 +96,13 @@ fn sign_slip(place: &Place) -> Option<Slip> {
             "there are no closures",
             "A function is declared at the top: `fun f[x: word]: word { x + 1 }`.",
         ),
+        b":" if place.is(1, ")") => Slip::help(
+            "No colon stands behind a condition: `if (c) 1 else 2`.",
+        ),
+        b"+" if place.next_is("+") => Slip::titled(NO_ASSIGNMENT, BIND_AGAIN),
+        b"-" if place.next_is("-") && place.later(2).is_word(0) && place.later(2).is_joined() => {
+            Slip::titled(NO_ASSIGNMENT, BIND_AGAIN)
+        }
         b"-" if place.next_is("-") => Slip::help(
             "A comment begins with `//`. There is no unary minus: write `0 - x`.",
         ),
@@ -105,7 +118,9 @@ fn sign_slip(place: &Place) -> Option<Slip> {
         b"&" if place.is(1, "&&") => Slip::help(
             "There is no `&&&`. Under a mask a word is compared by `x & 0xf0 == 0x40`.",
         ),
+        b"&" if place.is(1, "&") => Slip::help("`&&` is one sign, without a blank between."),
         b"&" => Slip::help("There are no pointers: an address is a word."),
+        b"|" if place.is(1, "|") => Slip::help("`||` is one sign, without a blank between."),
         b"^" if place.is(1, "^") => Slip::help(
             "There is no `^^`. Between words write `^`, and of bools `a && !b || !a && b`.",
         ),
@@ -196,6 +211,15 @@ fn comparison_slip(place: &Place) -> Option<Slip> {
     if place.is(2, "<") && place.is_among(3, &["bit", "int", "varbit"]) {
         return Slip::before(3, UNTYPED, BIND);
     }
+    if place.is(2, "<")
+        && place.is_among(1, &["bit", "int", "varbit", "word", "u8", "u16", "u32"])
+    {
+        return Slip::before(
+            2,
+            "a function has no type arguments",
+            "Leave `<..>` out. A word has 32 bits, and its parts are fields of a layout.",
+        );
+    }
     if place.is_among(2, &["&", "|"]) {
         return Slip::before(
             2,
@@ -231,6 +255,9 @@ fn comma_slip(place: &Place) -> Option<Slip> {
     }
     if !open.is(0, "(") {
         return None;
+    }
+    if open.is(1, "if") {
+        return Slip::help("Conditions are joined by `&&` or `||`: `x == 1 && y == 2`.");
     }
     if open.is_among(1, &MEMORIES) || open.is(1, "]") && open.is_among(4, &MEMORIES) {
         return Slip::help(

@@ -68,6 +68,17 @@ const TABLE: &str =
 
 const ONE_TEXT: &str = "A program is one text: nothing is imported.";
 
+const COUNTER: &str =
+    "A counter is a word of a memory: `sram(at) <- sram[1](at) + 1;`. The file of the memories says what it holds first.";
+
+const SHIFT_WORD: &str = "a shift is a sign";
+
+const SHIFTS: &str = "Write `x << 8` and `x >> 8`, by a number that stands in the text.";
+
+const BIT_WORD: &str = "an operator on bits is a sign";
+
+const BIT_SIGNS: &str = "Write `x & y`, `x | y`, `x ^ y` and `~x`.";
+
 const EXCEPTION: &str = "An exception is declared by `exception E[word];`.";
 
 const HANDLER: &str =
@@ -76,7 +87,7 @@ const HANDLER: &str =
 // Each table has words of other languages, each with a sentence on it, which may be empty, and what helps.
 
 // Words that begin a statement, before the token.
-const STATEMENTS: [(&str, &str, &str); 28] = [
+const STATEMENTS: [(&str, &str, &str); 31] = [
     (
         "return",
         "there is no `return`: the last expression is the value",
@@ -92,7 +103,18 @@ const STATEMENTS: [(&str, &str, &str); 28] = [
     ("continue", NO_LOOP, END_OF_LOOP),
     ("goto", NO_LOOP, END_OF_LOOP),
     ("switch", NO_SWITCH, CHAIN),
-    ("match", NO_SWITCH, CHAIN),
+    ("match", "there is no `match`", CHAIN),
+    (
+        "begin",
+        "there is no `begin`",
+        "A block as a value stands in round brackets: `(let y = x; y + y)`.",
+    ),
+    ("apply", "there is no `apply`", ACTION),
+    (
+        "ref",
+        "there are no references",
+        "A name stands for its value. What changes stands in a memory, or is a parameter of a loop.",
+    ),
     ("select", "there is no `select`", CHAIN),
     ("case", NO_SWITCH, CHAIN),
     (
@@ -154,7 +176,7 @@ const BINDINGS: [(&str, &str, &str); 22] = [
 ];
 
 // Operators that are words, after an operand.
-const OPERATORS: [(&str, &str, &str); 9] = [
+const OPERATORS: [(&str, &str, &str); 16] = [
     (
         "and",
         "there is no operator `and`",
@@ -193,8 +215,15 @@ const OPERATORS: [(&str, &str, &str); 9] = [
     (
         "as",
         "there are no casts",
-        "Each number is a word. Of a bool write `if (b) 1 else 0`.",
+        "Each number is a word, its low byte `x & 0xff`. Of a bool write `if (b) 1 else 0`, and of a header `unpack[l](x)`.",
     ),
+    ("lsl", SHIFT_WORD, SHIFTS),
+    ("lsr", SHIFT_WORD, SHIFTS),
+    ("shl", SHIFT_WORD, SHIFTS),
+    ("shr", SHIFT_WORD, SHIFTS),
+    ("land", BIT_WORD, BIT_SIGNS),
+    ("lor", BIT_WORD, BIT_SIGNS),
+    ("lxor", BIT_WORD, BIT_SIGNS),
     (
         "end",
         "there is no `end`",
@@ -218,7 +247,7 @@ const HANDLERS: [(&str, &str, &str); 3] = [
 ];
 
 // Words that begin a declaration.
-const DECLARATIONS: [(&str, &str, &str); 57] = [
+const DECLARATIONS: [(&str, &str, &str); 61] = [
     ("let", "", CONSTANT),
     ("const", "", CONSTANT),
     ("static", "", CONSTANT),
@@ -259,6 +288,10 @@ const DECLARATIONS: [(&str, &str, &str); 57] = [
     ("parser", "", ACTION),
     ("state", "", ACTION),
     ("table", "", TABLE),
+    ("counter", "", COUNTER),
+    ("direct_counter", "", COUNTER),
+    ("meter", "", COUNTER),
+    ("register", "", COUNTER),
     ("import", "", ONE_TEXT),
     ("include", "", ONE_TEXT),
     ("use", "", ONE_TEXT),
@@ -345,6 +378,9 @@ fn slip_before(place: &Place) -> Option<Slip> {
             "Bind the name again: `let x = x + 1;`.",
         );
     }
+    if place.is(1, "rec") && place.is(2, "let") {
+        return Slip::before(1, "there is no `rec`", INNER);
+    }
     if place.is(1, "return") && place.is_among(0, &["Err", "err", "error", "None"]) {
         return Slip::before(
             1,
@@ -352,7 +388,7 @@ fn slip_before(place: &Place) -> Option<Slip> {
             "An error is an exception: `exception E[];` above, and `raise E[]` in an arm.",
         );
     }
-    if place.is_word(0) {
+    if place.is_word(0) && !place.is_in_layout() {
         if let Some(slip) = slip_of(place, 1, &BINDINGS) {
             return Some(slip);
         }
@@ -390,6 +426,14 @@ fn other_text(place: &Place) -> Option<Slip> {
     }
 }
 
+// Whether a `let` declares a function in the way of other languages.
+fn is_let_of_function(place: &Place) -> bool {
+    let behind = place.later(2);
+    place.is(0, "let")
+        && place.later(1).is_word(0)
+        && (behind.is_word(0) || behind.is_among(0, &["(", "["]))
+}
+
 /// A word of another language where a declaration is expected.
 pub fn declaration_slip(place: &Place) -> Option<Slip> {
     if let Some(slip) = other_text(place) {
@@ -404,6 +448,9 @@ pub fn declaration_slip(place: &Place) -> Option<Slip> {
     if place.is(0, ";") {
         return Slip::help("Only a `layout` and an `exception` end with `;`.");
     }
+    if place.is(0, "-") && place.next_is("-") {
+        return Slip::help("A comment begins with `//`.");
+    }
     if place.is_word(0) && place.next_is("fun") {
         return Slip::help(SEEN);
     }
@@ -414,8 +461,19 @@ pub fn declaration_slip(place: &Place) -> Option<Slip> {
             CONSTANT
         });
     }
+    if place.is(0, "and") {
+        return Slip::help(
+            "`and` joins a function to the one above it. The first of a group begins with `fun`.",
+        );
+    }
+    if place.is(0, ",") {
+        return Slip::help("Declarations follow each other without a comma.");
+    }
+    if is_let_of_function(place) {
+        return Slip::help(FUNCTION);
+    }
     match slip_of(place, 0, &DECLARATIONS) {
         Some(slip) => Some(slip),
-        None => Slip::help("A program is a list of `layout`, `exception` and `fun`."),
+        None => Slip::general("A program is a list of `layout`, `exception` and `fun`."),
     }
 }

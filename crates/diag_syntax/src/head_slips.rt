@@ -42,6 +42,9 @@ fn late_slip(place: &Place, expected: &Expected) -> Option<Slip> {
             "A store is a statement that begins with `sram(ADDRESS) <-`, without a count.",
         );
     }
+    if place.is(0, "handle") && is_in_try(place) {
+        return Slip::help("A brace ends the block of a `try`: `try { .. } handle E[] { .. }`.");
+    }
     if place.is(0, ":") && place.next_is("=") {
         return Slip::help("A variable is bound by `let x = 5;`.");
     }
@@ -49,10 +52,10 @@ fn late_slip(place: &Place, expected: &Expected) -> Option<Slip> {
         return Slip::titled("bits of a word have no numbers", BIT_RANGE);
     }
     if place.is(0, ":") && place.next_is(":") {
-        return Slip::titled(
-            "there is no `::`",
-            "A name is one word. A dot takes a record's field.",
-        );
+        return path_slip(place);
+    }
+    if place.is(0, ":") && place.is_word(1) && place.is_among(2, &["{", ";"]) {
+        return labelled_slip(place);
     }
     if place.is(0, ":") && expected.has("+") {
         return Slip::help(
@@ -63,6 +66,37 @@ fn late_slip(place: &Place, expected: &Expected) -> Option<Slip> {
         return Slip::help(HEAD);
     }
     None
+}
+
+// Whether the innermost bracket is the brace of a `try`.
+fn is_in_try(place: &Place) -> bool {
+    match place.open_bracket() {
+        Some(open) => open.is(1, "try"),
+        None => false,
+    }
+}
+
+// Two colons.
+fn path_slip(place: &Place) -> Option<Slip> {
+    Slip::titled(
+        "there is no `::`",
+        if place.later(2).is(0, "MAX") {
+            "The greatest word is `0xffffffff`."
+        } else {
+            "A name is one word. A dot takes a record's field."
+        },
+    )
+}
+
+// A colon behind the first word of a statement.
+fn labelled_slip(place: &Place) -> Option<Slip> {
+    if place.later(1).is_among(0, &["word", "bool"]) {
+        return Slip::help("A variable is bound by `let x = 5;`.");
+    }
+    Slip::titled(
+        "there are no labels",
+        "A place to go back to is a function that calls itself last: `fun again[n: word]: word { if (n == 0) 0 else again[n - 1] }`.",
+    )
 }
 
 // Memories, layouts and exceptions at work.
@@ -84,6 +118,11 @@ fn access_slip(place: &Place, expected: &Expected) -> Option<Slip> {
             "Write the layout's name and the value: `unpack[LAYOUT](w)`, `pack[LAYOUT]({ .. })`.",
         );
     }
+    if place.is(0, ",") && place.is(2, "[") && place.is_among(3, &["unpack", "pack"]) {
+        return Slip::help(
+            "Write the layout's name and the value: `unpack[LAYOUT](w)`, `pack[LAYOUT]({ .. })`.",
+        );
+    }
     let is_keyword = place.is(1, "(") && place.is_among(2, &["packed", "unpacked"])
         || place.is(1, "[") && place.is_among(2, &["pack", "unpack"]);
     if is_keyword && place.is_word(0) {
@@ -94,6 +133,11 @@ fn access_slip(place: &Place, expected: &Expected) -> Option<Slip> {
     if place.is_among(1, &["packed", "unpacked"]) {
         return Slip::help(
             "The types of a layout are `packed(l)`, its words, and `unpacked(l)`, the record of its fields.",
+        );
+    }
+    if place.is(1, "raise") {
+        return Slip::help(
+            "The name of an exception follows, and its values in `[ ]`: `raise E[x]`.",
         );
     }
     if place.is(2, "raise") {
@@ -116,6 +160,9 @@ fn handler_slip(place: &Place, expected: &Expected) -> Option<Slip> {
         return Slip::help(
             "A handler is `handle E[x] { .. }`, with one pattern for each value of the exception.",
         );
+    }
+    if is_after_handler(place) && expected.has("{") {
+        return Slip::help("The body of a handler stands in braces: `handle E[x] { .. }`.");
     }
     if expected.has("handle") {
         return Slip::help("A `try` has a handler: `try { .. } handle E[] { .. }`.");
@@ -147,6 +194,14 @@ fn handler_slip(place: &Place, expected: &Expected) -> Option<Slip> {
     None
 }
 
+// Whether the patterns of a handler stand before a place.
+fn is_after_handler(place: &Place) -> bool {
+    match place.opened(1) {
+        Some(open) => place.is(1, "]") && open.is(2, "handle"),
+        None => false,
+    }
+}
+
 // Between the braces of a layout.
 fn layout_slip(place: &Place, expected: &Expected) -> Option<Slip> {
     if !place.is_in_layout() {
@@ -167,7 +222,7 @@ fn layout_slip(place: &Place, expected: &Expected) -> Option<Slip> {
     if !place.is_among(1, &["{", ",", "|"]) {
         return None;
     }
-    if place.is_number(0) || place.is(0, "_") {
+    if place.is_number(0) || place.is_among(0, &["_", ":"]) {
         return Slip::help(
             "Bits without a name are a gap, joined by `##`: `{ a: 8 } ## {8} ## { b: 16 }`.",
         );
@@ -182,6 +237,20 @@ fn layout_slip(place: &Place, expected: &Expected) -> Option<Slip> {
 fn joint_slip(place: &Place, expected: &Expected) -> Option<Slip> {
     if place.is(0, ",") && expected.has("##") && !expected.has(",") {
         return Slip::help("Layouts are joined by `##`: `layout l = a ## { b: 8 };`.");
+    }
+    if place.is(0, "overlay") && place.is_among(1, &["=", "##"]) {
+        return Slip::help("An overlay is a field: `layout l = { v: overlay { a: 32 | b: 32 } };`.");
+    }
+    if place.is_word(0) && place.is_number(1) && expected.has(",") && !place.next_is(":") {
+        return Slip::help("A size is a number of bits alone: `a: 8`.");
+    }
+    if place.is(0, "[") && expected.has("##") {
+        return Slip::help(
+            "There are no arrays of layouts. Each header of a stack is unpacked by itself: `unpack[l](w)`.",
+        );
+    }
+    if place.is(0, ":") && expected.has("##") && !expected.has(",") {
+        return Slip::help("The fields of a layout stand in braces: `layout l = { a: 8, b: 24 };`.");
     }
     if place.is(1, "##") {
         return Slip::help("After `##` comes a layout: its name, `{ a: 8 }`, or a gap `{8}`.");
@@ -212,6 +281,12 @@ fn named_slip(place: &Place, expected: &Expected) -> Option<Slip> {
     if place.is(1, "try") {
         return Slip::help("Write `try { .. } handle E[] { .. }`.");
     }
+    if place.is(1, "exception") && !place.is_word(0) {
+        return Slip::help("An exception has a name: `exception E[word];`.");
+    }
+    if place.is(1, "layout") && !place.is_word(0) {
+        return Slip::help("A layout has a name: `layout l = { a: 8, b: 24 };`.");
+    }
     if place.is(3, "exception") && place.is(1, "[") && place.next_is(":") {
         return Slip::help(
             "The values of an exception have types and no names: `exception E[word];`.",
@@ -230,6 +305,15 @@ fn named_slip(place: &Place, expected: &Expected) -> Option<Slip> {
 
 // In the head of a function.
 fn function_slip(place: &Place, expected: &Expected) -> Option<Slip> {
+    if place.is_among(1, &["fun", "and", "layout", "exception"]) && place.is_number(0) {
+        return Slip::help("A name begins with a letter or `_`.");
+    }
+    if place.is_among(2, &["fun", "and"]) && place.is(0, "-") {
+        return Slip::help("A name has letters, digits and `_`: `count_down`.");
+    }
+    if place.is_among(1, &["fun", "and"]) && !place.is_word(0) {
+        return Slip::help("A function has a name: `fun f[x: word]: word { x }`.");
+    }
     if place.is_among(2, &["fun", "and"]) && place.is(0, "<") {
         return Slip::titled(
             "a function has no type parameters",
@@ -270,11 +354,19 @@ fn pattern_slip(place: &Place, expected: &Expected) -> Option<Slip> {
             b"," => Slip::help("Several names stand in `( )`: `let (a, b) = f[];`."),
             b";" => Slip::help("A `let` gives a value at once: `let x = 0;`."),
             b"[" => Slip::help("There are no arrays. A table is words of a memory."),
+            b"-" => Slip::help("A name has letters, digits and `_`: `total_length`."),
+            b"." => Slip::help(RECORD_ANEW),
+            _ if place.is_word(0) => Slip::help(
+                "A `let` is `let x = 5;`, and a function is declared at the top: `fun f[x: word]: word { x }`.",
+            ),
             _ => Slip::help("A `let` is `let x = 5;`."),
         };
     }
     if place.is(1, ")") && expected.has("=") && place.is(0, ":") {
         return Slip::help("A `let` has no type: `let (a, b) = f[];`.");
+    }
+    if place.is_word(0) && place.is_in_pattern() && expected.has(",") {
+        return Slip::help("The names of a pattern are parted by `,`: `let (a, b) = f[];`.");
     }
     if place.is(0, ":") && place.is_in_pattern() {
         return Slip::help("A pattern has no types: `let (a, b) = f[];`.");
@@ -306,6 +398,20 @@ fn colon_slip(place: &Place, expected: &Expected) -> Option<Slip> {
     if place.is_among(0, &["word", "bool"]) && expected.has("]") && expected.has("x") {
         return Slip::help("A parameter is its name, a colon and its type: `fun f[x: word]`.");
     }
+    if place.is_word(0) && expected.has("]") && expected.has("x") && !expected.has("1") {
+        return Slip::help("A keyword is no name. Choose another name.");
+    }
+    if place.is(0, "(") && expected.has("]") && expected.has("x") && !expected.has("1") {
+        return Slip::help(
+            "A function without parameters has `[]`, and a parameter is its name, a colon and its type: `fun f[x: word]`.",
+        );
+    }
+    if expected.has("=") && place.is(0, ".") && place.is_among(2, &["{", ","]) {
+        return Slip::help("Each field of a record has its name: `{ a = h.a, b = 1 }`.");
+    }
+    if place.is(0, "with") && expected.has("=") {
+        return Slip::help(RECORD_ANEW);
+    }
     if expected.has("=") && place.is(0, ":") {
         return Slip::help("A record's value has `=`: `{ source = 1 }`.");
     }
@@ -327,9 +433,22 @@ const PASSING: [&str; 7] = ["in", "out", "inout", "const", "mut", "ref", "var"];
 // Where a colon is expected.
 fn before_colon_slip(place: &Place) -> Option<Slip> {
     match place.text(0) {
+        b"," | b"}" if place.is_in_layout() => Slip::help(
+            "A field is its name, a colon and its bits: `a: 8`.",
+        ),
+        b"]" if place.is_among(1, &["void", "unit", "none"]) => Slip::before(
+            1,
+            "the list of no parameters is empty",
+            "A function without parameters is `fun f[]: word { 1 }`.",
+        ),
         b"," | b"]" => Slip::help("A parameter has a type: `fun f[x: word]`."),
         b"=" => Slip::help("A colon gives the type or the bits: `{ a: 8 }`."),
         b"<" => Slip::help("A field is its name, a colon and its bits: `a: 8`."),
+        _ if place.is_word(0) && place.is_in_layout() && place.next_is(":") => Slip::before(
+            1,
+            "a field is its name and its bits alone",
+            "Leave the word out: `a: 8`.",
+        ),
         b"}" => Slip::help(
             "A function is `fun f[x: word]: word { x }`. A brace after the colon begins a record's type.",
         ),
@@ -347,8 +466,22 @@ fn before_colon_slip(place: &Place) -> Option<Slip> {
 // A sign between fields or layouts that isn't theirs.
 fn sign_slip(place: &Place, expected: &Expected) -> Option<Slip> {
     match place.text(0) {
+        b";" if place.is_in_layout() && place.ends_declaration() => None,
+        b"-" if place.next_is(">") => Slip::titled(
+            "a function is no value",
+            "It has no type and isn't handed on: a call names its function.",
+        ),
+        b":" if expected.has("]") && expected.has(",") => Slip::help(
+            "`]` ends the parameters, and the type of the result follows: `fun f[x: word]: word { x }`.",
+        ),
         b";" if expected.has(",") => Slip::help(
             "The fields of a layout and the parts of a list are parted by `,`.",
+        ),
+        b"<" if place.is(1, "word") => Slip::help(
+            "A word has 32 bits. Parts of fewer bits are fields of a layout: `layout l = { a: 8, b: 24 };`.",
+        ),
+        _ if place.is_word(0) && place.next_is(":") && expected.has(",") => Slip::gap(
+            "The parts of a list are parted by `,`.",
         ),
         b"," if expected.has("|") => Slip::help(
             "The alternatives of an overlay are parted by `|`.",

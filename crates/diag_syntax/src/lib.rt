@@ -8,6 +8,7 @@ mod expected;
 mod expression_slips;
 mod foreign;
 mod head_slips;
+mod misspelled;
 pub mod place;
 mod slip;
 mod slips;

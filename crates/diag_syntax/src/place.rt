@@ -103,6 +103,18 @@ impl<'a, 't> Place<'a, 't> {
         }
     }
 
+    /// Whether the token that is so many before it is a name, and no keyword.
+    pub fn is_name(&self, back: usize) -> bool {
+        match self.token(back) {
+            Some(token) => matches!(token.sort, Sort::Word(_)),
+            None => false,
+        }
+    }
+
+    fn token(&self, back: usize) -> Option<&'t Token> {
+        self.tokens.get(self.index.checked_sub(back)?)
+    }
+
     /// Whether the token that is so many before it is a number.
     pub fn is_number(&self, back: usize) -> bool {
         match self.text(back).first() {
@@ -138,6 +150,29 @@ impl<'a, 't> Place<'a, 't> {
             }
         }
         false
+    }
+
+    /// Whether the token that is so many before it stands at one place of the text alone.
+    pub fn stands_once(&self, back: usize) -> bool {
+        let name = self.text(back);
+        let mut count: usize = 0;
+        for n in 0..self.tokens.len() {
+            if self.moved(n).text(0) == name {
+                count = count.saturating_add(1);
+            }
+        }
+        count == 1
+    }
+
+    /// Whether the token begins a declaration.
+    pub fn begins_declaration(&self) -> bool {
+        self.is_among(0, &["fun", "layout", "exception"])
+    }
+
+    /// Whether the token is a `;` after which a declaration or nothing follows.
+    pub fn ends_declaration(&self) -> bool {
+        let next = self.later(1);
+        self.is(0, ";") && (next.text(0).is_empty() || next.begins_declaration())
     }
 
     /// Whether the token opens a bracket behind which `<-` stands.
@@ -265,15 +300,15 @@ impl<'a, 't> Place<'a, 't> {
         false
     }
 
-    /// Whether a comment with a `;` stands between the token and the one before it, on the line of that one.
-    pub fn is_after_commented_end(&self) -> bool {
+    /// Whether a comment with a byte stands between the token and the one before it, on the line of that one.
+    pub fn is_after_commented(&self, wanted: u8) -> bool {
         let from = self.span(1).after as usize;
         let to = self.span(0).first as usize;
         for byte in part(self.bytes, from, to) {
             if *byte == b'\n' {
                 return false;
             }
-            if *byte == b';' {
+            if *byte == wanted {
                 return true;
             }
         }

@@ -32,6 +32,16 @@ impl Slip {
         })
     }
 
+    /// The same, said in general.
+    pub fn general(help: &'static str) -> Option<Slip> {
+        Some(Slip {
+            title: None,
+            help,
+            mark: Mark::Found,
+            is_general: true,
+        })
+    }
+
     /// The same, shown after the token before.
     pub fn gap(help: &'static str) -> Option<Slip> {
         Some(Slip {
@@ -65,6 +75,13 @@ impl Slip {
 
 /// Of an `=` or an arrow that would change a value.
 pub const NO_ASSIGNMENT: &str = "nothing is assigned";
+
+/// What stands in place of an assignment.
+pub const BIND_AGAIN: &str =
+    "Bind the name again: `let x = x + 1;`. What changes from turn to turn of a loop is a parameter.";
+
+/// Of what is no comparison.
+pub const COMPARED: &str = "The comparisons are `==`, `!=`, `<`, `<=`, `>` and `>=`.";
 
 /// What stands in place of a range of bits.
 pub const BIT_RANGE: &str =

@@ -6,7 +6,7 @@ use crate::expression_slips::expression_slip;
 use crate::foreign::{declaration_slip, word_slip};
 use crate::head_slips::head_slip;
 use crate::place::Place;
-use crate::slip::{Mark, NO_ASSIGNMENT, ONE_LET, RECORD_ANEW, Slip};
+use crate::slip::{BIND_AGAIN, COMPARED, Mark, NO_ASSIGNMENT, ONE_LET, RECORD_ANEW, Slip};
 
 /// The slip at a place, or what is said in general.
 pub fn slip_at(place: &Place, expected: &Expected) -> Slip {
@@ -48,6 +48,16 @@ fn number_slip(place: &Place) -> Option<Slip> {
         return None;
     };
     match *byte {
+        b'X' if place.is(1, "0") => Slip::before(
+            1,
+            "a hexadecimal number begins with `0x`",
+            "Write a small `x`: `0xff`.",
+        ),
+        b'x' if place.is(1, "0") => Slip::before(
+            1,
+            "no hexadecimal digit follows `0x`",
+            "The digits are 0 to 9 and a to f: `0xff`.",
+        ),
         b'_' => Slip::before(
             1,
             "a number has no `_`",
@@ -112,6 +122,9 @@ fn statement_slip(place: &Place, expected: &Expected) -> Option<Slip> {
     if let Some(slip) = choice_slip(place, expected) {
         return Some(slip);
     }
+    if is_commented_brace(place, expected) {
+        return Slip::gap(QUOTIENT);
+    }
     if place.is(0, ";") {
         return semicolon_slip(place, expected);
     }
@@ -121,10 +134,16 @@ fn statement_slip(place: &Place, expected: &Expected) -> Option<Slip> {
     None
 }
 
-const COMPARED: &str = "The comparisons are `==`, `!=`, `<`, `<=`, `>` and `>=`.";
+// Whether the text or a function ends without its brace, and a comment on the last line has one.
+fn is_commented_brace(place: &Place, expected: &Expected) -> bool {
+    let is_end = place.text(0).is_empty() || place.begins_declaration();
+    is_end && expected.has("}") && place.is_after_commented(b'}')
+}
 
-const BIND_AGAIN: &str =
-    "Bind the name again: `let x = x + 1;`. What changes from turn to turn of a loop is a parameter.";
+const CHOSEN: &str = "A choice gives the value: `let x = if (c) 5 else x;`.";
+
+const QUOTIENT: &str =
+    "`//` begins a comment, up to the line's end. A quotient by a power of two is a shift: `x >> 3`.";
 
 // An `=` where none may stand, and signs such as `+=` and `++`.
 fn assignment_slip(place: &Place, expected: &Expected) -> Option<Slip> {
@@ -135,7 +154,8 @@ fn assignment_slip(place: &Place, expected: &Expected) -> Option<Slip> {
     if !place.is(0, "=") {
         return None;
     }
-    if expected.has("~") && place.is_joined() && place.is_among(1, &["==", "!="]) {
+    let is_parted = !place.is_joined() && place.is_among(1, &["<", ">", "!"]);
+    if expected.has("~") && (is_parted || place.is_joined() && place.is_among(1, &["==", "!="])) {
         return Slip::help(COMPARED);
     }
     let is_operand = expected.has("~") || place.is_among(1, &SHIFTS);
@@ -160,13 +180,26 @@ fn assignment_slip(place: &Place, expected: &Expected) -> Option<Slip> {
     if place.is(2, ".") {
         return Slip::titled(NO_ASSIGNMENT, RECORD_ANEW);
     }
+    if place.is(1, ")") {
+        return Slip::titled(
+            NO_ASSIGNMENT,
+            "Several names are bound by `let (a, b) = f[];`.",
+        );
+    }
     if place.is(1, "]") {
         return Slip::titled(
             NO_ASSIGNMENT,
             "There are no arrays. A table is words of a memory: `sram(at + i) <- x;`.",
         );
     }
-    Slip::titled(NO_ASSIGNMENT, BIND_AGAIN)
+    Slip::titled(
+        NO_ASSIGNMENT,
+        if place.open_choice().is_some() {
+            CHOSEN
+        } else {
+            BIND_AGAIN
+        },
+    )
 }
 
 // Two signs `++` or `--`.
@@ -214,6 +247,19 @@ fn is_in_condition(place: &Place) -> bool {
 fn choice_slip(place: &Place, expected: &Expected) -> Option<Slip> {
     if expected.has("else") {
         return unfinished_choice(place);
+    }
+    if place.is(0, "else") && place.is(1, ")") && expected.has("~") {
+        return Slip::help("The first arm is missing: `if (c) 1 else 2`. That of nothing is `()`.");
+    }
+    if place.is(0, "else") && expected.has("~") && !place.is(1, ";") {
+        return Slip::help(if place.is(1, "{") {
+            "An `if` stands before its `else`: `if (c) 1 else 2`."
+        } else {
+            "An operand is missing."
+        });
+    }
+    if place.is(0, "else") && place.is(1, ";") && place.open_choice().is_none() {
+        return Slip::help("An `if` stands before its `else`: `if (c) 1 else 2`.");
     }
     if place.is(0, "else") && place.is(1, ";") {
         return Slip::gap("An arm ends with a value: write `()` after its last `;`.");
@@ -272,6 +318,13 @@ fn semicolon_slip(place: &Place, expected: &Expected) -> Option<Slip> {
     if let Some(slip) = raised_slip(place) {
         return Some(slip);
     }
+    if expected.has("~") {
+        return Slip::help(if is_after_condition(place) {
+            "The arms of an `if` follow its condition: `if (c) 1 else 2`."
+        } else {
+            "A value is missing before the `;`."
+        });
+    }
     if !expected.has("+") || place.is_in_brackets() {
         return None;
     }
@@ -291,6 +344,14 @@ fn semicolon_slip(place: &Place, expected: &Expected) -> Option<Slip> {
     Slip::help(
         "Only a `let` and a store end with `;`. Leave it out after a block's value, or write `let _ = ..;`.",
     )
+}
+
+// Whether the condition of an `if` stands before a place.
+fn is_after_condition(place: &Place) -> bool {
+    match place.opened(1) {
+        Some(open) => place.is(1, ")") && open.is(1, "if"),
+        None => false,
+    }
 }
 
 // A slip at a token before that is shown so many tokens further back.
@@ -317,7 +378,7 @@ fn raised_slip(place: &Place) -> Option<Slip> {
 
 // A statement that hasn't ended.
 fn unended_slip(place: &Place) -> Option<Slip> {
-    if place.is_after_commented_end() {
+    if place.is_after_commented(b';') {
         return Slip::gap(
             "A `let` and a store end with `;`, and `//` begins a comment. A quotient by a power of two is a shift: `x >> 3`.",
         );
@@ -337,6 +398,8 @@ fn general_slip(place: &Place, expected: &Expected) -> Slip {
         end_help(expected)
     } else if expected.has(";") && !expected.has("+") {
         "A `layout` and an `exception` end with `;`."
+    } else if expected.has(";") && is_beside(place) {
+        "Between two values stands an operator. A call is `f[x, 1]`, and a `let` and a store end with `;`."
     } else if expected.has(";") {
         "A `let` and a store end with `;`."
     } else if place.is_among(0, &[")", "]", "}"]) && expected.has("+") {
@@ -356,6 +419,12 @@ fn general_slip(place: &Place, expected: &Expected) -> Slip {
         },
         is_general: true,
     }
+}
+
+// Whether a value stands right behind another one on a line.
+fn is_beside(place: &Place) -> bool {
+    let is_value = place.is_word(0) || place.is_number(0);
+    is_value && (place.is_word(1) || place.is_number(1)) && !place.is_on_new_line()
 }
 
 // Where only more is missing.
@@ -379,8 +448,12 @@ fn kind_help(place: &Place, expected: &Expected) -> &'static str {
         "`_` is a pattern, and no name of a parameter or a value."
     } else if expected.has("x") && place.is_word(0) && !expected.has("~") {
         "A keyword is no name. Choose another name."
-    } else if expected.has("+") && place.is_word(0) && place.is_word(1) && !place.is_in_brackets() {
-        "Between two values stands an operator. A call is `f[x, 1]`."
+    } else if expected.has("+") && place.is_word(0) && place.is_word(1) {
+        if place.is_in_brackets() {
+            "Between two values stands an operator or a comma. A call is `f[x, 1]`."
+        } else {
+            "Between two values stands an operator. A call is `f[x, 1]`."
+        }
     } else if expected.has("+") {
         "Between two values stands an operator or a comma."
     } else {
@@ -392,6 +465,8 @@ fn kind_help(place: &Place, expected: &Expected) -> &'static str {
 pub fn byte_advice(front: &[u8], rest: &[u8]) -> &'static str {
     if rest.starts_with(b"/*") {
         "A comment is `// ..` up to the line's end. There is no `/* .. */`."
+    } else if rest.starts_with(b"#def") && takes_arguments(rest) {
+        "A macro with arguments is a function: `fun least[x: word, y: word]: word { if (x < y) x else y }`."
     } else if rest.starts_with(b"#def") {
         "A constant is a function without parameters: `fun limit[]: word { 1500 }`."
     } else if rest.starts_with(b"#i") || rest.starts_with(b"#p") {
@@ -400,16 +475,57 @@ pub fn byte_advice(front: &[u8], rest: &[u8]) -> &'static str {
         "A byte order mark stands before the program. Save the text without it."
     } else if rest.starts_with(b"?;") || rest.starts_with(b"?.") || rest.starts_with(b"?)") {
         "An exception needs no sign: it ends what is under way, up to its handler."
-    } else if rest.starts_with(b"*/") {
+    } else if rest.starts_with(b"*/") || rest.starts_with(b"* ") && front.ends_with(b"(") {
         "A comment is `// ..` up to the line's end. There is no `/* .. */`."
     } else if rest.starts_with(b"*") && !ends_with_operand(front) {
         "There are no pointers: an address is a word, and `sram[1](at)` fetches the word there."
+    } else if rest.starts_with(b"/") && ends_with_address(front) {
+        "A prefix is compared under its mask: `x & 0xff000000 == 0x0a000000`."
+    } else if rest.starts_with(b"'") && ends_with_operand(front) {
+        "A name has letters, digits and `_`."
+    } else if rest.starts_with(b"\"")
+        && (front.ends_with(b"import ") || front.ends_with(b"include "))
+    {
+        "A program is one text: nothing is imported."
+    } else if rest.starts_with(b"\"")
+        && (front.ends_with(b"print(") || front.ends_with(b"printf("))
+    {
+        "Nothing is printed: a run tells the value of `main` and what it wrote, and `nova run --trace` the values of variables."
+    } else if rest.starts_with(b"\"") && front.ends_with(b"!(") {
+        "There are no macros and no strings. A run ends by an exception: `raise E[]`."
     } else {
         match rest.first() {
             Some(byte) => single_byte_advice(*byte),
             None => "",
         }
     }
+}
+
+// Whether four numbers with points between them end a text.
+fn ends_with_address(front: &[u8]) -> bool {
+    let mut points: usize = 0;
+    for byte in front.iter().rev() {
+        match *byte {
+            b'.' => points = points.saturating_add(1),
+            b'0'..=b'9' => {}
+            _ => return points == 3,
+        }
+    }
+    false
+}
+
+// Whether a bracket follows the second word of a text at once.
+fn takes_arguments(text: &[u8]) -> bool {
+    let mut blanks: usize = 0;
+    for byte in text {
+        match *byte {
+            b'(' => return blanks == 1,
+            b' ' => blanks = blanks.saturating_add(1),
+            b'\n' => return false,
+            _ => {}
+        }
+    }
+    false
 }
 
 // Whether the last byte that isn't blank ends a name, a number or a bracket.
@@ -431,6 +547,7 @@ fn single_byte_advice(byte: u8) -> &'static str {
         b'?' => "There is no `? :`. Write `if (c) 1 else 2`.",
         b'@' => "There are no annotations. A name has letters, digits and `_`.",
         b'$' => "A name has letters, digits and `_`.",
+        b'\\' => "A function is no value: declare it at the top, `fun f[x: word]: word { x }`.",
         128..=255 => "Names and numbers are of ASCII. Only a comment may hold other bytes.",
         _ => "Take it out: only a comment may hold this byte.",
     }

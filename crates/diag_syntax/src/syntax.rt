@@ -3,8 +3,9 @@
 use crate::address::explain_address;
 use crate::alike::alike_at;
 use crate::expected::Expected;
+use crate::misspelled::{misspelled_before, misspelled_here};
 use crate::place::Place;
-use crate::slip::Mark;
+use crate::slip::{Mark, Slip};
 use crate::slips::{byte_advice, slip_at};
 use diag_text::finding::{Code, Finding};
 use nv_ast::Span;
@@ -121,7 +122,7 @@ fn explain_token(alloc: Global, it: &mut Finding, bytes: &[u8], at: u32, found: 
         return;
     }
     let expected = Expected::at(alloc, &mut it.help, bytes, found, at as usize);
-    let slip = slip_at(&place, &expected);
+    let slip = slip_of(alloc, &mut it.help, &place, &expected);
     it.span = Some(marked(&place, slip.mark));
     match slip.title {
         Some(title) => it.title.put(title),
@@ -130,6 +131,21 @@ fn explain_token(alloc: Global, it: &mut Finding, bytes: &[u8], at: u32, found: 
     let is_told = push_open(&mut it.help, bytes, &place, &expected);
     if !is_told || !slip.is_general {
         push_help(&mut it.help, slip.help)
+    }
+}
+
+// The slip at a place. Where none is known, a keyword may be misspelled.
+fn slip_of(alloc: Global, out: &mut Message, place: &Place, expected: &Expected) -> Slip {
+    if let Some(slip) = misspelled_before(alloc, out, place) {
+        return slip;
+    }
+    let slip = slip_at(place, expected);
+    if !slip.is_general {
+        return slip;
+    }
+    match misspelled_here(alloc, out, place, expected) {
+        Some(found) => found,
+        None => slip,
     }
 }
 
@@ -214,11 +230,22 @@ fn unfinished<'a, 't>(place: &Place<'a, 't>, expected: &Expected) -> Option<Plac
 
 // Whether a bracket should have been closed before a place.
 fn is_unclosed(place: &Place, open: &Place, expected: &Expected) -> bool {
-    if place.text(0).is_empty() || place.is_among(0, &["fun", "layout", "exception"]) {
+    if is_named(place, open) {
+        return false;
+    }
+    if place.text(0).is_empty() || place.begins_declaration() {
+        return true;
+    }
+    if open.is(0, "{") && place.is_in_layout() && place.ends_declaration() {
         return true;
     }
     let closing = open.closing();
     expected.has(closing) && !open.is(0, "{") && !place.is(0, closing) && place.is_among(0, &ENDING)
+}
+
+// Whether a token is a keyword in the place of the name of a parameter or a field.
+fn is_named(place: &Place, open: &Place) -> bool {
+    open.is_among(0, &["[", "{"]) && place.next_is(":")
 }
 
 // Tokens before which the round and square brackets of a statement are closed.

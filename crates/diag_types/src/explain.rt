@@ -91,7 +91,7 @@ impl<'a> Walk<'a> {
             Why::Packed(_) => self.explain_packed(t, found),
             _ => false,
         };
-        if is_told {
+        if is_told && self.advice.is_none() {
             let advice = self.advice_on(why, t, found);
             self.advise(advice);
         }
@@ -604,6 +604,9 @@ impl<'a> Walk<'a> {
                     self.advice = Some(
                         "SDRAM moves pairs of words. Fetch one more and leave it out, as `let (x, _) = sdram[2](at);`, or store one more.",
                     );
+                }
+                if words == 0 {
+                    self.advice = Some("No words are moved: leave the access out.");
                 }
             }
             20 => self.explain_scratch(words, address),

@@ -1,7 +1,7 @@
 //! How a record, or a number of words, differs from what a layout has.
 
 use crate::walk::Walk;
-use diag_text::types::{Part, kind_of};
+use diag_text::types::{BOOL, Part, WORD, kind_of};
 use nv_ast::Name;
 
 impl<'a> Walk<'a> {
@@ -23,6 +23,43 @@ impl<'a> Walk<'a> {
             || is_unknown
             || self.note_order(layout, record)
             || self.note_overlays(layout, record)
+            || self.note_kinds(layout, record)
+    }
+
+    // Tells the first field of bits that is given no word, and gives whether there is one.
+    fn note_kinds(&mut self, layout: &[Part<'a>], record: &[Part<'a>]) -> bool {
+        for it in layout {
+            if self.note_kind(it, record) {
+                return true;
+            }
+        }
+        false
+    }
+
+    // The same of one field.
+    fn note_kind(&mut self, field: &Part<'a>, record: &[Part<'a>]) -> bool {
+        let Some(name) = field.name else {
+            return false;
+        };
+        let Some(found) = kind_of(record, name) else {
+            return false;
+        };
+        if field.kind != WORD || found == WORD {
+            return false;
+        }
+        self.culprit = Some(name);
+        self.advice = Some(if found == BOOL {
+            "A word of a bool is `if (b) 1 else 0`."
+        } else {
+            "A field of bits takes one word."
+        });
+        self.note.put("expected: word, as the field ");
+        self.note.quoted(name.bytes());
+        self.note.line("");
+        self.note.put("found: ");
+        self.types.push(self.alloc, &mut self.note, found);
+        self.note.line("");
+        true
     }
 
     // Tells which fields of some aren't among others, and gives whether there are any.

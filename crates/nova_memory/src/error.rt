@@ -39,6 +39,40 @@ pub enum Reason {
     Open,
     /// A backslash before a sign that has no meaning there.
     Escape,
+    /// Another word for `args`.
+    Arguments,
+    /// The first word of an outcome text.
+    Outcome,
+    /// The first word of a source.
+    Source,
+    /// The first word of an assembly text.
+    Assembly,
+    /// A comment of another language.
+    Comment,
+    /// A colon or an equals sign by itself.
+    Apart,
+    /// A single quote.
+    Quote,
+    /// A comma or a semicolon at the end.
+    Comma,
+    /// The name of a memory in another spelling, or joined to its address.
+    Memory,
+    /// A zero before a decimal number.
+    Zero,
+    /// A minus sign.
+    Negative,
+    /// A number of more than 32 bits.
+    Above,
+    /// Hexadecimal digits without `0x`.
+    Prefix,
+    /// Digits and points that are no IPv4 address.
+    Four,
+    /// A length behind an IPv4 address.
+    Mask,
+    /// Colons or hyphens in what is no address.
+    Address,
+    /// The offset of a line of a dump.
+    Offset,
 }
 
 impl Reason {
@@ -56,6 +90,23 @@ impl Reason {
             Reason::Many => "there are at most eight arguments",
             Reason::Open => "no quote ends the text on its line",
             Reason::Escape => "no sign is spelled so",
+            Reason::Arguments => "the arguments begin with `args`",
+            Reason::Outcome => "this is an outcome text, and no memory text",
+            Reason::Source => "this is a source, and no memory text",
+            Reason::Assembly => "this is an assembly text, and no memory text",
+            Reason::Comment => "no comment begins so",
+            Reason::Apart => "a sign stands by itself",
+            Reason::Quote => "a text stands in double quotes",
+            Reason::Comma => "a sign ends the token",
+            Reason::Memory => "no memory is called so",
+            Reason::Zero => "a zero stands before a decimal number",
+            Reason::Negative => "a word has no sign",
+            Reason::Above => "a word is at most 4,294,967,295, which is `0xffffffff`",
+            Reason::Prefix => "`0x` stands before other than eight hexadecimal digits",
+            Reason::Four => "no IPv4 address is spelled so",
+            Reason::Mask => "a length stands behind an address",
+            Reason::Address => "no address is spelled so",
+            Reason::Offset => "an offset stands among the bytes",
         }
     }
 
@@ -73,7 +124,27 @@ impl Reason {
                 "Bytes are two hexadecimal digits each, addresses as `10.0.0.1`, or a text in quotes.",
             Reason::Word =>
                 "An argument is a decimal number, `0x` and digits, eight hexadecimal digits or an address.",
-            Reason::Many => "",
+            Reason::Many | Reason::Above | Reason::Assembly => "",
+            Reason::Arguments => "Write `args` and the words that `main` takes.",
+            Reason::Outcome =>
+                "Its lines from `memory` on are a memory text, with a line `args` behind the first of them.",
+            Reason::Source => "The words are SRC MEM: the source stands first.",
+            Reason::Comment =>
+                "A comment begins with `#` or `//`, and goes on up to the line's end.",
+            Reason::Apart => "A colon follows its address at once: `sdram 0:`.",
+            Reason::Quote => "Write `\"ping\"`.",
+            Reason::Comma => "Blanks and line ends part the tokens.",
+            Reason::Memory =>
+                "A block begins as `sram 0:`, `sdram 0:` or `scratch 0:`, with a blank before its address.",
+            Reason::Zero => "Write `10` without it, or `0x10` for 16.",
+            Reason::Negative => "Write -1 as `0xffffffff`.",
+            Reason::Prefix => "Write `0xff`. Eight digits need no `0x`.",
+            Reason::Four => "It is four numbers of 0 to 255: `10.0.0.1`.",
+            Reason::Mask => "Write the address and its mask: `10.0.0.0 255.0.0.0`.",
+            Reason::Address =>
+                "A hardware address has six pairs of digits, as `02:00:5e:10:00:01`, and an IPv6 address is as `2001:db8::1`.",
+            Reason::Offset =>
+                "Leave the offsets of a dump out: the address of a block says where its bytes begin.",
             Reason::Open => "Write `\\x22` for a quote and `\\n` for a line's end in a text.",
             Reason::Escape =>
                 "There are `\\\\`, `\\n`, `\\r`, `\\t` and `\\x` with two digits, as `\\x22` for a quote.",

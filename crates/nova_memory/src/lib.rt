@@ -13,7 +13,9 @@ mod quoted;
 mod reading;
 mod sizes;
 mod token;
+mod told;
 
 pub use dump::dump_of;
 pub use error::{ReadableError, Reason};
+pub use lines::first_word;
 pub use reading::{args_place, memory_of_readable};

@@ -56,8 +56,8 @@ pub fn words_in(alloc: Global, mem: Mem, bytes: &[u8]) -> Result<Vec<u32>, Alloc
     Ok(words)
 }
 
-// The word of the first four bytes, with zeros for those that lack, and what follows.
-fn first_word(rest: &[u8]) -> (u32, &[u8])
+/// The word of the first four bytes, with zeros for those that lack, and what follows.
+pub fn first_word(rest: &[u8]) -> (u32, &[u8])
     requires { rest.now ≢ [] }
     ensures word { words_of rest.now ≡ result.0 ∷ words_of result.1.now }
     ensures shorter { length result.1.now < length rest.now }

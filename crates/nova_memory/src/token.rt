@@ -4,6 +4,7 @@ ghost use Rattle.nv_lines.specs.Line.{Lacks};
 ghost use Rattle.nova_memory.specs.Tokens.{BeginsComment, IsApart, IsBlank, IsLineEnd};
 
 use crate::error::{ReadableError, Reason};
+use crate::told::told;
 use nv_base::NoMemory;
 use nv_lines::split_once;
 use std::alloc::Global;
@@ -20,7 +21,7 @@ impl<'a> Token<'a> {
     /// It can't stand where it does.
     pub fn bad(&self, reason: Reason) -> ReadableError {
         let (first, after) = self.places();
-        ReadableError::Bad(first, after, reason)
+        ReadableError::Bad(first, after, told(self.text, reason))
     }
 
     /// The place of its first byte, and the one behind its last.
