@@ -1,3 +1,9 @@
-pub mod Readings
-pub mod Sent
+pub mod HeadLaws
 pub mod Ids
+pub mod LengthLaws
+pub mod MessageLaws
+pub mod Readings
+pub mod Refusals
+pub mod Sent
+pub mod Taken
+pub mod Written

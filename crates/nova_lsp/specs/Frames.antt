@@ -1,6 +1,8 @@
 -- How contents stand in what is sent: each with its length before it.
 use Rattle.std.specs.Prelude.{◌≡◌, ℕ, List, [], ◌∷◌, ◌++◌, length, codes, decimal}
-use Rattle.std.specs.List.{flat_map}
+use Rattle.serde_json.specs.Data.{null}
+use Rattle.nova_lsp.specs.Codes.{internal_error}
+use Rattle.nova_lsp.specs.Replies.{IsRefusal}
 use Rattle.nova_lsp.specs.declared.envelope.Reply.{Reply}
 use Rattle.nova_lsp.specs.declared.envelope.Reply.TheVariants.{Nothing, Content, NoMemory}
 
@@ -8,16 +10,12 @@ use Rattle.nova_lsp.specs.declared.envelope.Reply.TheVariants.{Nothing, Content,
 abbrev pub frame : List ℕ → List ℕ
 frame content = codes "Content-Length: " ++ (decimal (length content) ++ (13 ∷ 10 ∷ 13 ∷ 10 ∷ content))
 
--- contents, one after the other
-abbrev pub frames : List (List ℕ) → List ℕ
-frames contents = flat_map frame contents
+-- what is written for a reply; without memory for it, a refusal that says so
+abbrev pub IsWritten : Reply → List ℕ → Type 0
+IsWritten Nothing bytes = bytes ≡ []
+IsWritten (Content content) bytes = bytes ≡ frame content.items
+IsWritten NoMemory bytes = (content : List ℕ) × IsRefusal null internal_error content × (bytes ≡ frame content)
 
--- what was written, and then contents in frames
-abbrev pub AppendsFrames : List ℕ → List ℕ → Type 0
-AppendsFrames old new = (contents : List (List ℕ)) × (new ≡ old ++ frames contents)
-
--- what was written, and then what a reply is; without memory for it, some content
+-- what was written grew by a reply
 abbrev pub AppendsReply : Reply → List ℕ → List ℕ → Type 0
-AppendsReply Nothing old new = new ≡ old
-AppendsReply (Content content) old new = new ≡ old ++ frame content.items
-AppendsReply NoMemory old new = (content : List ℕ) × (new ≡ old ++ frame content)
+AppendsReply reply old new = (bytes : List ℕ) × IsWritten reply bytes × (new ≡ old ++ bytes)

@@ -1,2 +1,10 @@
+pub mod Codes
+pub mod Exchanges
 pub mod Frames
+pub mod HeadLines
+pub mod Heads
+pub mod Messages
+pub mod Methods
+pub mod Reading
 pub mod Replies
+pub mod Stages

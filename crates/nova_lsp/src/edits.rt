@@ -1,10 +1,9 @@
-//! Changes of a text that are offered: its format, and what mends a warning.
+//! The edits that format a text.
 
 use nova_fmt::formatted;
-use nova_lsp_document::{Document, Encoding, Position, list_at, number_at, push_comma, text_at};
+use nova_lsp_document::{Document, Encoding, push_comma};
 use nv_lines::{Message, part};
 use nv_text::{MOST_BYTES, TextError};
-use serde_json::Value;
 use std::alloc::Global;
 
 /// Appends the edits that format a text; none where it has a faulty token.
@@ -59,7 +58,8 @@ fn end_of(document: &Document, line: usize) -> usize {
     }
 }
 
-fn push_edit(
+/// Appends the edit that puts bytes in the place of a stretch of a text.
+pub fn push_edit(
     out: &mut Message,
     document: &Document,
     from: usize,
@@ -72,50 +72,4 @@ fn push_edit(
     out.put(",\"newText\":");
     out.string(new);
     out.put("}")
-}
-
-/// Appends what mends the warnings of a request: of a name that is never used, an underscore before it.
-pub fn push_actions(out: &mut Message, document: &Document, params: &Value, encoding: Encoding) {
-    let mut is_first = true;
-    out.put("[");
-    for it in list_at(params, "/context/diagnostics") {
-        push_action(out, document, it, &mut is_first, encoding)
-    }
-    out.put("]")
-}
-
-fn push_action(
-    out: &mut Message,
-    document: &Document,
-    it: &Value,
-    is_first: &mut bool,
-    encoding: Encoding,
-) {
-    let place = Position {
-        line: number_at(it, "/range/start/line"),
-        character: number_at(it, "/range/start/character"),
-    };
-    let at = document.byte(place, encoding);
-    let message = text_at(it, "/message");
-    if message.contains("begin its name with `_`") && is_name(document, at) {
-        push_comma(out, is_first);
-        push_fix(out, document, at, "Begin the name with `_`", encoding)
-    }
-}
-
-fn is_name(document: &Document, at: usize) -> bool {
-    match document.names.token_at(at) {
-        Some(token) => document.names.name(token).is_some() && document.names.first_of(token) == at,
-        None => false,
-    }
-}
-
-fn push_fix(out: &mut Message, document: &Document, at: usize, title: &str, encoding: Encoding) {
-    out.put("{\"title\":");
-    out.string(title.as_bytes());
-    out.put(",\"kind\":\"quickfix\",\"edit\":{\"changes\":{");
-    out.string(document.uri.as_bytes());
-    out.put(":[");
-    push_edit(out, document, at, at, b"_", encoding);
-    out.put("]}}}")
 }

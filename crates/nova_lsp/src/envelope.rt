@@ -1,11 +1,12 @@
 //! The texts of answers and notices. What is sent was read again, as the editor will read it.
-ghost use Rattle.std.specs.Prelude.{◌≡◌, codes, true, None, Some};
+ghost use Rattle.std.specs.Prelude.{◌≡◌, codes, true, not, is_some, None, Some};
 ghost use Rattle.serde_json.specs.Data.{null};
 ghost use Rattle.serde_json.specs.Find.{get};
 ghost use Rattle.serde_json.specs.View.{view};
-ghost use Rattle.nova_lsp.specs.Replies.{IsAnswer, IsNotice, IsReply};
+ghost use Rattle.nova_lsp.specs.Replies.{IsAnswer, IsNotice, IsRefusal, IsRefused, IsReply, error_code};
 
-use crate::wanted::is_same;
+use crate::kind::is_same;
+use itoa::Buffer;
 use serde_json::Value;
 use std::alloc::{AllocError, Global};
 
@@ -21,49 +22,61 @@ pub enum Reply {
 /// Why a request isn't answered by a result: the number that the protocol has for it, and a sentence.
 #[derive(Clone, Copy)]
 pub struct Fault {
-    pub code: &'static str,
+    pub code: i64,
     pub message: &'static str,
 }
 
 /// The content isn't JSON.
 pub const NO_JSON: Fault = Fault {
-    code: "-32700",
+    code: -32700,
     message: "the content isn't JSON",
 };
 
 /// The message isn't a request, a notice or an answer, or may not come now.
 pub const INVALID: Fault = Fault {
-    code: "-32600",
+    code: -32600,
     message: "no such message is expected",
+};
+
+/// The head of a message tells no length.
+pub const NO_LENGTH: Fault = Fault {
+    code: -32600,
+    message: "the head of the message tells no length of its content",
+};
+
+/// The content of a message is too long.
+pub const TOO_LONG: Fault = Fault {
+    code: -32600,
+    message: "the content of the message is longer than 16,777,216 bytes",
 };
 
 /// No such method.
 pub const NO_METHOD: Fault = Fault {
-    code: "-32601",
+    code: -32601,
     message: "there is no such method",
 };
 
 /// The parameters don't fit.
 pub const NO_DOCUMENT: Fault = Fault {
-    code: "-32602",
+    code: -32602,
     message: "the document isn't open",
 };
 
 /// Memory ran out.
 pub const NO_MEMORY: Fault = Fault {
-    code: "-32603",
+    code: -32603,
     message: "out of memory",
 };
 
 /// The text of the answer isn't one.
 const INTERNAL: Fault = Fault {
-    code: "-32603",
+    code: -32603,
     message: "the answer can't be written",
 };
 
 /// A request before `initialize`.
 pub const NOT_INITIALIZED: Fault = Fault {
-    code: "-32002",
+    code: -32002,
     message: "`initialize` comes first",
 };
 
@@ -89,7 +102,7 @@ fn is_answer(alloc: Global, id: &Value, text: &[u8]) -> bool
 {
     match Value::from_slice(alloc, text) {
         Ok(answer) => {
-            let is_answer = has_id(&answer, id);
+            let is_answer = has_id(&answer, id) && has_one(&answer);
             drop(answer);
             is_answer
         }
@@ -106,6 +119,49 @@ fn has_id(answer: &Value, id: &Value) -> bool
     }
 }
 
+// Whether there is a result or an error, but not both.
+fn has_one(answer: &Value) -> bool
+    ensures { result ≡ true → is_some (get (codes "result") (view answer.now)) ≡ not (is_some (get (codes "error") (view answer.now))) }
+{
+    if answer.get("result").is_some() {
+        answer.get("error").is_none()
+    } else {
+        answer.get("error").is_some()
+    }
+}
+
+// Whether a text is a refusal with an id and a number.
+fn is_refusal(alloc: Global, id: &Value, code: i64, text: &[u8]) -> bool
+    ensures { result ≡ true → IsRefusal (view id.now) code text.now }
+{
+    match Value::from_slice(alloc, text) {
+        Ok(answer) => {
+            let is_refusal = has_id(&answer, id)
+                && answer.get("result").is_none()
+                && has_code(&answer, code);
+            drop(answer);
+            is_refusal
+        }
+        Err(_) => false,
+    }
+}
+
+fn has_code(answer: &Value, code: i64) -> bool
+    ensures { result ≡ true → error_code (view answer.now) ≡ Some code }
+{
+    match code_of(answer) {
+        Some(found) => found == code,
+        None => false,
+    }
+}
+
+// The number of an error.
+fn code_of(answer: &Value) -> Option<i64>
+    ensures { result ≡ error_code (view answer.now) }
+{
+    answer.get("error")?.get("code")?.as_i64()
+}
+
 // Whether a text is a notice.
 fn is_notice(alloc: Global, text: &[u8]) -> bool
     ensures { result ≡ true → IsNotice text.now }
@@ -120,13 +176,15 @@ fn is_notice(alloc: Global, text: &[u8]) -> bool
     }
 }
 
+#[tactic(auto, using(crate::proofs::Refusals::is_answer))]
 /// The answer to the request with an id: why there is no result.
 pub fn refused(alloc: Global, id: &Value, fault: Fault) -> Reply
-    ensures { IsReply (Some (view id.now)) result }
+    ensures reply { IsReply (Some (view id.now)) result }
+    ensures refused { IsRefused (view id.now) fault.code result }
 {
     match refusal_text(alloc, id, fault) {
         Ok(text) => {
-            if is_answer(alloc, id, &text) {
+            if is_refusal(alloc, id, fault.code, &text) {
                 return Reply::Content(text);
             }
             drop(text);
@@ -139,15 +197,16 @@ pub fn refused(alloc: Global, id: &Value, fault: Fault) -> Reply
 #[tactic(auto, using(crate::proofs::Ids::view_null))]
 /// The answer to what is no request: its id is null.
 pub fn refused_null(alloc: Global, fault: Fault) -> Reply
-    ensures { IsReply (Some null) result }
+    ensures { IsRefused null fault.code result }
 {
     refused(alloc, &Value::Null, fault)
 }
 
 fn refusal_text(alloc: Global, id: &Value, fault: Fault) -> Result<Vec<u8>, AllocError> {
+    let mut code = Buffer::new();
     let mut error = Vec::new(alloc);
     error.extend_from_slice(b"{\"code\":")?;
-    error.extend_from_slice(fault.code.as_bytes())?;
+    error.extend_from_slice(code.format(fault.code).as_bytes())?;
     error.extend_from_slice(b",\"message\":\"")?;
     error.extend_from_slice(fault.message.as_bytes())?;
     error.extend_from_slice(b"\"}")?;

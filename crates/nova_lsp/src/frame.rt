@@ -1,183 +1,108 @@
-//! Messages with the length of their content before them.
+//! Messages, each with the length of its content before it.
+ghost use Rattle.std.specs.Prelude.{◌≡◌, ◌≢◌, ◌++◌, ℕ, List, [], length};
+ghost use Rattle.std.specs.Io.KnownBytes.{Consumes, IsAtEnd};
+ghost use Rattle.nova_lsp.specs.Reading.{IsRead, IsContent, IsKeptOf};
 
-use nv_lines::split_once;
+use crate::head::next_head;
+use crate::input::Short;
 use std::alloc::Global;
 use std::io::{ErrorKind, Read};
 
 /// The longest content that is read.
 const LONGEST: u64 = 16_777_216;
 
-/// How much of a line of a head is looked at.
-const LOOKED_AT: usize = 64;
-
 /// What comes next.
 #[derive(Drop)]
 pub enum Incoming {
     /// The content of a message.
     Content(Vec<u8>),
-    /// A message whose head has no length, or too large a one. Its content was passed over.
-    Unread,
+    /// A head that tells no length. What follows is the next message.
+    NoLength,
+    /// A content that is too long. It was passed over.
+    TooLong,
     /// There is no memory for the content, which was passed over.
     NoMemory,
-    /// The end of the input.
+    /// The input ends, before a message or within one.
     End,
-}
-
-// What a head says of the length of its content.
-#[derive(Clone, Copy)]
-enum Head {
-    Length(u64),
-    NoLength,
-    End,
+    /// A read failed.
+    Failed,
 }
 
 /// Reads the next message. Only the content takes memory.
-pub fn next_message<R: Read>(alloc: Global, input: &mut R) -> Incoming {
+pub fn next_message<R: Read>(alloc: Global, input: &mut R) -> Incoming
+    ensures read { (front : List ℕ) × Consumes (R.remaining input.old) (R.remaining input.new) front × IsRead front result }
+    ensures end { result ≡ Incoming.End → IsAtEnd (R.remaining input.new) }
+{
     match next_head(input) {
-        Head::Length(length) => content(alloc, input, length),
-        Head::NoLength => Incoming::Unread,
-        Head::End => Incoming::End,
+        Ok(Some(length)) => content(alloc, input, length),
+        Ok(None) => Incoming::NoLength,
+        Err(Short::End) => Incoming::End,
+        Err(Short::Failed) => Incoming::Failed,
     }
 }
 
-fn next_head<R: Read>(input: &mut R) -> Head {
-    let mut length = None;
-    for _ in 0..u64::MAX {
-        let mut line = Line::new();
-        if !line.read(input) {
-            return Head::End;
-        }
-        if line.is_blank() {
-            return match length {
-                Some(n) => Head::Length(n),
-                None => Head::NoLength,
-            };
-        }
-        length = length_in(line.front()).or(length)
-    }
-    Head::End
-}
-
-// The front of a line without its end, and whether the line is longer.
-#[derive(Drop)]
-struct Line {
-    bytes: [u8; 64],
-    length: usize,
-}
-
-impl Line {
-    fn new() -> Line {
-        Line {
-            bytes: [0u8; 64],
-            length: 0,
-        }
-    }
-
-    // Reads a line, and gives whether there was an end of it.
-    fn read<R: Read>(&mut self, input: &mut R) -> bool {
-        for _ in 0..u64::MAX {
-            match next_byte(input) {
-                Some(b'\n') => return true,
-                Some(byte) => self.push(byte),
-                None => return false,
-            }
-        }
-        false
-    }
-
-    fn push(&mut self, byte: u8) {
-        if self.length < LOOKED_AT {
-            self.bytes[self.length] = byte;
-            self.length += 1;
-        }
-    }
-
-    fn front(&self) -> &[u8] {
-        &self.bytes[..self.length.min(LOOKED_AT)]
-    }
-
-    // Whether nothing stands on it.
-    fn is_blank(&self) -> bool {
-        matches!(self.front(), [] | [b'\r'])
-    }
-}
-
-fn next_byte<R: Read>(input: &mut R) -> Option<u8> {
-    let mut buffer = [0u8; 1];
-    for _ in 0..u64::MAX {
-        match input.read(&mut buffer) {
-            Ok(0) => return None,
-            Ok(_) => return Some(buffer[0]),
-            Err(e) if e.kind() == ErrorKind::Interrupted => {}
-            Err(_) => return None,
-        }
-    }
-    None
-}
-
-// The length that a line of a head gives.
-fn length_in(line: &[u8]) -> Option<u64> {
-    let (name, value) = split_once(line, b':')?;
-    if !name.eq_ignore_ascii_case(b"content-length") {
-        return None;
-    }
-    read_length(value.trim_ascii())
-}
-
-// A number of up to 12 digits.
-fn read_length(digits: &[u8]) -> Option<u64> {
-    if digits.is_empty() || digits.len() > 12 {
-        return None;
-    }
-    let mut n: u64 = 0;
-    for digit in digits {
-        if !digit.is_ascii_digit() {
-            return None;
-        }
-        n = n.saturating_mul(10).saturating_add(u64::from(*digit & 15))
-    }
-    Some(n)
-}
-
-fn content<R: Read>(alloc: Global, input: &mut R, length: u64) -> Incoming {
-    if length > LONGEST {
-        return if pass_over(input, length) {
-            Incoming::Unread
-        } else {
-            Incoming::End
-        };
-    }
-    match Vec::from_elem(alloc, 0u8, length as usize) {
-        Ok(mut bytes) => {
-            if input.read_exact(&mut bytes).is_ok() {
-                return Incoming::Content(bytes);
-            }
-            drop(bytes);
-            Incoming::End
-        }
-        Err(_) => if pass_over(input, length) {
-            Incoming::NoMemory
-        } else {
-            Incoming::End
-        },
-    }
-}
-
-// Reads a content of so many bytes and forgets it, and gives whether they were there.
-fn pass_over<R: Read>(input: &mut R, length: u64) -> bool {
-    let mut left = length;
+// Reads a content of so many bytes. Memory is taken for bytes that came, however many are told.
+fn content<R: Read>(alloc: Global, input: &mut R, count: u64) -> Incoming
+    ensures read { (front : List ℕ) × Consumes (R.remaining input.old) (R.remaining input.new) front × IsContent count front result }
+    ensures end { result ≡ Incoming.End → IsAtEnd (R.remaining input.new) }
+{
+    let mut kept = first_kept(alloc, count);
+    let mut left = count;
     let mut buffer = [0u8; 4096];
     for _ in 0..u64::MAX {
         if left == 0 {
-            return true;
+            return whole(kept, count);
         }
         let most = left.min(4096) as usize;
-        match input.read(&mut buffer[..most]) {
-            Ok(0) => return false,
-            Ok(n) => left = left.saturating_sub(n as u64),
+        let part = &mut buffer[..most];
+        match input.read(part) {
+            Ok(0) => return Incoming::End,
+            Ok(n) => {
+                left -= n as u64;
+                keep(&mut kept, &part[..n])
+            }
             Err(e) if e.kind() == ErrorKind::Interrupted => {}
-            Err(_) => return false,
+            Err(_) => return Incoming::Failed,
         }
     }
-    false
+    Incoming::Failed
+}
+
+// No byte yet. A content that is too long isn't kept.
+fn first_kept(alloc: Global, count: u64) -> Option<Vec<u8>>
+    ensures { IsKeptOf count result [] }
+{
+    if count > LONGEST {
+        None
+    } else {
+        Some(Vec::new(alloc))
+    }
+}
+
+// Keeps more bytes, or none where memory runs out.
+fn keep(kept: &mut Option<Vec<u8>>, bytes: &[u8])
+    ensures { (n : ℕ) (front : List ℕ) → IsKeptOf n kept.old front → IsKeptOf n kept.new (front ++ bytes.now) }
+{
+    let is_short = match kept {
+        Some(list) => list.extend_from_slice(bytes).is_err(),
+        None => false,
+    };
+    if is_short {
+        *kept = None;
+    }
+}
+
+// What comes of a content whose bytes all came.
+fn whole(kept: Option<Vec<u8>>, count: u64) -> Incoming
+    ensures content { (front : List ℕ) → IsKeptOf count kept front → length front ≡ count → IsContent count front result }
+    ensures end { result ≢ Incoming.End }
+{
+    match kept {
+        Some(bytes) => Incoming::Content(bytes),
+        None => if count > LONGEST {
+            Incoming::TooLong
+        } else {
+            Incoming::NoMemory
+        },
+    }
 }

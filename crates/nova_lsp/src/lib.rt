@@ -5,22 +5,27 @@
 
 mod check;
 mod diagnostics;
+mod documents;
 mod edits;
 mod envelope;
+mod fixes;
 mod frame;
+mod head;
 mod hover;
+mod input;
+mod kind;
+mod method;
 mod rename;
 mod requests;
 mod sending;
 mod server;
 mod session;
-mod wanted;
+mod stage;
 
 pub use envelope::{
-    Fault, INVALID, NO_DOCUMENT, NO_JSON, NO_MEMORY, NO_METHOD, NOT_INITIALIZED, Reply, answered,
-    notice, refused, refused_null,
+    Fault, INVALID, NO_DOCUMENT, NO_JSON, NO_LENGTH, NO_MEMORY, NO_METHOD, NOT_INITIALIZED, Reply,
+    TOO_LONG, answered, notice, refused, refused_null,
 };
 pub use frame::{Incoming, next_message};
 pub use sending::send;
-pub use server::serve;
-pub use wanted::{Wanted, wanted_answer};
+pub use server::{Ended, serve};

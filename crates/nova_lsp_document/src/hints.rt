@@ -1,6 +1,7 @@
-//! Sizes beside declarations.
+//! What an editor shows beside the text.
 
 use crate::document::Document;
+use crate::fetches::push_fetches;
 use crate::json::push_comma;
 use crate::positions::{Encoding, push_position};
 use crate::sizes::size_line;
@@ -8,20 +9,26 @@ use memchr::memchr;
 use nova_lsp_names::{Definition, Role};
 use nv_lines::{Message, part};
 
-/// Appends beside the name of each layout and function how large it is, while the text has no fault.
+/// Appends beside the name of each layout, exception and function how large it is, while the text has no fault, and beside a
+/// name of a fetched tuple which word it is.
 pub fn push_hints(out: &mut Message, document: &Document, encoding: Encoding) {
     let mut is_first = true;
-    let mut n: usize = 0;
     out.put("[");
     if document.typed.is_some() {
-        for line in document.sizes.split(|byte| *byte == b'\n') {
-            if let Some(found) = next_global(document, n, line) {
-                push_hint(out, document, found, line, &mut is_first, encoding);
-                n = found.saturating_add(1)
-            }
+        push_sizes(out, document, &mut is_first, encoding)
+    }
+    push_fetches(out, document, &mut is_first, encoding);
+    out.put("]")
+}
+
+fn push_sizes(out: &mut Message, document: &Document, is_first: &mut bool, encoding: Encoding) {
+    let mut n: usize = 0;
+    for line in document.sizes.split(|byte| *byte == b'\n') {
+        if let Some(found) = next_global(document, n, line) {
+            push_hint(out, document, found, line, is_first, encoding);
+            n = found.saturating_add(1)
         }
     }
-    out.put("]")
 }
 
 // The number of the next declaration, where a line of the sizes is about it.

@@ -3,6 +3,7 @@
 
 mod completion;
 mod document;
+mod fetches;
 mod hints;
 mod json;
 mod places;

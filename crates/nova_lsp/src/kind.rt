@@ -1,43 +1,56 @@
-//! Which messages want an answer.
+//! What a message is.
 ghost use Rattle.std.specs.Prelude.{◌≡◌, ◌||◌, codes, true, is_some, option_and_then};
 ghost use Rattle.serde_json.specs.Find.{get, as_str};
 ghost use Rattle.serde_json.specs.View.{view};
-ghost use Rattle.nova_lsp.specs.Replies.{is_id, has_text, has_result, wanted_id, id_in};
+ghost use Rattle.nova_lsp.specs.Messages.{is_id, has_text, has_result, method_of, sort_of, sort_in};
 
 use serde_json::Value;
 
-/// The id of the answer that a message wants.
+/// What a message is.
 #[derive(Clone, Copy)]
-pub enum Wanted<'v> {
-    /// No answer.
-    Nothing,
-    /// An answer without an id.
-    Null,
-    Id(&'v Value),
+pub enum Kind<'v> {
+    /// A method and an id.
+    Request(&'v Value),
+    /// A method alone.
+    Notice,
+    /// An id with a result or an error.
+    Response,
+    /// None of these.
+    Invalid,
 }
 
-/// The id of the answer that a message wants.
-pub fn wanted_answer(message: &Value) -> Wanted<'_>
-    ensures { id_in result ≡ wanted_id (view message.now) }
+/// What a message is.
+pub fn kind_of(message: &Value) -> Kind<'_>
+    ensures { sort_in result ≡ sort_of (view message.now) }
 {
     let has_method = has_method(message);
     let Some(id) = message.get("id") else {
         return if has_method {
-            Wanted::Nothing
+            Kind::Notice
         } else {
-            Wanted::Null
+            Kind::Invalid
         };
     };
     if !is_id(id) {
-        return Wanted::Null;
+        return Kind::Invalid;
     }
     if has_method {
-        return Wanted::Id(id);
+        return Kind::Request(id);
     }
     if has_result(message) {
-        Wanted::Nothing
+        Kind::Response
     } else {
-        Wanted::Null
+        Kind::Invalid
+    }
+}
+
+/// The method of a message, or the empty text.
+pub fn method_of(message: &Value) -> &str
+    ensures { result.now ≡ method_of (view message.now) }
+{
+    match message.get("method").and_then(Value::as_str) {
+        Some(method) => method,
+        None => "",
     }
 }
 
