@@ -189,27 +189,38 @@ function outcomeText(ran) {
 
 // Which registers and flags are live before each instruction: A and B, the transfer registers, and the flags, each as bits.
 function liveBefore(code) {
-  const size = code.length, parts = [0, 1, 2].map(() => new Int32Array(size + 1)), masks = [0, 1, 2].map(() => [new Int32Array(size), new Int32Array(size)]);
+  const size = code.length, live = [0, 1, 2].map(() => new Int32Array(size + 1)), uses = live.map(it => it.slice()), kills = live.map(it => it.slice());
+  const before = Array.from({ length: size + 1 }, () => []), left = [], waits = new Uint8Array(size + 1).fill(1);
   code.forEach((it, n) => {
-    for (const [list, side] of [[it.reads, 0], [it.writes, 1]]) for (const r of list) masks[r >> 5][side][n] |= 1 << (r & 31);
-    masks[2][0][n] = it.readsFlags;
-    masks[2][1][n] = it.writesFlags;
+    for (const r of it.reads) uses[r >> 5][n] |= 1 << (r & 31);
+    for (const r of it.writes) kills[r >> 5][n] |= 1 << (r & 31);
+    uses[2][n] = it.readsFlags;
+    kills[2][n] = it.writesFlags;
+    if (it.goesOn) before[n + 1].push(n);
+    if (it.target >= 0) before[it.target].push(n);
   });
-  const targets = Int32Array.from(code, it => (it.target < 0 ? size : it.target)), nexts = Int32Array.from(code, (it, n) => (it.goesOn ? n + 1 : size));
-  for (let isSame = false; !isSame;) {
-    isSame = true;
+  // Most jumps lead to labels that stand before their own: what stands first is worked out first.
+  for (let n = size - 1, end = size; n >= 0; n -= 1) {
+    if (n > 0 && code[n - 1].goesOn) continue;
+    for (let place = n; place < end; place += 1) left.push(place);
+    end = n;
+  }
+  while (left.length > 0) {
+    const n = left.pop(), next = code[n].goesOn ? n + 1 : size, target = code[n].target < 0 ? size : code[n].target;
+    let isSame = true;
+    waits[n] = 0;
     for (let part = 0; part < 3; part += 1) {
-      const live = parts[part], [uses, kills] = masks[part];
-      for (let n = size - 1; n >= 0; n -= 1) {
-        const bits = (live[nexts[n]] | live[targets[n]]) & ~kills[n] | uses[n];
-        if (bits !== live[n]) {
-          live[n] = bits;
-          isSame = false;
-        }
-      }
+      const bits = (live[part][next] | live[part][target]) & ~kills[part][n] | uses[part][n];
+      if (bits !== live[part][n]) isSame = false;
+      live[part][n] = bits;
+    }
+    if (isSame) continue;
+    for (const other of before[n]) {
+      if (waits[other] === 0) left.push(other);
+      waits[other] = 1;
     }
   }
-  return code.map((_, n) => parts.map(part => part[n]));
+  return code.map((_, n) => live.map(part => part[n]));
 }
 
 const isLive = (set, register) => (set[register >> 5] >>> (register & 31) & 1) === 1;

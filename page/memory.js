@@ -13,13 +13,13 @@ function shownStretches(before, after) {
   return out;
 }
 
+const shownBytes = memory => bytesOf(memory[now.memory].subarray(0, now.memory === 'scratch' ? SPILL_BASE : memory[now.memory].length));
 function showBytes() {
-  const shownWords = memory => memory[now.memory].subarray(0, now.memory === 'scratch' ? SPILL_BASE : memory[now.memory].length);
-  const before = bytesOf(shownWords(now.input)), after = bytesOf(shownWords(now.after));
+  const before = shownBytes(now.input), after = shownBytes(now.after);
   now.bytes = { before, after };
   const cells = (bytes, other, from, side) => '<span class="' + side + '">' + bytes.slice(from, from + 8).map((byte, n) => '<b data-byte="' + (from + n) + '"'
     + (byte !== other[from + n] && side === 'after' ? ' class="changed"' : '') + '>' + hex(byte, 2) + '</b>').join('') + '</span>';
-  put('bytes', shownStretches(before, after).map(from => '<span>' + hex(from, 4) + '</span>' + cells(before, after, from, 'before') + cells(after, before, from, 'after')).join(''));
+  put('bytes', '<span>byte</span><span>before</span><span>after</span>' + shownStretches(before, after).map(from => '<span>' + hex(from, 4) + '</span>' + cells(before, after, from, 'before') + cells(after, before, from, 'after')).join(''));
 }
 
 // The fields of two lists of headers, one beside the other where they have one name.
@@ -53,7 +53,9 @@ function fieldRow(before, after) {
 }
 function showFields() {
   const { before, after } = now.bytes;
-  const known = packetGroups(before), first = known.length > 0 ? known : packetGroups(before, packetGroups(after)[0]);
+  // A header stays where it was before a byte was changed, though its checksum may be wrong now.
+  const ofRun = now.isOurs ? [now.run.memory, readMemory(now.run.outcome)] : [], [was] = [...ofRun.map(shownBytes), after].flatMap(it => packetGroups(it).slice(0, 1));
+  const first = packetGroups(before, was);
   put('fields', fieldRows(first, packetGroups(after, first[0])));
   const chosen = at('layout').value, layout = layouts.find(it => it.name === chosen), from = 4 * Number(at('layout-at').value);
   const groups = bytes => (layout ? [layoutGroup(bytes, layout, from)] : headersAt(bytes, chosen, from));
@@ -77,13 +79,26 @@ function markAccesses() {
   }
 }
 
+// What a byte is, and the accesses of the run to it.
+const accessesOf = n => (now.hasCounts ? now.ran.accesses.filter(it => it.memory === now.memory && it.at <= n >> 2 && n >> 2 < it.at + it.count) : []);
+function byteTip(n, side) {
+  const byte = now.bytes[side][n], bit = 8 * (n & 3), made = accessesOf(n);
+  const out = ['byte ' + n + ' ' + side + ' the run = ' + byte + (byte > 31 && byte < 127 ? ", '" + String.fromCharCode(byte) + "'" : '') + '; word ' + (n >> 2) + ', bits ' + bit + ' to ' + (bit + 7)];
+  for (const it of made.slice(-6)) {
+    const from = candidates[it.place];
+    out.push((it.isWrite ? 'written' : 'read') + ' at step ' + (it.step + 1) + ' by ' + it.place + (from.length === 1 ? ', line ' + from[0] : ''));
+  }
+  if (made.length > 6) out.push('and ' + several(made.length - 6, 'time') + ' before');
+  return out.join('\n');
+}
+
 // Runs the input of the page as it is now. The run of nova has nova's outcome, and its replay is held to that and to nova's counts.
 function runInput(isOurs) {
   now.isOurs = isOurs;
   now.ran = isOurs ? runCode(code, copyMemory(now.input), mostSteps, keptSteps) : now.run.ran;
   const found = isOurs ? '' : now.run.found;
   now.hasCounts = found === '';
-  const end = now.ran ? now.ran.end : '';
+  const end = now.ran ? now.ran.end.replace(/^raised ([0-9]+)/, (said, n) => said + ' (' + exceptions.get(Number(n)) + ')') : '';
   const said = now.isOurs ? 'This is a run of the page\u2019s own engine, not the proved one: ' + end
     : found ? 'The replay isn\u2019t shown, since ' + found + '. The proved run: ' + lines(now.run.outcome)[0] : '\u2713 The replay agrees with the proved run: ' + end;
   at('trust').className = found || isOurs ? 'wrong' : 'right';
@@ -156,7 +171,10 @@ on(at('bytes'), 'click', event => {
   const cell = event.target.closest('[data-byte]');
   if (!cell) return;
   at('layout-at').value = Number(cell.dataset.byte) >> 2;
-  if (cell.closest('.before') && cell.firstElementChild === null) editByte(cell);
+  const last = accessesOf(Number(cell.dataset.byte)).filter(it => it.isWrite).pop();
+  if (cell.closest('.before')) {
+    if (cell.firstElementChild === null) editByte(cell);
+  } else if (last) goTo(last.step);
   showFields();
 });
 function lightBytes(from, size) {
@@ -172,11 +190,13 @@ for (const id of ['fields', 'layout-fields']) {
 }
 on(at('bytes'), 'mousemove', event => {
   const cell = event.target.closest('[data-byte]'), n = cell ? Number(cell.dataset.byte) : -1;
+  showTip(cell ? byteTip(n, cell.parentNode.className) : '', event);
   lightBytes(Math.max(0, n), n < 0 ? 0 : 1);
   for (const row of all('#packet tr[data-from]')) {
     if (Number(row.dataset.from) <= n && n < Number(row.dataset.from) + Number(row.dataset.size)) row.classList.add('lit');
   }
 });
 on(at('packet'), 'mouseleave', () => lightBytes(0, 0));
+on(at('bytes'), 'mouseleave', event => showTip('', event));
 on(at('layout'), 'change', showFields);
 on(at('layout-at'), 'input', showFields);

@@ -48,16 +48,20 @@ const acts = actsOf(source, layouts);
 const linked = code.map(() => new Set());
 for (const run of runs) if (run.links) for (const [place, found] of run.links.places) for (const at of found) linked[place].add(at);
 const origins = code.map((it, place) => (linked[place].size > 0 ? [...linked[place]] : actsFor(acts, it, exceptions, notes[place], forms)));
-const candidates = origins.map(found => [...new Set(found.map(source.lineAt))]);
+const candidates = origins.map(found => [...new Set(found.map(source.lineAt))]), reached = new Set(origins.flat());
 // The places that come from a line, and those that may.
 const placesOf = new Map(), mayOf = new Map();
 candidates.forEach((found, place) => found.forEach(line => {
   const of = found.length === 1 ? placesOf : mayOf;
   of.set(line, (of.get(line) || []).concat(place));
 }));
-const labelNames = labelNamesOf(listing, source, runs, origins), valueNames = valueNamesOf(source, layouts, forms, notes, origins, exceptions);
+const labelNames = labelNamesOf(listing, source, runs, origins);
+let valueNames = null;
 const labelTitle = number => 'L' + number + (labelNames.has(number) ? ' ' + labelNames.get(number) : '');
-const titleOf = value => value + (valueNames.has(value) ? ' (' + valueNames.get(value).join(', ') + ')' : '');
+function titleOf(value) {
+  valueNames = valueNames || valueNamesOf(source, layouts, forms, notes, origins, exceptions);
+  return value + (valueNames.has(value) ? ' (' + valueNames.get(value).join(', ') + ')' : '');
+}
 
 const banks = new Map(), bankNames = { M: 'slot', L: 'read register', W: 'write register', X: 'A15' };
 for (const it of text('banks').matchAll(/([0-9]+)([A-Z])(c?)/g)) {
@@ -88,25 +92,94 @@ function formRow(words, depth, found) {
   const bar = found ? '<span class="h' + (count > 30 ? ' over' : '') + '" style="--w:' + Math.min(100, count * 100 / 30) + '%">' + count : '<span class="h">';
   return '<div class="row point"' + (found ? ' data-live="' + sorted(found).join(' ') + '"' : '') + '><span class="n"></span>' + bar + '</span><span class="t">' + '  '.repeat(depth) + formText(words) + '</span></div>';
 }
-const formRows = form => [formRow(form.text, 0, form.live), ...form.rows.map(row => formRow(row.text, row.depth, row.live))];
+function formRows(form) {
+  const live = new Map();
+  walkLive(form, (row, found) => live.set(row, new Set(found)));
+  return [formRow('label ' + form.number + '(' + form.params.join(', ') + ')', 0, new Set(form.params)), ...form.rows.map(row => formRow(textOf(row), row.depth, live.get(row)))];
+}
 // The edge of a line and of its instructions: one colour for what is tied, dots for what may be.
 const edgeOf = (line, isPerhaps) => (line ? ' tied" style="--t:' + line * 67 % 360 : isPerhaps ? ' may' : '');
-function codeRows(hasForm) {
-  return listing.labels.map(({ number, start }, n) => {
-    const end = n + 1 < listing.labels.length ? listing.labels[n + 1].start : code.length, form = forms.get(number), rows = form && hasForm ? formRows(form) : [];
-    for (let place = start; place < end; place += 1) {
-      const it = code[place], found = candidates[place];
-      rows.push('<div class="row ' + kindName(it.kind) + edgeOf(found.length === 1 && found[0], found.length > 1) + '" id="i' + place + '" data-place="' + place + '"><a href=#i' + place + '>' + place
-        + '</a><span class="h"></span><span class="t">' + colouredCode(it) + '</span></div>');
-    }
-    return '<div class="row label" data-label="' + number + '">' + safe(labelTitle(number)) + ':<small></small></div>' + rows.join('');
-  }).join('');
-}
-put('source-rows', sourceLines.map((line, n) => '<div class="row' + edgeOf(placesOf.has(n + 1) && n + 1, mayOf.has(n + 1)) + '" id="L' + (n + 1) + '" data-line="' + (n + 1) + '"><a href=#L' + (n + 1) + '>' + (n + 1)
-  + '</a><span class="h"></span><span class="t">' + (coloured(line) || ' ') + '</span></div>').join(''));
-put('code-rows', codeRows(false));
-const rowOf = place => at('i' + place);
 const lineRow = line => at('L' + line);
+
+// What isn't on the screen is built when nothing else is to be done, and at once where it is asked for.
+const tasks = [], later = window.requestIdleCallback || (does => setTimeout(does, 1));
+function finish() {
+  while (tasks.length > 0) tasks.shift()();
+}
+function goOn(idle) {
+  do if (tasks.length > 0) tasks.shift()(); while (tasks.length > 0 && idle && idle.timeRemaining() > 4);
+  if (tasks.length > 0) later(goOn);
+}
+addEventListener('beforeprint', finish);
+
+// The rows of the code stand in blocks, of which a browser lays out those on the screen alone: the rows of each that is still to be built, and the block of each place.
+const blockRows = 24, blocks = [], blockOf = [];
+function fill(n) {
+  if (!blocks[n]) return;
+  at('code-rows').children[n].innerHTML = blocks[n].map(row => row()).join('');
+  blocks[n] = null;
+}
+function rowOf(place) {
+  for (const step of [-1, 0, 1]) fill(blockOf[place] + step);
+  return at('i' + place);
+}
+
+// How often each place ran, each label was entered, and each line that is tied did what it does: as its cell of a row, or as words.
+function countCells() {
+  const counts = now.ran ? now.ran.counts : new Float64Array(code.length), most = Math.max(1, ...counts);
+  const places = code.map((_, place) => (now.hasCounts && counts[place] > 0 ? '<span class="h" style="--w:' + Math.ceil(100 * counts[place] / most) + '%">' + counts[place] : '<span class="h">') + '</span>');
+  const labels = labelCounts(listing, counts).map(it => {
+    const { entries, steps } = now.isOurs ? it : profileNow().labels.get(it.number) || { entries: 0, steps: 0 };
+    return entries === 0 ? 'not entered' : 'entered ' + several(entries, 'time') + ', ' + several(steps, 'step');
+  });
+  const lines = new Map();
+  for (const [line, of] of placesOf) {
+    const sums = new Map();
+    for (const place of of) sums.set(tieOf(place), (sums.get(tieOf(place)) || 0) + counts[place]);
+    lines.set(line, now.hasCounts ? Math.max(...sums.values()) : '');
+  }
+  return { places, labels, lines };
+}
+function codeRow(place, cell) {
+  const found = candidates[place];
+  return '<div class="row ' + kindName(code[place].kind) + edgeOf(found.length === 1 && found[0], found.length > 1) + '" id="i' + place + '" data-place="' + place + '"><a href=#i' + place + '>' + place
+    + '</a>' + cell + '<span class="t">' + colouredCode(code[place]) + '</span></div>';
+}
+function showCode(cells) {
+  const rows = [];
+  listing.labels.forEach(({ number, start }, n) => {
+    const end = n + 1 < listing.labels.length ? listing.labels[n + 1].start : code.length, form = forms.get(number);
+    rows.push(() => '<div class="row label" data-label="' + number + '">' + safe(labelTitle(number)) + ':<small>' + (now.run ? cells.labels[n] : '') + '</small></div>');
+    if (form && at('with-form').checked) rows.push(...formRows(form).map(row => () => row));
+    for (let place = start; place < end; place += 1) {
+      blockOf[place] = Math.floor(rows.length / blockRows);
+      rows.push(() => codeRow(place, cells.places[place]));
+    }
+  });
+  blocks.length = 0;
+  for (let n = 0; n < rows.length; n += blockRows) blocks.push(rows.slice(n, n + blockRows));
+  put('code-rows', blocks.map(it => '<div class="block" style="--rows:' + it.length + '"></div>').join(''));
+  rowOf(0);
+  for (let n = 0; n < blocks.length; n += 8) tasks.push(() => { for (let of = n; of < n + 8; of += 1) fill(of); });
+}
+function showSource() {
+  put('source-rows', sourceLines.map((line, n) => '<div class="row' + edgeOf(placesOf.has(n + 1) && n + 1, mayOf.has(n + 1)) + '" id="L' + (n + 1) + '" data-line="' + (n + 1) + '"><a href=#L' + (n + 1) + '>' + (n + 1)
+    + '</a><span class="h"></span><span class="t">' + (coloured(line) || ' ') + '</span></div>').join(''));
+}
+// The counts of the run beside rows that are there, or else the rows with them.
+function showCounts() {
+  const cells = countCells();
+  document.body.classList.toggle('uncounted', !now.hasCounts);
+  if (at('code-rows').firstChild === null) {
+    showSource();
+    showCode(cells);
+  } else {
+    finish();
+    all('#code-rows .h').forEach(it => { if (it.parentNode.dataset.place) it.outerHTML = cells.places[it.parentNode.dataset.place]; });
+    all('#code-rows small').forEach((it, n) => { it.textContent = cells.labels[n]; });
+  }
+  for (const [line, count] of cells.lines) lineRow(line).children[1].textContent = count;
+}
 
 // A view of what happened in the run: the words of a register, and what a step did.
 function wordAt(register, step) {
@@ -138,13 +211,13 @@ function meaning(it) {
 }
 function placeTip(place) {
   const it = code[place], note = notes[place], [inA, inB] = liveCounts(live[place]), out = [place + ': ' + it.text, meaning(it)];
-  if (note && note.row && it.kind === '') out.push(note.row.text.replace(/\bv[0-9]+\b/g, value => titleOf(forms.get(note.label).root(value))));
+  if (note && note.row && it.kind === '') out.push(textOf(note.row).replace(/\bv[0-9]+\b/g, value => titleOf(forms.get(note.label).root(value))));
   out.push(...reasons(place));
   out.push('Live before it: ' + inA + ' of 15 in A, ' + inB + ' of 15 in B.');
   const found = candidates[place], isSeen = linked[place].size > 0;
   if (isSeen) out.push('From line ' + found.join(' and line ') + ' of the source, as the interpreter noted in the run.');
   else if (found.length > 0) out.push(found.length > 1 ? 'From one of the lines ' + found.join(', ') + '.' : 'From line ' + found[0] + ' of the source, the only one that may do this.');
-  if (now.hasCounts) out.push('Ran ' + several(now.ran.counts[place], 'time') + '.');
+  if (now.hasCounts) out.push('Ran ' + several(now.ran.counts[place], 'time') + ', ' + (100 * now.ran.counts[place] / now.ran.steps).toFixed(1) + ' % of the steps.');
   const isNow = now.hasCounts && now.ran.places[now.step] === place;
   for (const r of new Set([...it.reads, ...it.writes])) {
     const word = note ? note.writes.get(r) || note.reads.get(r) : null, value = word && word.value ? ': ' + titleOf(word.value) : '';
@@ -172,29 +245,10 @@ function lineTip(line) {
     const of = others.filter(place => candidates[place].join(', ') === lines);
     out.push(act(keyAt(of[0])) + ' ' + atPlaces(of) + ', from one of the lines ' + lines);
   }
+  for (const it of acts) {
+    if (source.lineAt(it.at) === line && !reached.has(it.at)) out.push(it.key + ' has no instruction of its own: it is handled in the source, so the code goes on there, or it can\u2019t come about');
+  }
   return out.join('\n');
-}
-
-// Counts beside the code, its labels and the source.
-function showCounts() {
-  const counts = now.ran ? now.ran.counts : new Float64Array(code.length), most = Math.max(1, ...counts);
-  document.body.classList.toggle('uncounted', !now.hasCounts);
-  code.forEach((_, place) => {
-    const cell = rowOf(place).children[1];
-    const isShown = now.hasCounts && counts[place] > 0;
-    if (isShown || cell.firstChild) cell.textContent = isShown ? counts[place] : '';
-    if (isShown || cell.style.length > 0) cell.style.setProperty('--w', isShown ? Math.ceil(100 * counts[place] / most) + '%' : '0');
-  });
-  for (const it of labelCounts(listing, counts)) {
-    const told = profileNow().labels.get(it.number) || { entries: 0, steps: 0 };
-    const { entries, steps } = now.isOurs ? it : told;
-    first('[data-label="' + it.number + '"] small').textContent = entries === 0 ? 'not entered' : 'entered ' + several(entries, 'time') + ', ' + several(steps, 'step');
-  }
-  for (const [line, places] of placesOf) {
-    const sums = new Map();
-    for (const place of places) sums.set(tieOf(place), (sums.get(tieOf(place)) || 0) + counts[place]);
-    lineRow(line).children[1].textContent = now.hasCounts ? Math.max(...sums.values()) : '';
-  }
 }
 
 // Which rows belong together.
@@ -253,8 +307,7 @@ on(at('code-rows'), 'click', event => {
   if (step >= 0) goTo(step);
 });
 on(at('with-form'), 'change', () => {
-  put('code-rows', codeRows(at('with-form').checked));
-  if (!now.run) return;
-  showCounts();
-  goTo(now.step);
+  showCode(countCells());
+  finish();
+  if (now.run) goTo(now.step);
 });

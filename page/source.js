@@ -155,8 +155,10 @@ function linksOf(code, source, ran, events, mostEvents, exceptions) {
   ran.places.forEach((place, step) => {
     while (done < made.length && made[done].step < step) done += 1;
     if (isCut && done >= noted.length || !between[done]) return;
-    const before = links.labels.get(place);
-    links.labels.set(place, before ? new Set([...before].filter(it => between[done].has(it))) : between[done]);
+    const before = links.labels.get(place) || between[done];
+    let found = before;
+    for (const it of before) if (!between[done].has(it)) found = new Set([...before].filter(other => between[done].has(other)));
+    links.labels.set(place, found);
   });
   return links;
 }

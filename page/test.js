@@ -8,7 +8,7 @@ const vm = require('vm');
 
 const load = names => {
   const text = names.map(name => fs.readFileSync(path.join(__dirname, name), 'utf8')).join('\n');
-  return vm.runInThisContext(text + '\n({ readListing, readMemory, readProfile, runCode, liveBefore, disagreement, packetGroups, checkFields, readForm, followCode, readSource, readEvents, linksOf, readLayouts, keyOf, actsOf, actsFor })');
+  return vm.runInThisContext(text + '\n({ readListing, readMemory, readProfile, runCode, liveBefore, disagreement, packetGroups, checkFields, readForm, walkLive, followCode, readSource, readEvents, linksOf, readLayouts, keyOf, actsOf, actsFor })');
 };
 const page = load(['engine.js', 'packet.js', 'source.js', 'values.js', 'names.js']);
 for (const fault of page.checkFields()) console.log(fault);
@@ -20,14 +20,18 @@ const readFormOf = run => page.readForm(formRows(run).map(it => it.replace(/#.*/
 // The values that are live by the page have to be those in the form's remarks, and each label's code has to follow its form.
 function checkForm(run, listing) {
   const rows = formRows(run), forms = readFormOf(run);
-  const found = [...forms.values()].flatMap(form => [form.live, ...form.rows.map(row => row.live)]).filter(it => it !== null).map(it => [...it].sort().join(' '));
+  const found = [...forms.values()].flatMap(form => {
+    const lives = [];
+    page.walkLive(form, (_, live) => lives.unshift(live.size === 0 ? '' : [...live].sort().join(' ')));
+    return [[...form.params].sort().join(' '), ...lives];
+  });
   const told = rows.filter(it => it.includes('#')).map(it => it.replace(/^.*# [0-9]+:/, '').trim().split(' ').sort().join(' '));
   const differs = told.findIndex((it, n) => it !== found[n]);
   if (told.length !== found.length || differs >= 0) console.log(run.name + ': at point ' + differs + ' of ' + told.length + ' live is ' + told[differs] + ', by the page ' + found[differs]);
   const notes = page.followCode(listing, forms);
   const lost = listing.code.findIndex((_, place) => notes[place] === undefined);
   if (lost >= 0) console.log(run.name + ': the code at ' + lost + " isn't followed beside the form");
-  const unknown = notes.filter(note => note.row && note.row.op === 'read' && [...note.writes.values()].some(word => !word.value));
+  const unknown = notes.filter(note => note && note.row && note.row.op === 'read' && [...note.writes.values()].some(word => !word.value));
   if (unknown.length > 0) console.log(run.name + ': the read at ' + unknown[0].place + ' has a word that is no value');
 }
 // Each write of the run has to come from one place of the source, and where the interpreter notes all, each access and the end.

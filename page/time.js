@@ -1,11 +1,18 @@
 // The registers over time, the labels, and the start of the page.
 
-const stripHeight = 34, rowHeight = 10, nameWidth = 36, windowSteps = 2000;
+const stripHeight = 34, bandHeight = 14, rowHeight = 10, axisHeight = 14, nameWidth = 36, windowSteps = 2000, rowsTop = stripHeight + bandHeight + 4, tickWidth = 60;
+let label = 0;
+const labelAt = code.map((_, place) => {
+  while (label + 1 < listing.labels.length && listing.labels[label + 1].start <= place) label += 1;
+  return listing.labels[label];
+});
 const chart = { registers: [], from: 0, to: 0 };
 
 function showSteps() {
   const { ran } = now;
   chart.registers = REGISTERS.map((_, r) => r).filter(r => ran.history[r].steps.length > 0 || r < now.input.args.length);
+  chart.height = rowsTop + chart.registers.length * rowHeight + axisHeight;
+  at('chart').style.height = chart.height + 2 + 'px';
   at('step').max = Math.max(0, ran.places.length - 1);
   const written = ran.accesses.filter(it => it.isWrite).pop();
   goTo(now.step >= 0 ? now.step : written ? written.step : ran.places.length - 1);
@@ -35,9 +42,8 @@ function goTo(step) {
 // One picture of the steps from one on: the live values of A and B above, and each register below.
 function draw() {
   const canvas = at('chart'), css = getComputedStyle(document.documentElement), colour = name => css.getPropertyValue('--' + name).trim();
-  const { places } = now.ran, width = canvas.clientWidth, height = stripHeight + 4 + chart.registers.length * rowHeight + 2;
+  const { places } = now.ran, width = canvas.clientWidth, { height } = chart;
   const ratio = window.devicePixelRatio || 1;
-  canvas.style.height = height + 2 + 'px';
   canvas.width = width * ratio;
   canvas.height = height * ratio;
   const g = canvas.getContext('2d');
@@ -49,21 +55,24 @@ function draw() {
   const x = step => nameWidth + (step - chart.from) * chart.wide, wide = Math.max(1, chart.wide - (chart.wide > 3 ? .5 : 0));
   const inks = { A: colour('A'), B: colour('B'), L: colour('L'), LD: colour('L'), S: colour('S'), SD: colour('S') };
   const unit = stripHeight / 30;
-  g.fillStyle = colour('dim');
-  g.fillText('live', 2, stripHeight / 2 + 3);
-  for (let step = chart.from; step < chart.to; step += 1) {
-    const [inA, inB] = liveCounts(live[places[step]]);
-    g.globalAlpha = .75;
-    g.fillStyle = inks.A;
-    g.fillRect(x(step), stripHeight - inA * unit, wide, inA * unit);
-    g.fillStyle = inks.B;
-    g.fillRect(x(step), stripHeight - (inA + inB) * unit, wide, inB * unit);
-  }
+  const counts = places.slice(chart.from, chart.to).map(place => liveCounts(live[place]));
+  g.globalAlpha = .75;
+  g.fillStyle = inks.A;
+  counts.forEach(([inA], n) => g.fillRect(x(chart.from + n), stripHeight - inA * unit, wide, inA * unit));
+  g.fillStyle = inks.B;
+  counts.forEach(([inA, inB], n) => g.fillRect(x(chart.from + n), stripHeight - (inA + inB) * unit, wide, inB * unit));
   g.globalAlpha = 1;
   g.fillStyle = colour('dim');
-  for (const count of [15, 30]) g.fillRect(nameWidth, stripHeight - count * unit, width - nameWidth, .6);
+  for (const count of [15, 30]) {
+    g.fillRect(nameWidth, stripHeight - count * unit, width - nameWidth, .6);
+    g.fillText(count, nameWidth - 13, Math.max(7, stripHeight - count * unit + 3));
+  }
+  g.fillText('live', 2, stripHeight - 2);
+  g.fillText('label', 2, stripHeight + 13);
+  drawLabels(g, x);
+  drawAxis(g, x, height - 3);
   chart.registers.forEach((register, n) => {
-    const top = stripHeight + 4 + n * rowHeight;
+    const top = rowsTop + n * rowHeight;
     g.fillStyle = colour('text');
     g.fillText(REGISTERS[register], 2, top + 8);
     g.fillStyle = inks[bankOf(register)];
@@ -84,15 +93,37 @@ function draw() {
   g.fillStyle = colour('text');
   g.fillRect(x(now.step), 0, Math.max(1.5, Math.min(chart.wide, 4)), height);
 }
+// The labels that the steps are in, with their names where there is room.
+function drawLabels(g, x) {
+  const { places } = now.ran;
+  for (let step = chart.from, to = step; step < chart.to; step = to) {
+    const label = labelAt[places[step]], title = labelTitle(label.number);
+    while (to < chart.to && labelAt[places[to]] === label) to += 1;
+    const room = (to - step) * chart.wide, said = [title, 'L' + label.number].find(it => it.length * 5.5 + 4 < room);
+    g.globalAlpha = label.number % 2 ? .35 : .2;
+    g.fillRect(x(step), stripHeight + 4, Math.max(1, room - 1), bandHeight - 2);
+    g.globalAlpha = 1;
+    if (said) g.fillText(said, x(step) + 3, stripHeight + 13);
+  }
+}
+// The numbers of steps below.
+function drawAxis(g, x, bottom) {
+  const ten = 10 ** Math.ceil(Math.log10(tickWidth / chart.wide)), every = Math.max(1, [ten / 5, ten / 2, ten].find(it => it * chart.wide >= tickWidth));
+  g.fillText('step', 2, bottom);
+  for (let number = Math.floor(chart.from / every) * every + every; number <= chart.to; number += every) {
+    g.fillRect(x(number - 1), bottom - 10, 1, 3);
+    g.fillText(number, x(number - 1) + 3, bottom);
+  }
+}
 function stepAt(event) {
   const step = chart.from + Math.floor((event.offsetX - nameWidth) / chart.wide);
   return event.offsetX >= nameWidth && step < chart.to ? step : -1;
 }
 on(at('chart'), 'mousemove', event => {
-  const step = stepAt(event), register = chart.registers[Math.floor((event.offsetY - stripHeight - 4) / rowHeight)];
+  const step = stepAt(event), register = chart.registers[Math.floor((event.offsetY - rowsTop) / rowHeight)];
   if (step < 0) return showTip('', event);
-  const place = now.ran.places[step], [inA, inB] = liveCounts(live[place]), head = 'step ' + (step + 1) + ', place ' + place + ': ' + code[place].text;
-  if (register === undefined || event.offsetY < stripHeight + 4) return showTip(head + '\nlive: ' + inA + ' of 15 in A, ' + inB + ' of 15 in B', event);
+  const place = now.ran.places[step], [inA, inB] = liveCounts(live[place]), head = 'step ' + (step + 1) + ', ' + labelTitle(labelAt[place].number) + ', place ' + place + ': ' + code[place].text;
+  if (register === undefined || event.offsetY < rowsTop) return showTip(head + '\nlive: ' + inA + ' of 15 in A, ' + inB + ' of 15 in B', event);
   return showTip(head + '\n' + REGISTERS[register] + ' = ' + hex(wordAt(register, step)) + (isLive(live[place], register) ? ', live' : ', not read again before it is written'), event);
 });
 on(at('chart'), 'mouseleave', event => showTip('', event));
@@ -101,7 +132,7 @@ on(at('step'), 'input', () => goTo(Number(at('step').value)));
 at('back').onclick = () => goTo(now.step - 1);
 at('on').onclick = () => goTo(now.step + 1);
 addEventListener('resize', () => { if (now.hasCounts) draw(); });
-matchMedia('(prefers-color-scheme: dark)').addEventListener('change', () => { if (now.hasCounts) draw(); });
+for (const media of ['print', '(prefers-color-scheme: dark)']) on(matchMedia(media), 'change', () => { if (now.hasCounts) draw(); });
 
 // The labels as a graph: in the order of a walk from label 0, with jumps ahead right and jumps that close a loop left.
 function walkLabels() {
@@ -121,7 +152,7 @@ function walkLabels() {
 function showLabels() {
   const { order, loops } = walkLabels(), gap = 36, high = 24;
   const said = order.map(number => {
-    const entries = (profileNow().labels.get(number) || { entries: 0 }).entries, points = forms.get(number).rows.filter(row => row.live).length;
+    const entries = (profileNow().labels.get(number) || { entries: 0 }).entries, points = forms.get(number).rows.filter(row => row.line !== '}').length;
     return labelTitle(number) + ': ' + several(points, 'point') + (now.run ? ', entered ' + several(entries, 'time') : '');
   });
   const wide = Math.ceil(Math.max(60, ...said.map(it => it.length * 7.4 + 20))), rows = new Map(order.map((number, n) => [number, n * gap + 22]));
@@ -147,6 +178,7 @@ function showLabels() {
 }
 on(at('graph'), 'click', event => {
   const box = event.target.closest('[data-go]');
+  finish();
   if (box) first('[data-label="' + box.dataset.go + '"]').scrollIntoView({ block: 'nearest' });
 });
 
@@ -166,23 +198,25 @@ function showSummary() {
   const steps = now.run ? '; ' + several(now.run.profile.steps, 'step') : '';
   at('summary-line').innerHTML = safe(lines(text('summary')).map(it => it.trim()).join('; ') + steps).replace(/[0-9]+/g, '<b>$&</b>');
 }
+function showValues() {
+  let most = 0;
+  for (const form of forms.values()) walkLive(form, (_, found) => { most = Math.max(most, found.size); });
+  at('values-note').textContent = 'At most ' + several(most, 'value') + (most === 1 ? ' is' : ' are') + ' live at once. Banks A and B have 15 registers each for values. The banks are those of the report that the proof checks.';
+  const homed = new Map();
+  for (const [value, homes] of banks) homed.set(homes.join(', '), (homed.get(homes.join(', ')) || []).concat(value));
+  put('values', [...homed].map(([homes, values]) => '<p><b class="r ' + homes[0] + '">' + homes + ':</b> ' + values.map(value => '<span data-v="' + value + '">' + safe(titleOf(value)) + '</span>').join(' ') + '</p>').join(''));
+}
 function showPage() {
   document.title = baseName(name) + ' \u00b7 Nova';
   at('title').textContent = baseName(name);
   at('title').title = name;
   showSummary();
   at('code-aside').textContent = now.run ? 'with how often each instruction ran' : '';
-  const most = Math.max(0, ...[...forms.values()].flatMap(form => form.rows.map(row => (row.live ? row.live.size : 0))));
-  at('values-note').textContent = 'At most ' + several(most, 'value') + (most === 1 ? ' is' : ' are') + ' live at once. Banks A and B have 15 registers each for values. The banks are those of the report that the proof checks.';
-  const homed = new Map();
-  for (const [value, homes] of banks) homed.set(homes.join(', '), (homed.get(homes.join(', ')) || []).concat(value));
-  put('values', [...homed].map(([homes, values]) => '<p><b class="r ' + homes[0] + '">' + homes + ':</b> ' + values.map(value => '<span data-v="' + value + '">' + safe(titleOf(value)) + '</span>').join(' ') + '</p>').join(''));
+  at('source-aside').textContent = now.run ? 'with how often each access, raise and end came about' : '';
   at('sizes-text').textContent = text('sizes');
-  put('key', [['A', 'bank A'], ['B', 'bank B'], ['L', 'read registers L and LD'], ['S', 'write registers S and SD']].map(([bank, said]) => '<span class="r ' + bank + '">\u25a0 ' + said + '</span>').join('') + '<span>the lines of the strip: 15 and 15 + 15</span>');
-  showLabels();
+  put('key', [['A', 'bank A'], ['B', 'bank B'], ['L', 'read registers L and LD'], ['S', 'write registers S and SD']].map(([bank, said]) => '<span class="r ' + bank + '">\u25a0 ' + said + '</span>').join('') + '<span>the strip counts what is live in A and B, of 15 each</span>');
   document.body.classList.toggle('plain', now.run === null);
-  document.body.classList.toggle('uncounted', now.run === null);
-  if (now.run === null) return;
+  if (now.run === null) return showCounts();
   now.memory = now.run.memory.sdram.length > 0 ? 'sdram' : 'sram';
   put('memories-choice', ['sdram', 'sram', 'scratch'].map(it => '<button>' + (it === 'scratch' ? it : it.toUpperCase()) + '</button>').join(' '));
   on(at('memories-choice'), 'click', event => {
@@ -193,12 +227,14 @@ function showPage() {
   const options = (title, names) => (names.length > 0 ? '<optgroup label="' + title + '">' + names.map(it => '<option>' + safe(it) + '</option>').join('') + '</optgroup>' : '');
   put('layout', '<option value="">none</option>' + options('layouts of the source', layouts.map(it => it.name)) + options('headers', Object.keys(HEADERS)));
   showRuns();
-  startWith(now.run);
+  return startWith(now.run);
 }
 function followLink() {
-  const row = /^#[Li][0-9]+$/.test(location.hash) ? at(location.hash.slice(1)) : null;
+  const found = /^#([Li])([0-9]+)$/.exec(location.hash), row = found ? (found[1] === 'L' ? lineRow : rowOf)(found[2]) : null;
   if (row) row.scrollIntoView({ block: 'center' });
 }
 showPage();
+tasks.push(showLabels, showValues);
+later(goOn);
 addEventListener('hashchange', followLink);
 followLink();

@@ -1,95 +1,120 @@
 // The single-use form, what is live at its points, and which of its values the registers hold at each place of the code.
 
-// A line of the form, which has no blanks, no `v` and a backslash for `<` in the page: what it defines and uses, and its words.
+// A line of the form, which has no blanks, no `v` and a backslash for `<` in the page: what it does, defines and uses.
 const valuesIn = it => (it ? it.split(',').map(n => 'v' + n) : []);
-const NODES = [
-  [/^([0-9,]+)=clone([0-9]+)$/, m => ({ op: 'clone', defines: valuesIn(m[1]), uses: valuesIn(m[2]), text: ' = clone ' })],
-  [/^([0-9,]+)=(\w+)\[([0-9]+)\]\(([0-9]+)\)$/, m => ({ op: 'read', memory: m[2], defines: valuesIn(m[1]), uses: valuesIn(m[4]), text: ' = ' + m[2] + '[' + m[3] + '](v' + m[4] + ')' })],
-  [/^([0-9]+)=([0-9]+)(<<|>>|rol)([0-9]+)$/, m => ({ op: 'un', operation: { '<<': 'SHL', '>>': 'SHR', rol: 'ROL' }[m[3]], shift: Number(m[4]), defines: valuesIn(m[1]), uses: valuesIn(m[2]), text: ' = v' + m[2] + ' ' + m[3] + ' ' + m[4] })],
-  [/^([0-9]+)=~([0-9]+)$/, m => ({ op: 'un', operation: 'NOT', defines: valuesIn(m[1]), uses: valuesIn(m[2]), text: ' = ~v' + m[2] })],
-  [/^([0-9]+)=([0-9]+)([-+&|^])([0-9]+)$/, m => ({ op: 'alu', operation: { '+': 'ADD', '-': 'SUB', '&': 'AND', '|': 'OR', '^': 'XOR' }[m[3]], defines: valuesIn(m[1]), uses: valuesIn(m[2] + ',' + m[4]), text: ' = v' + m[2] + ' ' + m[3] + ' v' + m[4] })],
-  [/^([0-9]+)=(\w+)$/, m => ({ op: 'literal', word: Number(m[2]), defines: valuesIn(m[1]), text: ' = ' + m[2] })],
-  [/^if([0-9]+)([=!<>]+)([0-9]+)\{$/, m => ({ op: 'if', fails: { '==': 'NZ', '!=': 'Z', '<': 'C', '>=': 'NC' }[m[2]], uses: valuesIn(m[1] + ',' + m[3]), text: 'if v' + m[1] + ' ' + m[2] + ' v' + m[3] + ' {' })],
-  [/^jump([0-9]+)\(([0-9,]*)\)$/, m => ({ op: 'jump', next: Number(m[1]), uses: valuesIn(m[2]), text: 'jump ' + m[1] + '(' + valuesIn(m[2]).join(', ') + ')' })],
-  [/^end(?:raised([0-9]+))?\(([0-9,]*)\)$/, m => ({ op: 'halt', exception: Number(m[1] || 0), uses: valuesIn(m[2]), text: 'end ' + (m[1] ? 'raised ' + m[1] + ' ' : '') + '(' + valuesIn(m[2]).join(', ') + ')' })],
-  [/^(\w+)\(([0-9]+)\)<-([0-9,]+)$/, m => ({ op: 'write', memory: m[1], uses: valuesIn(m[2] + ',' + m[3]), text: m[1] + '(v' + m[2] + ') <- ' + valuesIn(m[3]).join(', ') })],
-];
+const DEFINED = /^([0-9,]+)=(?:(clone|~)([0-9]+)|(\w+)\[[0-9]+\]\(([0-9]+)\)|([0-9]+)(<<|>>|rol|[-+&|^])([0-9]+)|(\w+))$/;
+const DONE = /^(?:if([0-9]+)([=!<>]+)([0-9]+)\{|jump([0-9]+)\(([0-9,]*)\)|end(?:raised([0-9]+))?\(([0-9,]*)\)|(\w+)\(([0-9]+)\)<-([0-9,]+))$/;
+const SHIFTS = { '<<': 'SHL', '>>': 'SHR', rol: 'ROL' }, OPERATIONS = { '+': 'ADD', '-': 'SUB', '&': 'AND', '|': 'OR', '^': 'XOR' }, FAILS = { '==': 'NZ', '!=': 'Z', '<': 'C', '>=': 'NC' };
 function readNode(line) {
-  for (const [form, made] of line[0] > '9' ? NODES.slice(6) : NODES) {
-    const found = form.exec(line);
-    if (!found) continue;
-    const it = Object.assign({ defines: [], uses: [], next: -1 }, made(found));
-    if (it.op === 'clone') it.text += it.uses[0];
-    it.text = it.defines.join(', ') + it.text;
-    return it;
+  const row = { line, op: '', defines: [], uses: [], next: -1, depth: 1 }, isDefined = line[0] <= '9', m = (isDefined ? DEFINED : DONE).exec(line);
+  if (!m) return row;
+  if (isDefined) {
+    row.defines = valuesIn(m[1]);
+    row.uses = valuesIn(m[3] || m[5] || m[6]);
+    row.op = m[2] === 'clone' ? 'clone' : m[4] ? 'read' : m[9] ? 'literal' : m[2] || SHIFTS[m[7]] ? 'un' : 'alu';
+    row.memory = m[4];
+    row.operation = m[2] === '~' ? 'NOT' : SHIFTS[m[7]] || OPERATIONS[m[7]];
+    row.sign = m[7];
+    row.word = Number(m[9]);
+    row.literal = m[9];
+    if (row.op === 'alu') row.uses.push('v' + m[8]);
+    else row.shift = Number(m[8] || 0);
+    return row;
   }
-  return { text: line, op: '', defines: [], uses: [], next: -1 };
+  row.op = m[1] ? 'if' : m[4] ? 'jump' : m[8] ? 'write' : 'halt';
+  row.uses = m[1] ? ['v' + m[1], 'v' + m[3]] : valuesIn(m[8] ? m[9] + ',' + m[10] : m[5] || m[7]);
+  row.sign = m[2];
+  row.fails = FAILS[m[2]];
+  if (m[4]) row.next = Number(m[4]);
+  row.exception = Number(m[6] || 0);
+  row.memory = m[8];
+  return row;
+}
+// A line as people read it.
+function textOf(row) {
+  const [x, y] = row.uses, list = row.uses.join(', ');
+  const said = {
+    clone: 'clone ' + x,
+    read: row.memory + '[' + row.defines.length + '](' + x + ')',
+    un: row.operation === 'NOT' ? '~' + x : x + ' ' + row.sign + ' ' + row.shift,
+    alu: x + ' ' + row.sign + ' ' + y,
+    literal: row.literal,
+    if: 'if ' + x + ' ' + row.sign + ' ' + y + ' {',
+    jump: 'jump ' + row.next + '(' + list + ')',
+    halt: 'end ' + (row.exception ? 'raised ' + row.exception + ' ' : '') + '(' + list + ')',
+    write: row.memory + '(' + x + ') <- ' + row.uses.slice(1).join(', '),
+  };
+  return row.defines.join(', ') + (row.defines.length > 0 ? ' = ' : '') + (said[row.op] || row.line);
 }
 
-// The labels of the form: parameters, lines with their depth, and the values that are live at each line, the label's own first.
+// The labels of the form: parameters, lines with their depth, and what each clone is of.
 function readForm(text) {
   const forms = new Map();
   let form = null, depth = 1;
   for (const line of text.replace(/\\/g, '<').split('\n')) {
-    const head = /^label([0-9]+)\(([0-9,]*)\)/.exec(line);
+    const head = line[0] === 'l' ? /^label([0-9]+)\(([0-9,]*)\)/.exec(line) : null;
     if (head) {
-      const params = valuesIn(head[2]);
-      form = { number: Number(head[1]), text: 'label ' + head[1] + '(' + params.join(', ') + ')', params, rows: [], next: new Set(), live: [] };
+      const roots = new Map();
+      form = { number: Number(head[1]), params: valuesIn(head[2]), rows: [], next: new Set(), literals: new Map(), made: new Map(), root: value => roots.get(value) || value };
+      form.clone = row => row.defines.forEach(it => roots.set(it, form.root(row.uses[0])));
       forms.set(form.number, form);
       depth = 1;
     } else if (form && line !== '') {
       const row = readNode(line);
       if (line === '}') depth -= 1;
-      form.rows.push(Object.assign(row, { depth }));
+      row.depth = depth;
+      form.rows.push(row);
+      for (const it of row.defines) form.made.set(it, row);
       if (row.op === 'if') depth += 1;
+      else if (row.op === 'clone') form.clone(row);
+      else if (row.op === 'literal') form.literals.set(row.defines[0], row.word);
+      else if (row.op === 'jump') form.next.add(row.next);
     }
-  }
-  for (const it of forms.values()) {
-    for (const row of it.rows) if (row.next >= 0) it.next.add(row.next);
-    findLive(it);
   }
   return forms;
 }
 
-// The values that are live at each line, from the last line up: those that are used there or below, and defined above. Of clones it is the value that they are of.
-function findLive(form) {
-  const roots = new Map();
-  form.root = value => roots.get(value) || value;
-  form.literals = new Map(form.rows.filter(row => row.op === 'literal').map(row => [row.defines[0], row.word]));
-  for (const row of form.rows) if (row.op === 'clone') for (const it of row.defines) roots.set(it, form.root(row.uses[0]));
-  form.terms = new Map(form.rows.filter(row => row.op === 'un' || row.op === 'alu').map(row => [row.defines[0], [row.op, row.operation, row.shift, ...row.uses.map(form.root)].join(' ')]));
+// Whether two values of a label are one word: one literal, or computed alike, or handed on alike by each jump to the label, also round a loop.
+function isSame(forms, form, x, y, seen) {
+  if (x === y || seen.has(x + ' ' + y)) return true;
+  seen.add(x + ' ' + y);
+  const a = form.made.get(x), b = form.made.get(y), n = form.params.indexOf(x), m = form.params.indexOf(y);
+  if (a && b) return ['un', 'alu', 'literal'].includes(a.op) && ['op', 'operation', 'shift', 'literal'].every(it => a[it] === b[it]) && a.uses.every((use, k) => isSame(forms, form, form.root(use), form.root(b.uses[k]), seen));
+  if (n < 0 || m < 0 || form.number === 0) return false;
+  return [...forms.values()].every(from => !from.next.has(form.number) || from.rows.every(row => row.next !== form.number || isSame(forms, from, from.root(row.uses[n]), from.root(row.uses[m]), seen)));
+}
+
+// Goes along the lines of a label from the last up, and tells of each the values that are live there: those that are used there or below, and defined above. Of
+// clones it is the value that they are of.
+function walkLive(form, tell) {
   const second = [];
-  let after = new Set();
+  let live = new Set();
   for (let n = form.rows.length - 1; n >= 0; n -= 1) {
     const row = form.rows[n];
-    if (row.text === '}') {
-      second.push(after);
-      after = new Set();
-      row.live = null;
+    if (row.line === '}') {
+      second.push(live);
+      live = new Set();
       continue;
     }
-    const live = row.op === 'halt' || row.op === 'jump' ? new Set() : new Set(after);
+    if (row.op === 'halt' || row.op === 'jump') live = new Set();
     if (row.op === 'if') for (const it of second.pop()) live.add(it);
     for (const it of row.defines) live.delete(it);
     if (row.op !== 'clone') for (const it of row.uses) live.add(form.root(it));
-    row.live = live;
-    after = live;
+    tell(row, live);
   }
-  form.live = new Set(form.params);
 }
 
 // A word of the program that a register holds is a value, once something tells. One register can be two values where both are one literal, or computed alike.
 const merge = (token, value, state) => {
   if (!token || !value || token.value === value) return;
-  const isSame = known => known.has(value) && known.get(value) === known.get(token.value);
-  if (token.value && !isSame(state.literals) && !isSame(state.terms)) state.isWrong = true;
+  if (token.value && !isSame(state.forms, state.form, value, token.value, new Set())) state.isWrong = true;
   token.value = value;
 };
 
 // Goes along the code of a label beside the form: which line each instruction is, where that is certain, and which word each register holds. An instruction
 // that was taken out leaves lines without one. Where the two don't fit, nothing is said of the label.
-function followLabel(code, form, start, end, entry) {
-  const held = new Map(entry), arms = new Map(), state = { isWrong: false, literals: form.literals, terms: form.terms }, out = [];
+function followLabel(code, forms, form, start, end, entry) {
+  const held = new Map(entry), arms = new Map(), state = { isWrong: false, forms, form }, out = [];
   const slots = new Map(), rows = form.rows.filter(row => row.op !== 'clone' && row.op !== '');
   let at = 0, now = new Map(held);
   const token = register => {
@@ -176,7 +201,7 @@ function followCode(listing, forms) {
     const form = forms.get(label.number), entry = new Map();
     if (!form) return;
     if (label.number === 0) form.params.forEach((value, k) => entry.set(k, { value }));
-    const found = followLabel(listing.code, form, label.start, ends[n], entry);
+    const found = followLabel(listing.code, forms, form, label.start, ends[n], entry);
     if (!found) return;
     entries.set(label.number, entry);
     for (const note of found) notes[note.place] = Object.assign(note, { label: label.number });
@@ -185,7 +210,7 @@ function followCode(listing, forms) {
   for (const note of notes) {
     const row = note && (note.arm || note.row);
     if (!row || row.op !== 'jump' || !note.held || !entries.has(row.next)) continue;
-    const from = forms.get(note.label), to = forms.get(row.next), state = { isWrong: false, literals: from.literals, terms: from.terms };
+    const from = forms.get(note.label), to = forms.get(row.next), state = { isWrong: false, forms, form: from };
     for (const [register, word] of entries.get(row.next)) {
       const place = word.value ? to.params.indexOf(word.value) : -1, given = note.held.get(register);
       if (place >= 0 && given) merge(given, from.root(row.uses[place]), state);
