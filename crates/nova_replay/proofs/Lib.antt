@@ -1,0 +1,6 @@
+pub mod Fronts
+pub mod Stored
+pub mod TakenBytes
+pub mod Coming
+pub mod Counting
+pub mod Chain
