@@ -1,4 +1,4 @@
-"""Rows on what stands beside the program: the files for editors, examples/packet and examples/check_report; and on reports and made
+"""Rows on what stands beside the program: the files for editors, the captures and examples/check_report; and on reports and made
 sources, whose answers have to agree with one another."""
 import html
 import importlib.machinery
@@ -7,7 +7,6 @@ import os
 import random
 import re
 import shutil
-import struct
 import subprocess
 import sys
 import tempfile
@@ -73,7 +72,7 @@ class SameRow:
         wanted = f"p: {compiled[1]} instructions, moves between banks cost {compiled[3]}, {verdict}\n"
         wanted += f"  of these {counted[0]} between banks, {counted[1]} within a bank, {counted[2]}, {counted[3]}\n"
         found += [] if built == wanted else [difference("the summary", wanted.encode(), built.encode(), is_exact=True)]
-        alone = "".join(it for it in listing.splitlines(True) if not it.startswith("        ; "))
+        alone = "".join(it for it in listing.splitlines(True) if not re.match(" *; ", it))
         found += [] if alone == said(nova, "list", "o") else ["the listing of the source isn't that of the object"]
         ran = said(novac, "run", "o", memory, "steps=1000000")
         return found + [f"run of {it}: another outcome" for it in (self.example, "o") if said(nova, "run", it, memory) != ran]
@@ -111,7 +110,10 @@ class PageRow:
         browser = next((it for it in ("chromium", "chromium-browser", "google-chrome") if shutil.which(it)), None)
         if not browser:
             return []
-        words = [browser, "--headless", "--no-sandbox", "--disable-gpu", "--dump-dom", "p.html"]
+        # What isn't on the screen is built when it is printed, at the latest.
+        with open(os.path.join(at, "p.html"), encoding="utf-8") as page, open(os.path.join(at, "q.html"), "w", encoding="utf-8") as whole:
+            whole.write(page.read() + "<script>setInterval(() => dispatchEvent(new Event('beforeprint')), 100)</script>\n")
+        words = [browser, "--headless", "--no-sandbox", "--disable-gpu", "--virtual-time-budget=5000", "--dump-dom", "q.html"]
         shown = subprocess.run(words, cwd=at, capture_output=True, text=True, timeout=60).stdout
         marks = {"between": "mbb", "within": "m", "literal": "l", "spill": "s"}
         counts = {kind: len(re.findall(f";{mark}$", blocks["listing"], re.M)) for kind, mark in marks.items()}
@@ -263,7 +265,7 @@ class FormatRow:
     where, wants, name = "tests/tools.py", ("novac", "nova"), "the format of the repository's sources"
 
     def __init__(self, top):
-        folders = ("examples", "bench/packets", "crates/nova/data", "crates/novac/data")
+        folders = ("examples", "examples/replay", "bench/packets", "crates/nova/data", "crates/novac/data")
         self.sources = [os.path.join(top, folder, it) for folder in folders for it in sorted(os.listdir(os.path.join(top, folder))) if it.endswith(".nova")]
 
     def differences(self, novac, at):
@@ -463,20 +465,23 @@ def man_as_made(top):
 
 # What a completion has to offer behind these words, of which the last is begun.
 COMPLETIONS = [
-    ("nova ", "asm build check explain fmt forms help list lsp mem page run test trace version --help --version"),
+    ("nova ", "asm build check explain fmt forms help list lsp mem page replay run test trace version --help --version"),
     ("nova b", "build"),
-    ("nova build --s", "--slots --store"),
-    ("nova build -", "--allow --budget --deny-warnings --help --json --report --slots --store --weights -o"),
-    ("nova run -", "--budget --counts --help --json --profile --steps"),
-    ("nova check -", "--allow --deny-warnings --help --json --verbose"),
+    ("nova build --s", "--sarif --slots --store"),
+    ("nova build -", "--allow --budget --deny-warnings --help --json --report --sarif --slots --store --weights -o"),
+    ("nova run -", "--budget --counts --help --json --profile --steps --trace --until"),
+    ("nova check -", "--allow --deny-warnings --help --json --sarif --verbose"),
     ("nova page -", "--budget --help --json --steps -o"),
     ("nova asm -", "--help --json -o"),
     ("nova fmt -", "--check --help --json"),
+    ("nova replay -", "--args --at --drop --help --json --keep --length --limit --memory --steps --table"),
+    ("nova r", "replay run"),
     ("nova list -", "--budget --help --json"),
-    ("nova test -", "--budget --case --help --interpret --json --junit --steps --tap --update"),
+    ("nova test -", "--budget --case --coverage --help --interpret --json --junit --steps --tap --update"),
     ("nova trace -", "--help --json --line --steps"),
     ("nova help l", "list lsp"),
     ("nova explain syntax n", "number name"),
+    ("nova run s m --until ", "raise write"),
     ("nova run -- -", ""),
     ("nova test --steps=", ""),
 ]
@@ -496,6 +501,24 @@ def completion(top):
     told = {it for it in re.findall(r"^\| `(--?[a-z-]+)[ `]", text, re.M)} | set(re.findall(r"`nova ([a-z]+)", text)) | set(re.findall(r"`nova (--[a-z]+)`", text))
     offered = {it for _, wanted in COMPLETIONS for it in wanted.split()}
     return found + [f"docs/COMMANDS.md tells {it}, and no completion offers it" for it in sorted(told - offered)]
+
+
+def options_told(top):
+    """docs/COMMANDS.md tells the options that each command of nova has. So does its help, but for `--help`, and for `--json` where that only prints
+    faults in another form."""
+    verbs, settings, helps = (read(top, f"crates/{it}") for it in ("nova_words/src/verb.rt", "nova_words/src/setting.rt", "nova_show/src/help.rt"))
+    names, spelled = dict(re.findall(r'Verb::(\w+) => "([a-z]+)"', verbs)), dict(re.findall(r'Setting::(\w+) => "(--?[a-z-]+)"', settings))
+    lists = {name: set(re.findall(r"Setting::(\w+)", body)) for name, body in re.findall(r"^const (\w+): \[Setting; [0-9]+\] = \[(.*?)\];", verbs, re.M | re.S)}
+    has = {names[verb]: {spelled[it] for it in lists[table]} for arm, table in re.findall(r"((?:Verb::\w+(?: \| )?)+) => &(\w+),", verbs) for verb in re.findall(r"\w+(?=$| )", arm)}
+    commands, options = module(top, "editors/complete").read_tables()
+    told = {command: {name for name, (of, _) in options.items() if command in of} for command in commands}
+    texts = dict(re.findall(r'^const (\w+): \[&str; [0-9]+\] = \[\n(.*?)^\];', helps, re.M | re.S))
+    pages = {names[verb]: texts[table] for verb, table in re.findall(r"Some\(Verb::(\w+)\) => push_lines\(out, &(\w+)\)", helps)}
+    found = [f"{it}: it has {sorted(has.get(it, []))}, and docs/COMMANDS.md tells {sorted(told.get(it, []))}" for it in sorted(has.keys() | told.keys()) if has.get(it) != told.get(it)]
+    for command, page in pages.items():
+        listed = {name for line in re.findall(r'^    "  (--?[a-z].*)", *$', page, re.M) for name in re.findall(r"--?[a-z-]+", re.split("   |  (?=[a-z])", line)[0])}
+        found += [] if listed <= has[command] and has[command] - listed <= {"--help", "--json"} else [f"nova help {command}: {sorted(listed ^ has[command])}"]
+    return found
 
 
 def pages_as_made(top):
@@ -743,88 +766,14 @@ def complete_recipes(top):
     return sorted(set(found))
 
 
-def there_and_back(top):
-    """Each example with a packet: its bytes become a dump, and that the same lines of SDRAM."""
-    found, packet = [], module(top, "examples/packet")
-    for name in sorted(it for it in os.listdir(os.path.join(top, "examples")) if it.endswith(".mem")):
-        memory = read(top, f"examples/{name}")
-        lines = [it for it in memory.split("\n") if it.startswith("sdram ")]
-        text = packet.memory_text(packet.bytes_of(packet.dump_of(memory, 0, None)), 0, 0, "")
-        if lines and [it for it in text.split("\n") if it.startswith("sdram ")] != lines:
-            found.append(f"{name}: {text}")
-    return found
-
-
-HEADER = "memory 0 3\nargs 00000000\nsdram 0 45000014 12340000 4001d6a9 c0000201 c6336407\n"
-DUMPS = [
-    "4500 0014 1234 0000 4001 d6a9 c000 0201 c633 6407\n",
-    "\t0x0000:  4500 0014 1234 0000 4001 d6a9 c000 0201\n\t0x0010:  c633 6407\n",
-    "00000000: 4500 0014 1234 0000 4001 d6a9 c000 0201  E....4..@.......\n00000010: c633 6407                                .3d.\n",
-    "00000000  45 00 00 14 12 34 00 00  40 01 d6 a9 c0 00 02 01  |E....4..@.......|\n00000010  c6 33 64 07                                       |.3d.|\n00000014\n",
-]
-
-
-def dumps(top):
-    """The usual forms of a hex dump give one memory text; the script says so, too."""
-    packet = module(top, "examples/packet")
-    wanted = HEADER.replace("c6336407\n", "c6336407 00000000\n")
-    found = [text for text in DUMPS if packet.memory_text(packet.bytes_of(text), 0, 0, "00000000") != wanted]
-    words = [sys.executable, os.path.join(top, "examples", "packet"), "--args", "00000000"]
-    ran = subprocess.run(words, input=DUMPS[0], capture_output=True, text=True)
-    return found + ([] if ran.stdout == wanted and not ran.stderr else [ran.stdout + ran.stderr])
-
-
-def piped(top, words, given=b""):
-    """What examples/packet writes, or what it says where it refuses."""
-    ran = subprocess.run([sys.executable, os.path.join(top, "examples", "packet"), *words], input=given, capture_output=True)
-    return ran.stdout if ran.returncode == 0 else ran.stderr
-
-
-def captures(top):
-    """A packet goes into a capture file and comes back; both byte orders and both units of time are read, by number."""
-    packet, memory = module(top, "examples/packet"), HEADER.replace("c6336407\n", "c6336407 00000000\n").encode()
-    data = bytes.fromhex("45000014 12340000 4001d6a9 c0000201 c6336407")
-    found = []
-    with tempfile.TemporaryDirectory() as folder:
-        file = os.path.join(folder, "it.pcap")
-        found += [piped(top, ["--back", "--bytes", "20", "--pcap", file], memory)]
-        with open(file, "rb") as it:
-            found += [] if it.read() == packet.capture_of(data, 101) else ["another capture"]
-        for order in "<>":
-            for magic in (0xA1B2C3D4, 0xA1B23C4D):
-                frame = bytes(14) + data
-                records = b"".join(struct.pack(order + "IIII", 1, 2, len(it), len(it)) + it for it in (b"\1", frame))
-                with open(file, "wb") as it:
-                    it.write(struct.pack(order + "IHHiIII", magic, 2, 4, 0, 0, 65535, 1) + records)
-                read = piped(top, ["--pcap", file, "--number", "2", "--skip", "14", "--args", "00000000"])
-                found += [] if read == memory else [read]
-        for words, said in [(["--number", "3"], b"packet: the capture has 2 packets\n"), (["--number", "9"], b"packet: the capture has 2 packets\n")]:
-            read = piped(top, ["--pcap", file, *words])
-            found += [] if read == said else [read]
-        with open(file, "r+b") as it:
-            it.truncate(os.path.getsize(file) - 1)
-        read = piped(top, ["--pcap", file, "--number", "2"])
-        found += [] if read == b"packet: the capture ends inside packet 2\n" else [read]
-    return [it.decode() if isinstance(it, bytes) else it for it in found if it]
-
-
-def tables(top):
-    """A CSV file with a heading becomes words of SRAM: numbers, addresses and prefixes; another cell is refused with its row."""
-    found = []
-    with tempfile.TemporaryDirectory() as folder:
-        file = os.path.join(folder, "routes.csv")
-        for text, wanted in [
-            ("route,port\n10.1.0.0/16,3\n192.0.2.1,0x10\n\n", "memory 9 3\nargs 00000000\nsram 4 0a010000 ffff0000 00000003 c0000201 00000010\n"),
-            ("1,2,3,4,5\n6,7,8,9,10\n", "memory 14 3\nargs 00000000\nsram 4 00000001 00000002 00000003 00000004 00000005 00000006 00000007 00000008\nsram 12 00000009 0000000a\n"),
-        ]:
-            with open(file, "w") as it:
-                it.write(text)
-            read = piped(top, ["--args", "00000000", "--table", f"4:{file}"], DUMPS[0].encode()).decode()
-            found += [] if read == wanted + HEADER.split("\n")[2] + " 00000000\n" else [read]
-        with open(file, "w") as it:
-            it.write("1,2\n3,10.1.0.1/16\n")
-        read = piped(top, ["--table", f"0:{file}"], DUMPS[0].encode()).decode()
-        found += [] if read == f"packet: {file}, row 2: '10.1.0.1/16' is no word, address or prefix\n" else [read]
+def captures_as_made(top):
+    """The captures of tests/captures are those that its script makes."""
+    wanted = dict(module(top, "tests/captures/make").files())
+    folder = os.path.join(top, "tests", "captures")
+    found = [f"tests/captures/{name} stands there and isn't made" for name in os.listdir(folder) if name not in wanted and "pcap" in name]
+    for name, data in wanted.items():
+        with open(os.path.join(folder, name), "rb") as it:
+            found += [] if it.read() == data else [f"tests/captures/{name} is to be made again"]
     return found
 
 
@@ -833,11 +782,11 @@ def all_rows(top):
     rows += [("VS Code's problem matcher reads each fault", problems), ("Vim's errorformat reads each fault", quickfix)]
     rows += [("the pages of `nova explain` are those of docs/FAULTS.md", pages_as_made)]
     rows += [("the texts of the page are those of page/", page_as_made)]
-    rows += [("the man pages are those of docs/COMMANDS.md", man_as_made), ("completion for bash", completion)]
+    rows += [("the man pages are those of docs/COMMANDS.md", man_as_made), ("completion for bash", completion), ("the options of each command are told", options_told)]
     rows += [("what has to be believed is listed in docs/PROOFS.md", believed_as_made), ("each public function has a clause or a reason", pinned_or_told)]
     rows += [("pages have short sentences, and README short lines", readable), ("the field's words are explained", words_of_the_field), ("the files that the pages name are there", named_files), ("the walks of docs/ARCHITECTURE.md", walks), ("the layers of docs/ARCHITECTURE.md", layers)]
     rows += [("the recipes of docs/RECIPES.md name files that are there", recipes), ("no recipe of docs/RECIPES.md lacks a file", complete_recipes)]
-    rows += [("a packet's hex dump and back", there_and_back), ("forms of hex dumps", dumps), ("nothing stands twice that didn't", nothing_new_twice), ("capture files", captures), ("tables from a CSV file", tables)]
+    rows += [("nothing stands twice that didn't", nothing_new_twice), ("the captures of tests/ are as made", captures_as_made)]
     rows += [("each must-fail edit has its old text once", edits.stale), ("the gate's edits are few", edits.too_many), ("tests/mutants has edits of crates that are there", edits.misplaced)]
     rows += [("a difference is shown with its place", shown_differences)]
     sources = sorted(it for it in os.listdir(os.path.join(top, "examples")) if it.endswith(".nova"))

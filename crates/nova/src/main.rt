@@ -1,13 +1,14 @@
-//! The program for packet programmers: it compiles, runs, lists, checks, tests and explains programs of Nova.
+//! The program for packet programmers: it compiles, runs, replays, lists, checks, tests and explains programs of Nova.
 //!
 //! Ends with 0 where it did what its words say, 1 where it was refused or failed, 2 where the words are no command.
 #![tactic(auto)]
 
 mod folders;
+mod streams;
 
 use folders::DiskFolders;
 use nova_actions::{Ending, run};
-use nova_lsp::serve;
+use nova_lsp::{Ended, serve};
 use nova_words::{Command, command_of};
 use nv_base::NoMemory;
 use nv_outside::{DiskFiles, StdSink};
@@ -16,6 +17,7 @@ use std::env;
 use std::io::{BufReader, ErrorKind, IsTerminal};
 use std::process::ExitCode;
 use std::rt::Env;
+use streams::DiskStreams;
 
 fn main(rt: HostRuntime) -> ExitCode {
     let ending = match command_line(&rt) {
@@ -29,6 +31,7 @@ fn main(rt: HostRuntime) -> ExitCode {
         Ok(words) => {
             let mut files = DiskFiles::new(&rt);
             let mut folders = DiskFolders::new(&rt);
+            let mut streams = DiskStreams::new(&rt);
             let mut out = StdSink::new(&rt);
             let errors = rt.stderr();
             let mut err = StdSink::new(&errors);
@@ -38,6 +41,7 @@ fn main(rt: HostRuntime) -> ExitCode {
                 &words,
                 &mut files,
                 &mut folders,
+                &mut streams,
                 &mut out,
                 &mut err,
                 is_coloured,
@@ -53,11 +57,10 @@ fn asks_server(alloc: Global, words: &[String]) -> bool {
     matches!(command_of(alloc, words), Ok(Command::Serve))
 }
 
-fn ending_of(is_done: bool) -> Ending {
-    if is_done {
-        Ending::Done
-    } else {
-        Ending::Failed
+fn ending_of(ended: Ended) -> Ending {
+    match ended {
+        Ended::Exit(true) => Ending::Done,
+        Ended::Exit(false) | Ended::InputEnded | Ended::Failed => Ending::Failed,
     }
 }
 

@@ -172,10 +172,12 @@ fn save_both(
     }
 }
 
-// A text goes to the standard output, unless a file does.
+// A text goes to the standard output, unless a file does. Among objects of JSON it isn't told.
 fn push_text(object: &str, has_report: bool, text: &Message, answer: &mut Answer) {
     if object == "-" || has_report {
-        answer.err.message_text(text)
+        if answer.form.is_text() {
+            answer.err.message_text(text)
+        }
     } else {
         answer.out.put(object);
         answer.out.put(": ");

@@ -1,5 +1,5 @@
-//! The commands of the program `nova`: `run` does what the words of a command line say, over any files and any two sinks, of
-//! which the second takes faults and remarks.
+//! The commands of the program `nova`: `run` does what the words of a command line say, over any files and streams and any two
+//! sinks, of which the second takes faults and remarks.
 #![tactic(auto)]
 
 mod banks;
@@ -12,6 +12,7 @@ mod forms;
 mod found;
 mod listing;
 mod page;
+mod replaying;
 mod simulation;
 mod testing;
 mod top;

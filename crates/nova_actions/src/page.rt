@@ -7,7 +7,7 @@ ghost use Rattle.nova_words.specs.Limits.{IsBudget};
 use crate::banks::push_banks;
 use crate::build::push_summary;
 use crate::compiled::{compile_within, object_in};
-use crate::listing::form_of;
+use crate::listing::{form_of, load_memories};
 use crate::simulation::run_object;
 use crate::traces::push_trace;
 use diag_source::sizes::push_typed_sizes;
@@ -17,7 +17,7 @@ use nova_page::{
     push_page_part,
 };
 use nova_show::{
-    Answer, Ending, MemoryText, Saving, add_saving, counts_of, list_object, load, load_memory,
+    Answer, Ending, MemoryText, Origins, Saving, add_saving, counts_of, list_object, load,
     output_name,
 };
 use nova_words::{Page, Run};
@@ -67,31 +67,9 @@ fn page_as<F: Files>(
         return;
     };
     let mut memories = Vec::new(alloc);
-    if load_memories(alloc, files, words, &mut memories, answer) {
+    if load_memories(alloc, files, &words.memories, &mut memories, answer) {
         page_on(alloc, words, name, &source, &memories, savings, answer);
     }
-}
-
-// Adds the bytes of each memory text; gives false where one can't be had.
-fn load_memories<F: Files>(
-    alloc: Global,
-    files: &mut F,
-    words: &Page,
-    memories: &mut Vec<MemoryText>,
-    answer: &mut Answer,
-) -> bool
-    ensures held { F.held files.new ≡ F.held files.old }
-{
-    for name in words.memories.iter() {
-        let Some(memory) = load_memory(alloc, files, *name, answer) else {
-            return false;
-        };
-        if memories.push(memory).is_err() {
-            answer.fail();
-            return false;
-        }
-    }
-    true
 }
 
 // Refuses to save over an input.
@@ -207,7 +185,7 @@ fn push_head(
 
 fn push_listing(alloc: Global, page: &mut Message, name: &str, object: &[u8]) {
     let mut listing = Answer::new(alloc);
-    list_object(alloc, name, object, b"", &mut listing);
+    list_object(alloc, name, object, b"", Origins::none(), &mut listing);
     let (_, out, err) = listing.into_parts();
     page.fail_if(err.is_short());
     drop(err);
@@ -256,6 +234,8 @@ fn push_runs(
             return false;
         };
         let run = Run {
+            is_traced: false,
+            until: None,
             program: words.source,
             memory: *name,
             steps: words.steps,

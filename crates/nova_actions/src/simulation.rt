@@ -4,17 +4,16 @@ ghost use Rattle.novac_words.specs.Limits.{object_limit, memory_limit};
 ghost use Rattle.nova_words.specs.Limits.{IsBudget};
 
 use crate::compiled::object_of_source;
-use diag_text::finding::{Severity, Source};
+use diag_text::finding::Source;
 use nova_show::{
     Answer, Ending, MemoryText, Saving, Visits, load, load_memory, push_outside, push_profile,
     push_run_refusal, save_counts, visits_of,
 };
-use nova_texts::last_place;
+use nova_texts::{last_place, print_steps, push_outside_place};
 use nova_words::Run;
 use novac_machine::run_bytes;
 use novac_words::limits::OBJECT_LIMIT;
 use novac_words::{Reply, Status};
-use nv_ast::Span;
 use nv_outside::Files;
 use nv_text::MOST_BYTES;
 use std::alloc::Global;
@@ -57,7 +56,9 @@ fn simulate_on<F: Files>(
     let Some(memory) = load_memory(alloc, files, words.memory, answer) else {
         return;
     };
-    if program.starts_with(b"NVO") {
+    if words.is_traced {
+        print_steps(alloc, words, &program, &memory, answer);
+    } else if program.starts_with(b"NVO") {
         let _ = run_object(alloc, words, &program, &memory, savings, answer);
     } else {
         run_source(alloc, words, &program, &memory, savings, answer);
@@ -85,23 +86,13 @@ fn run_source(
     if is_outside && source.len() <= MOST_BYTES {
         let calls = u64::from(words.steps);
         if let Some(span) = last_place(alloc, source, &memory.text, calls) {
-            push_place(words.program, source, span, answer);
+            let source = Source {
+                name: words.program,
+                bytes: source,
+            };
+            push_outside_place(source, span, answer);
         }
     }
-}
-
-fn push_place(name: &str, source: &[u8], span: Span, answer: &mut Answer) {
-    let mut it = answer.finding();
-    it.severity = Severity::Note;
-    it.span = Some(span);
-    it.title.put("this access is outside of its memory");
-    answer.push_in(
-        Source {
-            name,
-            bytes: source,
-        },
-        it,
-    )
 }
 
 // Refuses to save over an input.

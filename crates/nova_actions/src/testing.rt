@@ -8,12 +8,13 @@ use crate::compiled::{object_of_source, push_refused};
 use crate::folders::Folders;
 use crate::found::{Folder, case_of, folder_at, is_case, split_path};
 use crate::verdict::{Outcomes, push_verdict};
+use diag_text::finding::Source;
 use nova_compile::{FrontError, typed};
 use nova_show::{
     Answer, Ending, MemoryText, Saving, add_saving, load, load_memory, push_run_refusal,
 };
-use nova_texts::Report;
-use nova_words::Test;
+use nova_texts::{Coverage, Report};
+use nova_words::{Test, TestReport};
 use novac_machine::{exec_job, job_of, run_bytes};
 use novac_words::limits::{MEMORY_LIMIT, OBJECT_LIMIT, SOURCE_LIMIT};
 use novac_words::{Refusal, Reply};
@@ -39,21 +40,28 @@ pub fn test<F: Files, D: Folders>(
     let mut results = Results {
         report: Report::new(alloc, words.report),
         savings: Vec::new(alloc),
+        coverage: Coverage::new(alloc),
     };
     for path in words.paths.iter() {
         test_path(alloc, files, folders, *path, words, &mut results, answer);
     }
-    let Results { report, savings } = results;
+    let Results {
+        report,
+        savings,
+        coverage,
+    } = results;
+    drop(coverage);
     push_report(&report, words, answer);
     drop(report);
     savings
 }
 
-// What came of the tests, and the outcome texts that are to be saved.
+// What came of the tests, the outcome texts that are to be saved, and which parts of a source were reached.
 #[derive(Drop)]
 struct Results {
     report: Report,
     savings: Vec<Saving>,
+    coverage: Coverage,
 }
 
 // No memory text at all is a fault too, since a wrong path would pass else.
@@ -150,9 +158,10 @@ fn test_source<F: Files>(
         path,
         typed: &typed,
         object: &object,
+        source: &source,
     };
     if object.len() as u64 <= OBJECT_LIMIT {
-        test_program(alloc, files, folder, program, name, words, results, answer)
+        test_covered(alloc, files, folder, program, name, words, results, answer)
     } else {
         results.report.refuse(path);
         answer.fault(path, "the object is too long")
@@ -198,6 +207,46 @@ struct Program<'a> {
     path: &'a str,
     typed: &'a Typed,
     object: &'a [u8],
+    source: &'a [u8],
+}
+
+// Tests a program, and tells which of its parts no memory text reaches if that is asked for.
+fn test_covered<F: Files>(
+    alloc: Global,
+    files: &mut F,
+    folder: &Folder,
+    program: Program,
+    name: &str,
+    words: &Test,
+    results: &mut Results,
+    answer: &mut Answer,
+)
+    requires steps { words.now.steps ≤ 100000000 }
+    requires object { length program.object.now ≤ object_limit }
+    ensures held { F.held files.new ≡ F.held files.old }
+{
+    if words.has_coverage {
+        results.coverage.begin(alloc, program.source.len());
+    }
+    test_program(alloc, files, folder, program, name, words, results, answer);
+    if words.has_coverage {
+        push_coverage(alloc, program, words, &results.coverage, answer);
+    }
+}
+
+fn push_coverage(
+    alloc: Global,
+    program: Program,
+    words: &Test,
+    coverage: &Coverage,
+    answer: &mut Answer,
+) {
+    let source = Source {
+        name: program.path,
+        bytes: program.source,
+    };
+    let has_line = words.report == TestReport::Lines;
+    coverage.push(alloc, source, program.typed.program(), has_line, answer)
 }
 
 fn test_program<F: Files>(
@@ -289,6 +338,9 @@ fn test_memory<F: Files>(
     let Some(memory) = load_memory(alloc, files, path, answer) else {
         return results.report.refuse(path);
     };
+    results
+        .coverage
+        .add(alloc, program.typed, &memory.text, u64::from(words.steps));
     let Some((meant, done)) = outcomes_on(alloc, program, words, path, &memory, answer) else {
         return results.report.refuse(path);
     };

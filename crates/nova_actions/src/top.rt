@@ -8,13 +8,15 @@ use crate::folders::Folders;
 use crate::forms::print_forms;
 use crate::listing::list;
 use crate::page::make_page;
+use crate::replaying::replay_capture;
 use crate::simulation::simulate_program;
 use crate::testing::test;
 use diag_text::finding::Form;
+use nova_replay::Streams;
 use nova_show::{
     Answer, Ending, Saving, VERSION, print, push_help, push_page_on, push_word_fault, save_all,
 };
-use nova_texts::{assemble_file, format_sources, print_trace, show_memory};
+use nova_texts::{assemble_file, format_sources, print_trace, sarif_log, show_memory};
 use nova_words::{Command, command_of};
 use nv_base::NoMemory;
 use nv_lines::Message;
@@ -23,53 +25,71 @@ use std::alloc::Global;
 
 /// Does what the words of a command line say, which are those after the program's name. Prints on `out` what the command is
 /// asked for, and on `err` faults and remarks, which may be coloured.
-pub fn run<F: Files, D: Folders, K: Sink, E: Sink>(
+pub fn run<F: Files, D: Folders, S: Streams, K: Sink, E: Sink>(
     alloc: Global,
     words: &Vec<String>,
     files: &mut F,
     folders: &mut D,
+    streams: &mut S,
     out: &mut K,
     err: &mut E,
     is_coloured: bool,
 ) -> Ending
-    // Only `build`, `run`, `test`, `page`, `fmt` and `asm` change files.
+    // Only `build`, `run`, `test`, `page`, `fmt` and `asm` change files; `replay` writes to a stream.
     ensures { (MaySave words.now.items → ⊥) → F.held files.new ≡ F.held files.old }
 {
     let mut answer = Answer::in_form(alloc, form_of(words, is_coloured));
-    let savings = savings_of(alloc, words, files, folders, &mut answer);
-    finish(answer, &savings, files, out, err)
+    let savings = savings_of(alloc, words, files, folders, streams, &mut answer);
+    finish(alloc, answer, asks_log(words), &savings, files, out, err)
 }
 
 // How faults are printed: as objects where an option asks for that.
 fn form_of(words: &[String], is_coloured: bool) -> Form {
-    for word in words {
-        if word.as_str() == "--" {
-            break;
-        }
-        if word.as_str() == "--json" {
-            return Form::Json;
-        }
-    }
-    if is_coloured {
+    if has_option(words, "--json") || asks_log(words) {
+        Form::Json
+    } else if is_coloured {
         Form::Coloured
     } else {
         Form::Text
     }
 }
 
+// Whether faults are printed as a log, which is made of the objects.
+fn asks_log(words: &[String]) -> bool {
+    match words.first() {
+        Some(first) if first.as_str() == "build" || first.as_str() == "check" => {
+            has_option(words, "--sarif")
+        }
+        _ => false,
+    }
+}
+
+fn has_option(words: &[String], name: &str) -> bool {
+    for word in words {
+        if word.as_str() == "--" {
+            break;
+        }
+        if word.as_str() == name {
+            return true;
+        }
+    }
+    false
+}
+
 // Does what the words say, but for saving and printing.
-fn savings_of<F: Files, D: Folders>(
+fn savings_of<F: Files, D: Folders, S: Streams>(
     alloc: Global,
     words: &[String],
     files: &mut F,
     folders: &mut D,
+    streams: &mut S,
     answer: &mut Answer,
 ) -> Vec<Saving>
     ensures held { F.held files.new ≡ F.held files.old }
     ensures none { (MaySave words.now → ⊥) → result.items ≡ [] }
 {
     match command_of(alloc, words) {
-        Ok(command) => perform(alloc, files, folders, command, answer),
+        Ok(command) => perform(alloc, files, folders, streams, command, answer),
         Err(fault) => {
             push_word_fault(alloc, fault, answer);
             Vec::new(alloc)
@@ -77,10 +97,11 @@ fn savings_of<F: Files, D: Folders>(
     }
 }
 
-fn perform<F: Files, D: Folders>(
+fn perform<F: Files, D: Folders, S: Streams>(
     alloc: Global,
     files: &mut F,
     folders: &mut D,
+    streams: &mut S,
     command: Command,
     answer: &mut Answer,
 ) -> Vec<Saving>
@@ -99,7 +120,14 @@ fn perform<F: Files, D: Folders>(
         Command::Format(words) => return format_sources(alloc, files, words, answer),
         Command::Asm(words) => return assemble_file(alloc, files, words, answer),
         Command::Mem(name) => show_memory(alloc, files, name, answer),
-        Command::List(words) => list(alloc, files, words, answer),
+        Command::Replay(words) => {
+            replay_capture(alloc, files, streams, &words, answer);
+            drop(words)
+        }
+        Command::List(words) => {
+            list(alloc, files, &words, answer);
+            drop(words)
+        }
         Command::Forms(words) => print_forms(alloc, files, words, answer),
         Command::Check(words) => {
             check(alloc, files, folders, &words, answer);
@@ -122,7 +150,9 @@ fn perform<F: Files, D: Folders>(
 
 // Saves the files, and prints both texts.
 fn finish<F: Files, K: Sink, E: Sink>(
+    alloc: Global,
     answer: Answer,
+    is_log: bool,
     savings: &[Saving],
     files: &mut F,
     out: &mut K,
@@ -131,7 +161,7 @@ fn finish<F: Files, K: Sink, E: Sink>(
     ensures { savings.now ≡ [] → F.held files.new ≡ F.held files.old }
 {
     let (ending, output, remarks) = answer.into_parts();
-    match texts_of(output, remarks) {
+    match texts_of(alloc, output, remarks, is_log) {
         Ok((output, remarks)) => {
             let is_done = save_all(savings, files, out, err) && print(out, &output);
             if print(err, &remarks) && is_done {
@@ -147,8 +177,17 @@ fn finish<F: Files, K: Sink, E: Sink>(
     }
 }
 
-fn texts_of(output: Message, remarks: Message) -> Result<(Vec<u8>, Vec<u8>), NoMemory> {
+fn texts_of(
+    alloc: Global,
+    output: Message,
+    remarks: Message,
+    is_log: bool,
+) -> Result<(Vec<u8>, Vec<u8>), NoMemory> {
     let output = output.into_bytes()?;
     let remarks = remarks.into_bytes()?;
+    if is_log {
+        let log = sarif_log(alloc, &remarks)?;
+        return Ok((output, log));
+    }
     Ok((output, remarks))
 }

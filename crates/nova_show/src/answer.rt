@@ -98,6 +98,14 @@ impl Answer {
         drop(finding)
     }
 
+    /// Appends what is no fault and has a place in the bytes of a file.
+    pub fn tell_in(&mut self, source: Source, finding: Finding)
+        ensures { self.new.ending ≡ self.old.ending }
+    {
+        finding.push(self.alloc, &mut self.err, self.form, source);
+        drop(finding)
+    }
+
     /// Appends a fault of a file, of one sentence.
     pub fn fault(&mut self, name: &str, text: &str)
         ensures { self.new.ending ≡ Ending.Failed }

@@ -29,6 +29,7 @@ pub fn push_help(out: &mut Message, verb: Option<Verb>) {
         Some(Verb::Serve) => push_lines(out, &SERVE),
         Some(Verb::Asm) => push_lines(out, &ASM),
         Some(Verb::Mem) => push_lines(out, &MEM),
+        Some(Verb::Replay) => push_lines(out, &REPLAY),
         Some(Verb::Explain) => push_lines(out, &EXPLAIN),
         Some(Verb::Help) => out.line(
             "nova help [COMMAND]: prints the options of a command, or all commands.",
@@ -45,18 +46,19 @@ fn push_lines(out: &mut Message, lines: &[&str]) {
     }
 }
 
-const USAGE: [&str; 27] = [
+const USAGE: [&str; 28] = [
     "nova compiles, runs, tests and explains programs of Nova, a language for packets.",
     "",
     "  nova build SRC [-o OBJ] ..     compiles a source and saves its object",
     "  nova run OBJ-or-SRC MEM ..     runs an object, or the code of a source, on a memory text",
-    "  nova list OBJ-or-SRC           lists code with its labels, moves and spills",
+    "  nova list OBJ-or-SRC [MEM..]   lists code with its labels, moves and spills",
     "  nova check SRC-or-FOLDER ..    prints where sources are refused, what may be wrong with them, and how large they are",
     "  nova test SRC-or-FOLDER ..     runs sources on the memory texts beside them, and compares the outcomes",
     "  nova trace SRC MEM             prints which line of a source made each write, by which calls",
     "  nova page SRC [MEM..]          makes a page of HTML on a source and its code",
     "  nova forms SRC [FORM]          prints the forms between the source and its code",
     "  nova fmt SRC ..                formats sources: sets their blanks, and leaves tokens, comments and ends of lines",
+    "  nova replay OBJ-or-SRC IN OUT  runs the packets of a capture through code, and writes a capture of what comes out",
     "  nova asm TEXT [-o OBJ]         assembles an assembly text and saves its object",
     "  nova mem MEM                   prints a memory text of a readable one, or the other way round",
     "  nova lsp                       answers an editor, as a language server on the standard input and output",
@@ -75,9 +77,9 @@ const USAGE: [&str; 27] = [
     "`novac` is the compiler for programs that call it: its words, lines and statuses are fixed.",
 ];
 
-const BUILD: [&str; 20] = [
+const BUILD: [&str; 21] = [
     "nova build SRC [-o OBJ] [--report FILE] [--slots N] [--budget N] [--store N] [--weights FILE] [--deny-warnings]",
-    "           [--allow NAMES]",
+    "           [--allow NAMES] [--json | --sarif]",
     "",
     "Compiles the source SRC, saves the object, and prints how many instructions it has, what its moves between banks cost,",
     "and whether a choice of banks may be cheaper. `optimal` means that none is. It says nothing of the other instructions.",
@@ -92,14 +94,15 @@ const BUILD: [&str; 20] = [
     "  --deny-warnings  refuses a source that it warns of, and saves nothing",
     "  --allow NAMES    leaves out warnings of these names, with commas between them; `nova explain warnings` has them",
     "  --json           prints each fault and each warning as an object of JSON on a line",
+    "  --sarif          prints them as one log in the Static Analysis Results Interchange Format 2.1.0",
     "",
     "A move between banks costs 1, an access to a slot 16, each times the weight of its label, which is 1 by default.",
     "Two things are printed of the cost: that of the choice of banks, and how many instructions the code has of each kind.",
     "These may be fewer, since needless ones are removed.",
 ];
 
-const RUN: [&str; 14] = [
-    "nova run OBJ-or-SRC MEM [--steps N] [--budget N] [--profile] [--counts FILE]",
+const RUN: [&str; 18] = [
+    "nova run OBJ-or-SRC MEM [--steps N] [--budget N] [--profile] [--counts FILE] [--trace] [--until WHAT]",
     "",
     "Runs the code of an object, or of a source that is compiled in haste, on the memories and arguments of the memory",
     "text MEM. Prints the outcome, and on the standard error how many steps it took.",
@@ -110,24 +113,31 @@ const RUN: [&str; 14] = [
     "  --profile        prints on the standard error how many steps it took in each label, and how often it was entered",
     "  --counts FILE    saves how often each label was entered: `nova build --weights FILE` of the same source takes",
     "                   that into account",
+    "  --trace          of a source: prints the calls, accesses and raises that the interpreter makes and the values that",
+    "                   variables get, each with its line, in place of the outcome of the code",
+    "  --until WHAT     ends the trace with the first `write`, the first `raise`, or the first that begins on a line, 1 to",
+    "                   1000000; a trace is then asked for",
     "",
     "The status is 0 where the program ended; 1 where it raised an exception that no handler takes, accessed an address",
     "outside of a memory, or had not ended after all steps.",
 ];
 
-const LIST: [&str; 8] = [
-    "nova list OBJ-or-SRC [--budget N]",
+const LIST: [&str; 11] = [
+    "nova list OBJ-or-SRC [MEM..] [--budget N]",
     "",
     "Lists the code of an object, or of a source that is compiled in haste: the index of each instruction, the labels at",
     "their starts, and which instructions are moves, literals or accesses to slots. Of a source, each label is followed by",
-    "the lines of the single-use form that its instructions come from.",
+    "the lines of the single-use form that its instructions come from, and above an access, a raise or an end stands the",
+    "line of the source that it comes from: where one place of the source alone can be it, or where the code is run on",
+    "memory texts MEM beside the source. Then labels have the names of functions, too. An instruction without such a line",
+    "may come from any.",
     "",
     "  --budget N       of a source: the branches of the search for banks, 1 to 1000000; without it the search is cut short.",
     "                   Where a cheaper choice of banks may be there, the standard error says so",
 ];
 
-const CHECK: [&str; 12] = [
-    "nova check SRC-or-FOLDER .. [--verbose] [--deny-warnings] [--allow NAMES] [--json]",
+const CHECK: [&str; 13] = [
+    "nova check SRC-or-FOLDER .. [--verbose] [--deny-warnings] [--allow NAMES] [--json | --sarif]",
     "",
     "Prints on the standard error where each source is refused, with line and column, what is wrong and what helps: the",
     "first type fault of each function. Of a source without a fault it warns of what may be a mistake, as of an unused",
@@ -137,12 +147,14 @@ const CHECK: [&str; 12] = [
     "  --deny-warnings  ends with 1 where it warns of a source",
     "  --allow NAMES    leaves out warnings of these names, with commas between them; `nova explain warnings` has them",
     "  --json           prints each fault and each warning as an object of JSON on a line, and no sizes",
+    "  --sarif          prints them as one log in the Static Analysis Results Interchange Format 2.1.0, and no sizes",
     "",
     "The status is 1 where a source is refused. A warning alone doesn't change it.",
 ];
 
-const TEST: [&str; 19] = [
-    "nova test SRC-or-FOLDER .. [--steps N] [--budget N] [--case NAME] [--update] [--interpret] [--tap | --junit]",
+const TEST: [&str; 22] = [
+    "nova test SRC-or-FOLDER .. [--steps N] [--budget N] [--case NAME] [--update] [--coverage] [--interpret]",
+    "          [--tap | --junit]",
     "",
     "Runs each source NAME.nova on the memory texts NAME*.mem and NAME*.nmem in its folder, by the interpreter and by its",
     "compiled code. Both have to print the same outcome. Where a memory text X.mem or X.nmem has an outcome text X.out",
@@ -154,6 +166,8 @@ const TEST: [&str; 19] = [
     "  --case NAME      runs the memory text of this name alone, with or without its ending",
     "  --update         writes the outcome text of each memory text whose outcome is another one or has none, where interpreter",
     "                   and code agree",
+    "  --coverage       tells each function, statement, arm and handler that no memory text reaches, and how many parts are",
+    "                   reached",
     "  --interpret      runs the interpreter alone, and compiles nothing",
     "  --tap, --junit   prints the results in the form of the Test Anything Protocol, or of JUnit",
     "",
@@ -248,6 +262,30 @@ const SERVE: [&str; 8] = [
     "An editor starts it, and editors/README.md says how. It reads no file: the editor sends the texts.",
     "",
     "The status is 0 where the editor said `shutdown` and `exit`, and else 1.",
+];
+
+const REPLAY: [&str; 21] = [
+    "nova replay OBJ-or-SRC IN OUT [--at Q] [--args 'W W ..'] [--length N] [--table AT:FILE ..] [--memory MEM] [--keep]",
+    "    [--drop EXCEPTION ..] [--steps N] [--limit N] [--json]",
+    "",
+    "Runs the code of an object or a source on each packet of the capture IN, pcap or pcapng, each on the memories that the one",
+    "before left, and writes what comes out to the capture OUT, with its time and its link header. A packet that raised an",
+    "exception is counted and isn't written. docs/REPLAY.md says how programs are written for it.",
+    "",
+    "  --at Q           the quadword of SDRAM at which a packet stands, 0 to 65535; by default 0",
+    "  --args 'W W ..'  the arguments of `main`; by default 0, or those of MEM",
+    "  --length N       argument N is the packet's length, from 0; word N of the result, if it has one, what comes out of it",
+    "  --table AT:FILE  puts the words of a CSV file into SRAM from AT on",
+    "  --memory MEM     the memories before the first packet; by default zeros, as large as they can be",
+    "  --keep           writes packets that raised an exception as they came",
+    "  --drop EXCEPTION doesn't write those that raised this one, under `--keep`",
+    "  --steps N        how many steps a packet may take, 1 to 100000000; by default 1000000",
+    "  --limit N        ends after so many packets",
+    "  --json           prints an object of JSON for each packet",
+    "",
+    "Prints on the standard error how many packets were forwarded, raised each exception, and had no such end.",
+    "The status is 1 where a packet faulted, ran out of steps or was too long, or a capture is broken. What stands before that",
+    "is written.",
 ];
 
 const EXPLAIN: [&str; 4] = [

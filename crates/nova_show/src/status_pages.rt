@@ -79,7 +79,7 @@ fn status_page_1(name: &[u8]) -> Option<&'static str> {
                 text: r#"status 8: a size
 
 `too large N` says one of four things: a file has more bytes than its limit N, a source has an expanded size N of more than 4,096,
-the 0-1 program of its banks has N columns, or else rows, more than 67,108,864 (so large a program ends with 5 first),
+the 0-1 program of its banks has N columns, or else rows, more than 67,108,864,
 or a memory text asks for a memory of size N, more than 65,536.
 "#,
             },

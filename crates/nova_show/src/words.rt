@@ -120,7 +120,11 @@ fn push_setting(out: &mut Message, setting: Setting, text: &str) {
 fn push_number(out: &mut Message, setting: Setting, value: &str, least: u32, most: u32) {
     out.put("`");
     out.put(setting.name());
-    out.put("` needs a number from ");
+    out.put(if setting == Setting::Until {
+        "` needs `write`, `raise` or a line from "
+    } else {
+        "` needs a number from "
+    });
     out.number(u64::from(least));
     out.put(" to ");
     out.number(u64::from(most));

@@ -2,7 +2,9 @@
 ghost use Rattle.std.specs.Prelude.{◌≤◌, length};
 ghost use Rattle.novac_words.specs.Limits.{memory_limit, source_limit};
 
+use diag_text::finding::{Severity, Source};
 use nova_compile::typed;
+use nova_show::Answer;
 use novac_machine::job_of;
 use nv_ast::{Span, Typed};
 use nv_memtext::Job;
@@ -23,6 +25,15 @@ pub fn last_place(alloc: Global, source: &[u8], memory: &[u8], calls: u64) -> Op
         }
         Err(_) => None,
     }
+}
+
+/// Tells where in a source an access was outside of its memory, which is a fault.
+pub fn push_outside_place(source: Source, span: Span, answer: &mut Answer) {
+    let mut it = answer.finding();
+    it.severity = Severity::Note;
+    it.span = Some(span);
+    it.title.put("this access is outside of its memory");
+    answer.push_in(source, it)
 }
 
 fn place_in(alloc: Global, program: &Typed, memory: &[u8], calls: u64) -> Option<Span>

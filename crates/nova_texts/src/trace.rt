@@ -34,8 +34,8 @@ pub fn print_trace<F: Files>(alloc: Global, files: &mut F, words: Tracing, answe
     }
 }
 
-// The typed program of a source; where there is none, the answer says why.
-fn program_of(alloc: Global, name: &str, source: &[u8], answer: &mut Answer) -> Option<Typed>
+/// The typed program of a source; where there is none, the answer says why.
+pub fn program_of(alloc: Global, name: &str, source: &[u8], answer: &mut Answer) -> Option<Typed>
     requires { length source.now ≤ source_limit }
 {
     match typed(alloc, source) {

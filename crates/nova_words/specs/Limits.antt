@@ -1,8 +1,8 @@
 -- Within which limits the numbers of a command are, by which name it is called, and which words save files.
-use Rattle.std.specs.Prelude.{◌≡◌, ◌≢◌, ◌≤◌, ◌⊎◌, ℕ, All, IfSome, List, MatchOption, None, Option, Some, String, slice_get, string_bytes, codes, ⊤}
+use Rattle.std.specs.Prelude.{◌≡◌, ◌≢◌, ◌≤◌, ◌<◌, ◌⊎◌, ℕ, All, IfSome, List, MatchOption, None, Option, Some, String, slice_get, string_bytes, codes, ⊤}
 use Rattle.std.specs.Global.{Global}
 use Rattle.nova_words.specs.declared.command.Command.{Command}
-use Rattle.nova_words.specs.declared.command.Command.TheVariants.{Build, Run, List as ListCommand, Check, Test, Trace, Page, Forms, Format, Asm, Mem, Serve, Explain, Help, Version}
+use Rattle.nova_words.specs.declared.command.Command.TheVariants.{Build, Run, List as ListCommand, Check, Test, Trace, Page, Forms, Format, Asm, Mem, Replay, Serve, Explain, Help, Version}
 use Rattle.nova_words.specs.declared.command.Build.{Build as BuildWords}
 use Rattle.nova_words.specs.declared.verb.Verb.{Verb}
 use Rattle.nova_words.specs.declared.verb.Verb.TheVariants as verb
@@ -30,6 +30,7 @@ HasLimits (ListCommand l) = IsBudget l.budget
 HasLimits (Page p) = (p.steps ≤ steps_limit) × IsBudget p.budget
 HasLimits (Test t) = (t.steps ≤ steps_limit) × IsBudget t.budget
 HasLimits (Trace t) = t.steps ≤ steps_limit
+HasLimits (Replay r) = (r.steps ≤ steps_limit) × (r.at < 65536)
 HasLimits _ = ⊤
 
 -- the store and the steps that it allows are not 0
@@ -39,6 +40,7 @@ AllowsSome (Run r) = 1 ≤ r.steps
 AllowsSome (Page p) = 1 ≤ p.steps
 AllowsSome (Test t) = 1 ≤ t.steps
 AllowsSome (Trace t) = 1 ≤ t.steps
+AllowsSome (Replay r) = 1 ≤ r.steps
 AllowsSome _ = ⊤
 
 -- the command may save files
@@ -64,6 +66,7 @@ name_of verb.Forms = codes "forms"
 name_of verb.Format = codes "fmt"
 name_of verb.Asm = codes "asm"
 name_of verb.Mem = codes "mem"
+name_of verb.Replay = codes "replay"
 name_of verb.Serve = codes "lsp"
 name_of verb.Explain = codes "explain"
 name_of verb.Help = codes "help"
@@ -91,6 +94,7 @@ IsCalled word (Format f) = word ≡ codes "fmt"
 IsCalled word Serve = word ≡ codes "lsp"
 IsCalled word (Asm a) = word ≡ codes "asm"
 IsCalled word (Mem name) = word ≡ codes "mem"
+IsCalled word (Replay r) = word ≡ codes "replay"
 IsCalled word (Explain words) = word ≡ codes "explain"
 IsCalled word (Help None) = AsksHelp word ⊎ (word ≡ codes "help")
 IsCalled word (Help (Some verb)) = (word ≡ name_of verb) ⊎ (word ≡ codes "help")

@@ -1,11 +1,13 @@
 -- Which value is given an option, and which number that is.
-use Rattle.std.specs.Prelude.{◌≡◌, ◌≢◌, ◌⊎◌, ◌++◌, ◌∷◌, ℕ, All, List, MatchOption, Option, Some, decimal, ⊤}
+use Rattle.std.specs.Prelude.{◌≡◌, ◌≢◌, ◌⊎◌, ◌++◌, ◌∷◌, ℕ, All, List, MatchOption, Option, Some, codes, decimal, ⊤}
 use Rattle.nova_words.specs.declared.command.Command.{Command}
-use Rattle.nova_words.specs.declared.command.Command.TheVariants.{Build, Run, List as ListCommand, Page, Test, Trace}
+use Rattle.nova_words.specs.declared.command.Command.TheVariants.{Build, Run, List as ListCommand, Page, Replay, Test, Trace}
 use Rattle.nova_words.specs.declared.parts.Given.{Given}
 use Rattle.nova_words.specs.declared.parts.Parts.{Parts}
 use Rattle.nova_words.specs.declared.setting.Setting.{Setting}
-use Rattle.nova_words.specs.declared.setting.Setting.TheVariants.{Slots, Budget, Store, Steps, Line, Help}
+use Rattle.nova_words.specs.declared.setting.Setting.TheVariants.{Slots, Budget, Store, Steps, Line, At, Length, Limit, Until as UntilSetting, Help}
+use Rattle.nova_words.specs.declared.command.Until.{Until}
+use Rattle.nova_words.specs.declared.command.Until.TheVariants.{Write, Raise, Line as LineOf}
 
 abbrev pub IsNotGiven : List Given → Setting → Type 0
 IsNotGiven given setting = All (λ g. g.setting ≢ setting) given
@@ -29,12 +31,23 @@ IsNumberOf given setting usual n = IsLastValue given setting (decimal n) ⊎ (Is
 abbrev pub IsNumberIfGiven : List Given → Setting → Option ℕ → Type 0
 IsNumberIfGiven given setting number = MatchOption number (IsNotGiven given setting) (λ n. IsLastValue given setting (decimal n))
 
+-- the spelling of what ends a trace
+abbrev pub until_text : Until → List ℕ
+until_text Write = codes "write"
+until_text Raise = codes "raise"
+until_text (LineOf n) = decimal n
+
+-- the option's last value spells what ends a trace; without the option there is nothing
+abbrev pub IsUntilIfGiven : List Given → Option Until → Type 0
+IsUntilIfGiven given until = MatchOption until (IsNotGiven given UntilSetting) (λ u. IsLastValue given UntilSetting (until_text u))
+
 -- each number of the command is that of its option
 abbrev pub HasNumbers : List Given → Command → Type 0
 HasNumbers given (Build b) = IsNumberOf given Slots 128 b.slots × IsNumberOf given Budget 2000 b.budget × IsNumberOf given Store 2048 b.store
-HasNumbers given (Run r) = IsNumberOf given Steps 1000000 r.steps × IsNumberIfGiven given Budget r.budget
+HasNumbers given (Run r) = IsNumberOf given Steps 1000000 r.steps × IsNumberIfGiven given Budget r.budget × IsUntilIfGiven given r.until
 HasNumbers given (ListCommand l) = IsNumberIfGiven given Budget l.budget
 HasNumbers given (Page p) = IsNumberOf given Steps 1000000 p.steps × IsNumberIfGiven given Budget p.budget
 HasNumbers given (Trace t) = IsNumberOf given Steps 1000000 t.steps × IsNumberIfGiven given Line t.line
+HasNumbers given (Replay r) = IsNumberOf given At 0 r.at × IsNumberOf given Steps 1000000 r.steps × IsNumberIfGiven given Length r.length × IsNumberIfGiven given Limit r.limit
 HasNumbers given (Test t) = IsNumberOf given Steps 1000000 t.steps × IsNumberIfGiven given Budget t.budget
 HasNumbers given _ = ⊤

@@ -2,7 +2,7 @@
 ghost use Rattle.std.specs.Prelude.{◌≡◌, ◌≤◌, ◌⊎◌, IfErr, IfOk, IfSome, [], codes};
 ghost use Rattle.nova_words.specs.Faults.{HaveFault, IsFaultAt};
 ghost use Rattle.nova_words.specs.Limits.{AllowsSome, AsksHelp, FirstIs, HasLimits, HaveNoHelp, IsCalled, IsHelp, MaySave, Saves, name_of};
-ghost use Rattle.nova_words.specs.Values.{HasNumbers, IsNotGiven, IsNumberIfGiven, IsNumberOf};
+ghost use Rattle.nova_words.specs.Values.{HasNumbers, IsNotGiven, IsNumberIfGiven, IsNumberOf, IsUntilIfGiven};
 
 use crate::fault::WordFault;
 use crate::number::read_number;
@@ -27,6 +27,10 @@ const MOST_STEPS: u32 = 100_000_000;
 const USUAL_STEPS: u32 = 1_000_000;
 
 const MOST_LINE: u32 = 1_000_000;
+
+const MOST_AT: u32 = 65_535;
+
+const MOST_LENGTH: u32 = 7;
 
 /// What `build` is asked for.
 #[derive(Clone, Copy)]
@@ -67,13 +71,28 @@ pub struct Run<'a> {
     pub has_profile: bool,
     /// Where these numbers are saved, if they are.
     pub counts: Option<&'a str>,
+    /// Whether the statements are told that the interpreter comes to, in place of the outcome of the code.
+    pub is_traced: bool,
+    /// The first of these ends the trace, if one is asked for.
+    pub until: Option<Until>,
+}
+
+/// What ends a trace.
+#[derive(Clone, Copy, PartialEq, Eq)]
+pub enum Until {
+    Write,
+    Raise,
+    /// What begins on a line.
+    Line(u32),
 }
 
 /// What `list` is asked for.
-#[derive(Clone, Copy)]
+#[derive(Drop)]
 pub struct Listing<'a> {
     /// An object or a source.
     pub program: &'a str,
+    /// The memory texts on which a source is run, to see where its instructions come from.
+    pub memories: Vec<&'a str>,
     /// The branches of the search for banks of a source, if that is said.
     pub budget: Option<u32>,
 }
@@ -138,6 +157,8 @@ pub struct Test<'a> {
     pub case: Option<&'a str>,
     /// Whether outcome texts are written anew.
     pub is_updating: bool,
+    /// Whether the parts of sources are told that no case reaches.
+    pub has_coverage: bool,
     /// Whether the interpreter alone runs.
     pub is_interpreted: bool,
     pub report: TestReport,
@@ -165,6 +186,37 @@ pub struct Tracing<'a> {
     pub line: Option<u32>,
 }
 
+/// What `replay` is asked for.
+#[derive(Drop)]
+pub struct Replay<'a> {
+    /// An object or a source.
+    pub program: &'a str,
+    /// The capture that is read.
+    pub input: &'a str,
+    /// The capture that is written.
+    pub output: &'a str,
+    /// The quadword of SDRAM at which a packet stands.
+    pub at: u32,
+    /// The arguments of `main`, if they are given.
+    pub args: Option<&'a str>,
+    /// The argument that is the packet's length, if one is.
+    pub length: Option<u32>,
+    /// Words of SRAM, each as a place, a colon and a file.
+    pub tables: Vec<&'a str>,
+    /// The memory text of the memories before the first packet, if there is one.
+    pub memory: Option<&'a str>,
+    /// Whether a packet that raised is written as it came.
+    pub keeps: bool,
+    /// The exceptions whose packets aren't.
+    pub drops: Vec<&'a str>,
+    /// The steps that each packet may take.
+    pub steps: u32,
+    /// The most packets that are run, if that is said.
+    pub limit: Option<u32>,
+    /// Whether each packet has a line of JSON.
+    pub is_json: bool,
+}
+
 /// A command with what its words name.
 #[derive(Drop)]
 pub enum Command<'a> {
@@ -182,6 +234,7 @@ pub enum Command<'a> {
     Asm(Asm<'a>),
     /// Of a memory text.
     Mem(&'a str),
+    Replay(Replay<'a>),
     /// The words that a page is called by.
     Explain(&'a [String]),
     /// Of one command, or of all.
@@ -194,7 +247,7 @@ pub fn command_of<'a>(alloc: Global, words: &'a [String]) -> Result<Command<'a>,
     ensures limits { IfOk result HasLimits }
     ensures some { IfOk result AllowsSome }
     ensures called { IfOk result (λ c. FirstIs words.now (λ word. IsCalled word c)) }
-    // Only `build`, `run`, `test`, `page`, `fmt` and `asm` save files.
+    // Only `build`, `run`, `test`, `page`, `fmt` and `asm` save files; `replay` writes its capture piece by piece.
     ensures saves { IfOk result (λ c. Saves c → MaySave words.now) }
     ensures empty { words.now ≡ [] → result ≡ Err WordFault.NoWords }
     ensures help { FirstIs words.now AsksHelp → result ≡ Ok (Command.Help None) }
@@ -271,7 +324,7 @@ fn command_in<'a>(
     match verb {
         Verb::Build => build_in(parts),
         Verb::Run => run_in(parts),
-        Verb::List => list_in(parts),
+        Verb::List => list_in(alloc, parts),
         Verb::Check => check_in(alloc, parts),
         Verb::Test => test_in(alloc, parts),
         Verb::Trace => trace_in(parts),
@@ -281,6 +334,7 @@ fn command_in<'a>(
         Verb::Serve => serve_in(parts),
         Verb::Asm => asm_in(parts),
         Verb::Mem => Ok(Command::Mem(only_name(parts, "MEM")?)),
+        Verb::Replay => replay_in(alloc, parts),
         Verb::Explain => explain_in(parts, words),
         Verb::Help => help_in(parts),
         Verb::Version => Ok(Command::Version),
@@ -326,7 +380,7 @@ fn warnings_in<'a>(parts: &Parts<'a>) -> Warnings<'a> {
     }
 }
 
-fn list_in<'a>(parts: &Parts<'a>) -> Result<Command<'a>, WordFault<'a>>
+fn list_in<'a>(alloc: Global, parts: &Parts<'a>) -> Result<Command<'a>, WordFault<'a>>
     ensures limits { IfOk result HasLimits }
     ensures some { IfOk result AllowsSome }
     ensures numbers { IfOk result (HasNumbers parts.now.given.items) }
@@ -334,9 +388,14 @@ fn list_in<'a>(parts: &Parts<'a>) -> Result<Command<'a>, WordFault<'a>>
     ensures asks { IfOk result (λ c. IsHelp c → ⊥) }
     ensures refused { IfErr result (IsFaultAt (name_of parts.now.verb)) }
 {
-    let program = only_name(parts, "OBJ or SRC")?;
+    let program = parts.name(0, "OBJ or SRC")?;
     let budget = given_number_in(parts, Setting::Budget, 1, MOST_BUDGET)?;
-    Ok(Command::List(Listing { program, budget }))
+    let memories = names_after(alloc, parts)?;
+    Ok(Command::List(Listing {
+        program,
+        memories,
+        budget,
+    }))
 }
 
 fn run_in<'a>(parts: &Parts<'a>) -> Result<Command<'a>, WordFault<'a>>
@@ -352,6 +411,7 @@ fn run_in<'a>(parts: &Parts<'a>) -> Result<Command<'a>, WordFault<'a>>
     let memory = parts.name(1, "MEM")?;
     let steps = number_in(parts, Setting::Steps, 1, MOST_STEPS, USUAL_STEPS)?;
     let budget = given_number_in(parts, Setting::Budget, 1, MOST_BUDGET)?;
+    let until = until_in(parts)?;
     Ok(Command::Run(Run {
         program,
         memory,
@@ -359,7 +419,24 @@ fn run_in<'a>(parts: &Parts<'a>) -> Result<Command<'a>, WordFault<'a>>
         budget,
         has_profile: parts.value(Setting::Profile).is_some(),
         counts: parts.value(Setting::Counts),
+        is_traced: until.is_some() || parts.value(Setting::Trace).is_some(),
+        until,
     }))
+}
+
+// What ends a trace, if the words give the option.
+fn until_in<'a>(parts: &Parts<'a>) -> Result<Option<Until>, WordFault<'a>>
+    ensures given { IfOk result (IsUntilIfGiven parts.now.given.items) }
+    ensures refused { IfErr result (IsFaultAt (name_of parts.now.verb)) }
+{
+    match parts.value(Setting::Until) {
+        Some("write") => Ok(Some(Until::Write)),
+        Some("raise") => Ok(Some(Until::Raise)),
+        _ => match given_number_in(parts, Setting::Until, 1, MOST_LINE)? {
+            Some(line) => Ok(Some(Until::Line(line))),
+            None => Ok(None),
+        },
+    }
 }
 
 fn check_in<'a>(alloc: Global, parts: &Parts<'a>) -> Result<Command<'a>, WordFault<'a>>
@@ -426,6 +503,41 @@ fn page_in<'a>(alloc: Global, parts: &Parts<'a>) -> Result<Command<'a>, WordFaul
     }))
 }
 
+fn replay_in<'a>(alloc: Global, parts: &Parts<'a>) -> Result<Command<'a>, WordFault<'a>>
+    ensures limits { IfOk result HasLimits }
+    ensures some { IfOk result AllowsSome }
+    ensures numbers { IfOk result (HasNumbers parts.now.given.items) }
+    ensures called { IfOk result (IsCalled (codes "replay")) }
+    ensures asks { IfOk result (λ c. IsHelp c → ⊥) }
+    ensures refused { IfErr result (IsFaultAt (name_of parts.now.verb)) }
+{
+    parts.check_names(3)?;
+    let program = parts.name(0, "OBJ or SRC")?;
+    let input = parts.name(1, "IN")?;
+    let output = parts.name(2, "OUT")?;
+    let at = number_in(parts, Setting::At, 0, MOST_AT, 0)?;
+    let steps = number_in(parts, Setting::Steps, 1, MOST_STEPS, USUAL_STEPS)?;
+    let length = given_number_in(parts, Setting::Length, 0, MOST_LENGTH)?;
+    let limit = given_number_in(parts, Setting::Limit, 1, u32::MAX)?;
+    let tables = parts.values(alloc, Setting::Table)?;
+    let drops = parts.values(alloc, Setting::Drop)?;
+    Ok(Command::Replay(Replay {
+        program,
+        input,
+        output,
+        at,
+        args: parts.value(Setting::Args),
+        length,
+        tables,
+        memory: parts.value(Setting::Memory),
+        keeps: parts.value(Setting::Keep).is_some(),
+        drops,
+        steps,
+        limit,
+        is_json: parts.value(Setting::Json).is_some(),
+    }))
+}
+
 fn forms_in<'a>(parts: &Parts<'a>) -> Result<Command<'a>, WordFault<'a>>
     ensures limits { IfOk result HasLimits }
     ensures some { IfOk result AllowsSome }
@@ -475,6 +587,7 @@ fn test_in<'a>(alloc: Global, parts: &Parts<'a>) -> Result<Command<'a>, WordFaul
         budget,
         case: parts.value(Setting::Case),
         is_updating: parts.value(Setting::Update).is_some(),
+        has_coverage: parts.value(Setting::Coverage).is_some(),
         is_interpreted: parts.value(Setting::Interpret).is_some(),
         report: report_in(parts),
     }))

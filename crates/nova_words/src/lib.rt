@@ -10,8 +10,8 @@ mod setting;
 mod verb;
 
 pub use command::{
-    Asm, Build, Check, Command, Format, Forms, Listing, Page, Run, Test, TestReport, Tracing,
-    Warnings, command_of,
+    Asm, Build, Check, Command, Format, Forms, Listing, Page, Replay, Run, Test, TestReport,
+    Tracing, Until, Warnings, command_of,
 };
 pub use fault::WordFault;
 pub use nearest::{nearest_among, nearest_setting, nearest_verb, verb_with};

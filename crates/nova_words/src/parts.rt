@@ -144,6 +144,19 @@ impl<'a> Parts<'a> {
         last
     }
 
+    /// The values that were given an option, in order.
+    pub fn values(&self, alloc: Global, setting: Setting) -> Result<Vec<&'a str>, WordFault<'a>>
+        ensures { IfErr result (IsFaultAt (name_of self.now.verb)) }
+    {
+        let mut values = Vec::new(alloc);
+        for given in &self.given {
+            if given.setting == setting {
+                values.push(given.value)?;
+            }
+        }
+        Ok(values)
+    }
+
     /// The name at a place, which names this.
     pub fn name(&self, place: usize, what: &'static str) -> Result<&'a str, WordFault<'a>>
         ensures there { IfOk result (λ name. slice_get self.now.names.items place ≡ Some name) }

@@ -23,10 +23,16 @@ pub enum Setting {
     Profile,
     /// The text of these numbers that is saved.
     Counts,
+    /// The statements that the run comes to are told.
+    Trace,
+    /// What ends the trace.
+    Until,
     /// The sizes of all parts are told.
     Verbose,
     /// Faults are printed as JSON.
     Json,
+    /// Faults are printed as a log in the Static Analysis Results Interchange Format.
+    Sarif,
     /// Warnings refuse a source.
     DenyWarnings,
     /// The warnings that aren't told.
@@ -35,6 +41,8 @@ pub enum Setting {
     Case,
     /// Outcome texts are written anew.
     Update,
+    /// The parts of sources that no case reaches are told.
+    Coverage,
     /// The code isn't run.
     Interpret,
     /// Results of tests in the form of the Test Anything Protocol.
@@ -45,6 +53,22 @@ pub enum Setting {
     Line,
     /// It is only told what would change.
     Check,
+    /// Where a packet stands in SDRAM.
+    At,
+    /// The arguments of `main`.
+    Args,
+    /// The argument that is the packet's length.
+    Length,
+    /// Words of SRAM from a file.
+    Table,
+    /// The memories before the first packet.
+    Memory,
+    /// Packets that raised are written as they came.
+    Keep,
+    /// Those of one exception aren't.
+    Drop,
+    /// How many packets are run.
+    Limit,
     /// What the command is for.
     Help,
 }
@@ -64,17 +88,29 @@ impl Setting {
             Setting::Steps => "--steps",
             Setting::Profile => "--profile",
             Setting::Counts => "--counts",
+            Setting::Trace => "--trace",
+            Setting::Until => "--until",
             Setting::Verbose => "--verbose",
             Setting::Json => "--json",
+            Setting::Sarif => "--sarif",
             Setting::DenyWarnings => "--deny-warnings",
             Setting::Allow => "--allow",
             Setting::Case => "--case",
             Setting::Update => "--update",
+            Setting::Coverage => "--coverage",
             Setting::Interpret => "--interpret",
             Setting::Tap => "--tap",
             Setting::Junit => "--junit",
             Setting::Line => "--line",
             Setting::Check => "--check",
+            Setting::At => "--at",
+            Setting::Args => "--args",
+            Setting::Length => "--length",
+            Setting::Table => "--table",
+            Setting::Memory => "--memory",
+            Setting::Keep => "--keep",
+            Setting::Drop => "--drop",
+            Setting::Limit => "--limit",
             Setting::Help => "--help",
         }
     }
@@ -85,14 +121,18 @@ impl Setting {
     {
         match self {
             Setting::Profile
+            | Setting::Trace
             | Setting::Verbose
             | Setting::Json
+            | Setting::Sarif
             | Setting::Check
             | Setting::DenyWarnings
             | Setting::Update
+            | Setting::Coverage
             | Setting::Interpret
             | Setting::Tap
             | Setting::Junit
+            | Setting::Keep
             | Setting::Help => false,
             Setting::Output
             | Setting::Report
@@ -102,9 +142,17 @@ impl Setting {
             | Setting::Weights
             | Setting::Steps
             | Setting::Counts
+            | Setting::Until
             | Setting::Allow
             | Setting::Case
-            | Setting::Line => true,
+            | Setting::Line
+            | Setting::At
+            | Setting::Args
+            | Setting::Length
+            | Setting::Table
+            | Setting::Memory
+            | Setting::Drop
+            | Setting::Limit => true,
         }
     }
 }

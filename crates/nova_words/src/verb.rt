@@ -19,6 +19,7 @@ pub enum Verb {
     Format,
     Asm,
     Mem,
+    Replay,
     Serve,
     Explain,
     Help,
@@ -26,7 +27,7 @@ pub enum Verb {
 }
 
 /// All commands, in the order of the help.
-pub const VERBS: [Verb; 15] = [
+pub const VERBS: [Verb; 16] = [
     Verb::Build,
     Verb::Run,
     Verb::List,
@@ -38,6 +39,7 @@ pub const VERBS: [Verb; 15] = [
     Verb::Format,
     Verb::Asm,
     Verb::Mem,
+    Verb::Replay,
     Verb::Serve,
     Verb::Explain,
     Verb::Help,
@@ -61,6 +63,7 @@ impl Verb {
             Verb::Format => "fmt",
             Verb::Asm => "asm",
             Verb::Mem => "mem",
+            Verb::Replay => "replay",
             Verb::Serve => "lsp",
             Verb::Explain => "explain",
             Verb::Help => "help",
@@ -96,6 +99,7 @@ impl Verb {
             Verb::Format => &FORMAT,
             Verb::Asm => &ASM,
             Verb::Forms | Verb::Mem => &SHOWN,
+            Verb::Replay => &REPLAY,
             Verb::Serve | Verb::Explain | Verb::Help | Verb::Version => &OTHER,
         }
     }
@@ -114,7 +118,7 @@ impl Verb {
     }
 }
 
-const BUILD: [Setting; 10] = [
+const BUILD: [Setting; 11] = [
     Setting::Output,
     Setting::Report,
     Setting::Slots,
@@ -124,33 +128,38 @@ const BUILD: [Setting; 10] = [
     Setting::DenyWarnings,
     Setting::Allow,
     Setting::Json,
+    Setting::Sarif,
     Setting::Help,
 ];
 
-const RUN: [Setting; 6] = [
+const RUN: [Setting; 8] = [
     Setting::Steps,
     Setting::Budget,
     Setting::Profile,
     Setting::Counts,
+    Setting::Trace,
+    Setting::Until,
     Setting::Json,
     Setting::Help,
 ];
 
 const LIST: [Setting; 3] = [Setting::Budget, Setting::Json, Setting::Help];
 
-const CHECK: [Setting; 5] = [
+const CHECK: [Setting; 6] = [
     Setting::Verbose,
     Setting::DenyWarnings,
     Setting::Allow,
     Setting::Json,
+    Setting::Sarif,
     Setting::Help,
 ];
 
-const TEST: [Setting; 9] = [
+const TEST: [Setting; 10] = [
     Setting::Steps,
     Setting::Budget,
     Setting::Case,
     Setting::Update,
+    Setting::Coverage,
     Setting::Interpret,
     Setting::Tap,
     Setting::Junit,
@@ -159,6 +168,20 @@ const TEST: [Setting; 9] = [
 ];
 
 const TRACE: [Setting; 4] = [Setting::Steps, Setting::Line, Setting::Json, Setting::Help];
+
+const REPLAY: [Setting; 11] = [
+    Setting::At,
+    Setting::Args,
+    Setting::Length,
+    Setting::Table,
+    Setting::Memory,
+    Setting::Keep,
+    Setting::Drop,
+    Setting::Steps,
+    Setting::Limit,
+    Setting::Json,
+    Setting::Help,
+];
 
 const PAGE: [Setting; 5] = [
     Setting::Output,

@@ -8,10 +8,10 @@ use Rattle.nova_words.proofs.verb.Verb.named.Goals as goal
 
 -- all commands are in the list
 none-named : (word : List ℕ) (index : ℕ)
-    → let all : List Verb = verb.Build ∷ verb.Run ∷ verb.List ∷ verb.Check ∷ verb.Test ∷ verb.Trace ∷ verb.Page ∷ verb.Forms ∷ verb.Format ∷ verb.Asm ∷ verb.Mem ∷ verb.Serve ∷ verb.Explain ∷ verb.Help ∷ verb.Version ∷ [] in
-    (15 ≤ index → All (λ v. word ≢ name_of v) (take index all) → NamesNone word)
+    → let all : List Verb = verb.Build ∷ verb.Run ∷ verb.List ∷ verb.Check ∷ verb.Test ∷ verb.Trace ∷ verb.Page ∷ verb.Forms ∷ verb.Format ∷ verb.Asm ∷ verb.Mem ∷ verb.Replay ∷ verb.Serve ∷ verb.Explain ∷ verb.Help ∷ verb.Version ∷ [] in
+    (16 ≤ index → All (λ v. word ≢ name_of v) (take index all) → NamesNone word)
 none-named word index h none v =
-    let all : List Verb = verb.Build ∷ verb.Run ∷ verb.List ∷ verb.Check ∷ verb.Test ∷ verb.Trace ∷ verb.Page ∷ verb.Forms ∷ verb.Format ∷ verb.Asm ∷ verb.Mem ∷ verb.Serve ∷ verb.Explain ∷ verb.Help ∷ verb.Version ∷ [] in
+    let all : List Verb = verb.Build ∷ verb.Run ∷ verb.List ∷ verb.Check ∷ verb.Test ∷ verb.Trace ∷ verb.Page ∷ verb.Forms ∷ verb.Format ∷ verb.Asm ∷ verb.Mem ∷ verb.Replay ∷ verb.Serve ∷ verb.Explain ∷ verb.Help ∷ verb.Version ∷ [] in
     let P : List Verb → Type 0 = All (λ v. word ≢ name_of v) in
     let each : All (λ v. word ≢ name_of v) all = subst P (take_all index all h) none in
     elim v as (λ v. word ≢ name_of v) [
@@ -26,10 +26,11 @@ none-named word index h none v =
       | verb.Format ↦ each 8 verb.Build (lit< tt)
       | verb.Asm ↦ each 9 verb.Build (lit< tt)
       | verb.Mem ↦ each 10 verb.Build (lit< tt)
-      | verb.Serve ↦ each 11 verb.Build (lit< tt)
-      | verb.Explain ↦ each 12 verb.Build (lit< tt)
-      | verb.Help ↦ each 13 verb.Build (lit< tt)
-      | verb.Version ↦ each 14 verb.Build (lit< tt)
+      | verb.Replay ↦ each 11 verb.Build (lit< tt)
+      | verb.Serve ↦ each 12 verb.Build (lit< tt)
+      | verb.Explain ↦ each 13 verb.Build (lit< tt)
+      | verb.Help ↦ each 14 verb.Build (lit< tt)
+      | verb.Version ↦ each 15 verb.Build (lit< tt)
     ]
 
 pub loop-verb-preserved : goal.loop-verb-preserved
